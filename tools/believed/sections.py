@@ -6,23 +6,23 @@ is named by itself stands there, and the rest of its crate where the crate is na
 
 # The contract that the page is about, and how many lines a reader has to believe at most: what stands today fits.
 HEADLINE = ("tock_cli/serve.rt", "serve")
-LIMIT = 4500
+LIMIT = 4000
 
 SECTIONS = [
     ("What the program promises", [
         "tool_answers/Served", "tool_words/Refusals", "tool_tasks/Causes", "tool_tasks/Comes", "tk_outside"]),
     ("The command line", ["tool_words/Words", "decimal_number"]),
     ("The text of a run", [
-        "run_text/RunText", "board_report", "kernel_model/Shown", "process_record/Name", "process_record/Emit",
+        "run_text/RunText", "board_report", "kernel_model/Shown", "process_record/Name",
         "process_record/Summary", "process_record/Lines"]),
     ("What holds of the run", [
         "tool_answers/Accounts", "board_opening/Certified", "board_opening/Alone", "kernel_model/Accounts",
         "kernel_model/Causes", "kernel_model/Accesses", "kernel_model/Prints", "kernel_model/Refused",
         "kernel_model/Edges", "kernel_model/Console",
         "kernel_model/Replay", "kernel_model/Choices", "kernel_model/Histories", "process_model/Changes",
-        "process_model/Flash", "process_model/Permission", "driver_model/Bytes", "rv32_model/Laws"]),
+        "process_model/Permission", "driver_model/Bytes", "rv32_model/Laws"]),
     ("What time partitions promise of it", ["board_partitions", "kernel_partitions"]),
-    ("Runs by round robin, and by windows", ["kernel_model/Run", "turn_scheduler", "partition_turns"]),
+    ("Runs by round robin, and by windows", ["kernel_model/Run", "turn_scheduler"]),
     ("The opening world, and one step", ["board_opening/Opening", "board_opening/Settings", "kernel_model/World"]),
     ("One process, and what happens to it", [
         "kernel_model/Record", "kernel_model/Turn", "process_record/Process", "process_record/Operator",

@@ -13,7 +13,8 @@ use Rattle.grant_enter.specs.declared.visit.Unvisited.{Unvisited}
 use Rattle.grant_enter.specs.declared.visit.Unvisited.TheVariants.{Gone, NotEntered}
 use Rattle.grant_enter.specs.Seen.{Seen}
 use Rattle.grant_enter.specs.Visits.{Visits, grants_of, is_stale}
-use Rattle.driver_model.specs.Alarm.{alarm_driver, answered, armed_in, due_alarm, expiration, fired, fired_if, if_due}
+use Rattle.driver_model.specs.Alarm.{alarm_driver, answered, armed_in, due_alarm, expiration, fired, if_due}
+use Rattle.driver_model.specs.Parts.{fired_if}
 use Rattle.driver_model.specs.Alarm.{showing, with_alarm}
 
 -- what a visitor that fires leaves
@@ -39,7 +40,8 @@ none_kept now own alarm none due =
 pub fires : {A V : Type 0} (now expires driver life : ℕ) (counts : Counts) (flash : List ℕ) (alarm : Armed)
     (old new : Own) (visitor : V) (leaves : Alarm → Seen → A → Alarm → Own → Type 0) (r : Result A (Unvisited V))
     → Fires now expires leaves → driver ≡ 0 → expires ≡ expiration alarm → is_stale life old ≡ false
-    → due_alarm now old ≡ Some alarm → Visits (grants_of driver counts AlarmValue) visitor leaves life flash old r new
+    → due_alarm now old ≡ Some alarm
+    → Visits (grants_of driver counts (λ (a : Alarm). AlarmValue a.armed)) visitor leaves life flash old r new
     → new ≡ own_after (answered now old)
 unfolding answered
 fires now expires driver life counts flash alarm old new visitor leaves (Ok answer) says zero expires_is present due
@@ -47,11 +49,11 @@ fires now expires driver life counts flash alarm old new visitor leaves (Ok answ
     let v = visits.1 in
     let left = says _ _ _ _ _ v.left in
     v.after
-    ∙ ap (λ (d : ℕ). with_kept d (AlarmValue v.value) v.own) zero
-    ∙ ap (λ (a : Alarm). with_kept alarm_driver (AlarmValue a) v.own) left.0
+    ∙ ap (λ (d : ℕ). with_kept d (AlarmValue v.value.armed) v.own) zero
+    ∙ ap (λ (a : Alarm). with_kept alarm_driver (AlarmValue a.armed) v.own) left.0
     ∙ ap (with_alarm None) (left.1 ∙ ap (λ (d : ℕ). own_scheduled d 0 (now ∷ expires ∷ 0 ∷ []) (showing now old)) zero
     ∙ ap (λ (e : ℕ). own_scheduled alarm_driver 0 (now ∷ e ∷ 0 ∷ []) (showing now old)) expires_is)
-    ∙ keeping_commutes alarm_driver (AlarmValue (record { armed = None })) (fired now alarm old).schedules
+    ∙ keeping_commutes alarm_driver (AlarmValue None) (fired now alarm old).schedules
     (showing now old)
     ∙ ap (λ (o : Option Armed). own_after (fired_if now old o)) (sym due)
 fires now expires driver life counts flash alarm old new visitor leaves (Err (NotEntered back)) says zero expires_is

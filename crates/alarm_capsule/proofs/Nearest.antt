@@ -1,13 +1,14 @@
 -- What the nearest of the kept times says of the next alarm.
 use Rattle.std.proofs.Common.{◌≡◌, ℕ, ◌-◌, ◌^◌, ◌<◌, ◌≤◌, List, [], ◌∷◌, fold, slice_get, slice_index_or, slice_set}
-use Rattle.std.proofs.Common.{replicate, Bool, true, false, IsTrue, Option, None, Some, refl}
+use Rattle.std.proofs.Common.{replicate, Bool, true, IsTrue, Option, None, Some, refl}
 use Rattle.std.proofs.Common.{sym, ap, ◌∙◌, arith}
 use Rattle.std.specs.Prelude.{IfSome, is_some, min}
 use Rattle.std.specs.List.{range_with_len}
 use Rattle.std.proofs.lemmas.List.{set-get_or}
 use Rattle.tk_base.specs.declared.limits.TheConstants.{SLOT_COUNT}
 use Rattle.process_model.specs.Own.{Own}
-use Rattle.driver_model.specs.Alarm.{due_slot, nearer, nearer_with, next_left, ticks_left_in}
+use Rattle.driver_model.specs.Alarm.{due_slot, nearer, next_left, ticks_left_in}
+use Rattle.driver_model.specs.Parts.{nearer_with}
 use Rattle.driver_model.specs.Laws.{IsDueWhereNoneAreLeft}
 use Rattle.alarm_capsule.specs.Times.{AllTell, Tells, nearer_kept, nearest_kept}
 use Rattle.alarm_capsule.proofs.KeptTimes.{left_ahead, soon}
@@ -136,16 +137,17 @@ module _ (now time : ℕ) (times : List (Option ℕ)) (owns : List Own) (tell : 
 
   -- and none is due
   pub none_is_due : IsDueWhereNoneAreLeft → (o : Option ℕ) → nearest_kept times ≡ o → IfSome o (λ at. time < at)
-      → false ≡ is_some (due_slot now owns)
-  none_is_due law o e ahead = by_due (is_some (due_slot now owns)) refl
+      → None ≡ due_slot now owns
+  none_is_due law o e ahead = by_due (due_slot now owns) refl
     where
       not_now : (o : Option ℕ) → nearest_kept times ≡ o → IfSome o (λ at. time < at) → next_left now owns ≡ Some 0 → ⊥
       not_now None f h left = no_left 0 (none_is_next f ∙ left)
       not_now (Some at) f h left = omega (arith, h, the_one (at - time) 0 (nearest_is_next at f h ∙ left))
 
-      by_due : (b : Bool) → is_some (due_slot now owns) ≡ b → false ≡ is_some (due_slot now owns)
-      by_due false f = sym f
-      by_due true f = absurd (not_now o e ahead ((law None now owns).1 (is_true (is_some (due_slot now owns)) f)))
+      by_due : (due : Option ℕ) → due_slot now owns ≡ due → None ≡ due_slot now owns
+      by_due None f = sym f
+      by_due (Some slot) f =
+          absurd (not_now o e ahead ((law None now owns).1 (is_true (is_some (due_slot now owns)) (ap is_some f))))
 
 -- of fresh times there is no nearest
 pub no_nearest : nearest_kept (replicate SLOT_COUNT None) ≡ None

@@ -50,15 +50,16 @@ Shows now leaves = (value : Alarm) (seen : Seen) (answer : _) (value' : Alarm) (
 
 pub shown : {A V : Type 0} (now driver life : ℕ) (counts : Counts) (flash : List ℕ) (old new : Own) (visitor : V)
     (leaves : Alarm → Seen → A → Alarm → Own → Type 0) (r : Result A (Unvisited V)) → Shows now leaves → driver ≡ 0
-    → is_stale life old ≡ false → Visits (grants_of driver counts AlarmValue) visitor leaves life flash old r new
+    → is_stale life old ≡ false
+    → Visits (grants_of driver counts (λ (a : Alarm). AlarmValue a.armed)) visitor leaves life flash old r new
     → new ≡ showing now old
 shown now driver life counts flash old new visitor leaves (Ok answer) says is present visits =
     let v = visits.1 in
     let left = says _ _ _ _ _ v.left in
     v.after
-    ∙ ap (λ (a : Alarm). with_kept driver (AlarmValue a) v.own) left.0
-    ∙ ap (λ (o : Own). with_kept driver (AlarmValue v.was) o) left.1
-    ∙ ap (λ gs. record (showing now old) { grants = gs }) (kept_still driver (AlarmValue v.was) old.grants v.kept)
+    ∙ ap (λ (a : Alarm). with_kept driver (AlarmValue a.armed) v.own) left.0
+    ∙ ap (λ (o : Own). with_kept driver (AlarmValue v.was.armed) o) left.1
+    ∙ ap (λ gs. record (showing now old) { grants = gs }) (kept_still driver (AlarmValue v.was.armed) old.grants v.kept)
 shown now driver life counts flash old new visitor leaves (Err (NotEntered back)) says is present visits =
     visits.3 ∙ none_shown now old (subst (λ (d : ℕ). kept d old ≡ None) is visits.1)
 shown now driver life counts flash old new visitor leaves (Err (Gone back)) says is present visits =

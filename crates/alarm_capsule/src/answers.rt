@@ -5,7 +5,8 @@ ghost use Rattle.std.specs.List.{range_with_len};
 ghost use Rattle.std.specs.Option.{option_map};
 ghost use Rattle.grant_enter.specs.Homes.{own_of, ChangesOnly};
 ghost use Rattle.driver_requests.specs.Asking.{IsPresent};
-ghost use Rattle.driver_model.specs.Alarm.{answered, due_alarm, due_for, due_slot, has_due, is_due};
+ghost use Rattle.driver_model.specs.Alarm.{answered, due_alarm, due_for, due_slot, has_due};
+ghost use Rattle.driver_model.specs.Parts.{is_due};
 ghost use Rattle.driver_model.specs.Steps.{own_after};
 ghost use Rattle.alarm_capsule.specs.Answers.{AlarmAnswers};
 ghost use Rattle.alarm_capsule.specs.Due.{AlarmIsDue};
@@ -66,14 +67,6 @@ fn first_due(home: &Home, now: u32) -> Option<Due>
         }
     }
     None
-}
-
-/// Whether an alarm is due at a tick.
-#[inline(never)]
-pub(crate) fn is_any_due(home: &Home, now: u32) -> bool
-    ensures { result ≡ is_some (due_slot now home.now.owns) }
-{
-    first_due(home, now).is_some()
 }
 
 /// Fires an alarm that is due.

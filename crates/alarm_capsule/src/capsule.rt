@@ -4,9 +4,11 @@ ghost use Rattle.grant_enter.specs.Homes.{own_of, ChangesOnly};
 ghost use Rattle.driver_requests.specs.Asking.{IsPresent};
 ghost use Rattle.driver_model.specs.Alarm.{command};
 ghost use Rattle.alarm_capsule.specs.Answers.{AlarmAnswers, AlarmReplies};
+ghost use Rattle.alarm_capsule.specs.Times.{AllTell};
 
 use crate::answers::fire_first;
 use crate::commands::obey;
+use crate::times::AlarmTimes;
 use board_devices::Answer;
 use driver_model::reply_of;
 use grant_enter::Home;
@@ -61,6 +63,27 @@ impl AlarmCapsule {
         ensures { AlarmAnswers only now home.old result home.new }
     {
         fire_first(home, now, only)
+    }
+
+    /// The same ([`AlarmCapsule::answer`]), by the times that are kept of the alarms: no process is
+    /// asked whose time lies ahead. It asks that they tell of all alarms.
+    #[inline(always)]
+    pub fn answer_by(
+        &mut self,
+        home: &mut Home,
+        alarms: &AlarmTimes,
+        now: u32,
+        time: u64,
+        only: Option<Slot>,
+    ) -> Result<Answer, NotReady>
+        requires dropped { All (λ own. own.inbox.dropped + 1 < 2 ^ 32) home.old.owns }
+        requires tell { AllTell now time alarms.now home.old.owns }
+        ensures { AlarmAnswers only now home.old result home.new }
+    {
+        let Some(slot) = alarms.due(home, now, time, only) else {
+            return Err(NotReady);
+        };
+        fire_first(home, now, Some(slot))
     }
 
     /// The process of an id ended, or starts again. Its alarm went with its grant, and nothing

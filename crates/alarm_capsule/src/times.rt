@@ -1,15 +1,15 @@
 //! When the alarms become due.
-ghost use Rattle.std.specs.Prelude.{◌≡◌, ◌+◌, ◌≤◌, ◌^◌, None, Some, is_some, length, replicate};
-ghost use Rattle.std.specs.Prelude.{slice_get, slice_index_or, slice_set, option_map};
+ghost use Rattle.std.specs.Prelude.{◌≡◌, ◌+◌, ◌≤◌, ◌^◌, true, None, Some, IfSome, is_some, length};
+ghost use Rattle.std.specs.Prelude.{replicate, slice_get, slice_index_or, slice_set, option_map};
 ghost use Rattle.tk_base.specs.declared.limits.TheConstants.{SLOT_COUNT};
 ghost use Rattle.grant_enter.specs.Homes.{own_of};
 ghost use Rattle.driver_requests.specs.Asking.{IsPresent};
-ghost use Rattle.driver_model.specs.Alarm.{alarm_in, due_for, due_slot, left_for, nearer, next_left};
+ghost use Rattle.driver_model.specs.Alarm.{alarm_in, due_for, due_slot, has_due, left_for, nearer};
+ghost use Rattle.driver_model.specs.Alarm.{next_left};
 ghost use Rattle.driver_model.specs.Alarm.{ticks_left};
 ghost use Rattle.driver_model.specs.Alarm.{ticks_left_in};
 ghost use Rattle.alarm_capsule.specs.Times.{AllTell, OthersTell, Tells, nearest_kept};
 
-use crate::answers::is_any_due;
 use crate::visits::alarms;
 use driver_model::an_alarm_is_due_where_no_ticks_are_left;
 use grant_enter::Home;
@@ -145,38 +145,79 @@ impl AlarmTimes {
         }
     }
 
-    /// Whether the alarm of a process that lives is due at a time at which the clock shows `now`, of
-    /// any or of that in the one slot which is served. It asks that the times that are kept tell of
-    /// all alarms.
+    /// The lowest slot whose alarm is due at a time at which the clock shows `now`, or the one slot
+    /// which is served, where its alarm is. None exactly where no alarm of a process that lives and
+    /// is served is due. It asks that the times that are kept tell of all alarms.
+    pub fn due(&self, home: &Home, now: u32, time: u64, only: Option<Slot>) -> Option<Slot>
+        requires { AllTell now time self.now home.now.owns }
+        ensures slot { result ≡ due_for only now home.now.owns }
+        ensures due { IfSome result (λ slot. has_due now (slice_get home.now.owns slot) ≡ true) }
+    {
+        match only {
+            None => self.first_due(home, now, time),
+            Some(slot) => self.due_in(home, slot, now, time),
+        }
+    }
+
+    /// Whether an alarm is due ([`AlarmTimes::due`]).
     pub fn is_due(&self, home: &Home, now: u32, time: u64, only: Option<Slot>) -> bool
         requires { AllTell now time self.now home.now.owns }
         ensures { result ≡ is_some (due_for only now home.now.owns) }
     {
-        match only {
-            None => self.is_one_due(home, now, time),
-            Some(slot) => self.is_due_in(home, slot, now, time),
+        self.due(home, now, time, only).is_some()
+    }
+
+    /// The lowest slot whose alarm is due. No slot is looked at before the nearest of the times has
+    /// come.
+    fn first_due(&self, home: &Home, now: u32, time: u64) -> Option<Slot>
+        requires { AllTell now time self.now home.now.owns }
+        ensures slot { result ≡ due_slot now home.now.owns }
+        ensures due { IfSome result (λ slot. has_due now (slice_get home.now.owns slot) ≡ true) }
+    {
+        an_alarm_is_due_where_no_ticks_are_left();
+        let at = self.nearest?;
+        if at <= time {
+            return self.first_due_of_all(home, now, time);
+        }
+        None
+    }
+
+    /// The same, by a look at each slot: of its process no more is read where its time lies ahead.
+    #[inline(never)]
+    #[tactic(auto, unfolding(driver_model::specs::Alarm::due_slot), using(crate::proofs::Slots::passed))]
+    fn first_due_of_all(&self, home: &Home, now: u32, time: u64) -> Option<Slot>
+        requires { AllTell now time self.now home.now.owns }
+        ensures slot { result ≡ due_slot now home.now.owns }
+        ensures due { IfSome result (λ slot. has_due now (slice_get home.now.owns slot) ≡ true) }
+    {
+        for slot in 0..SLOT_COUNT {
+            if self.is_due_in(home, Slot::new(slot), now, time) {
+                return Some(Slot::new(slot));
+            }
+        }
+        None
+    }
+
+    /// A slot, where the alarm of its process is due.
+    fn due_in(&self, home: &Home, slot: Slot, now: u32, time: u64) -> Option<Slot>
+        requires { AllTell now time self.now home.now.owns }
+        ensures slot { result ≡ due_for (Some slot) now home.now.owns }
+        ensures due { IfSome result (λ slot. has_due now (slice_get home.now.owns slot) ≡ true) }
+    {
+        if self.is_due_in(home, slot, now, time) {
+            Some(slot)
+        } else {
+            None
         }
     }
 
-    /// Whether that of the process in a slot is.
+    /// Whether the alarm of the process in a slot is due.
     fn is_due_in(&self, home: &Home, slot: Slot, now: u32, time: u64) -> bool
         requires { AllTell now time self.now home.now.owns }
-        ensures { result ≡ is_some (due_for (Some slot) now home.now.owns) }
+        ensures { result ≡ has_due now (slice_get home.now.owns slot) }
     {
         an_alarm_is_due_where_no_ticks_are_left();
         matches!(self.left_in(home, slot, now, time), Some(0))
-    }
-
-    /// Whether that of any is.
-    fn is_one_due(&self, home: &Home, now: u32, time: u64) -> bool
-        requires { AllTell now time self.now home.now.owns }
-        ensures { result ≡ is_some (due_slot now home.now.owns) }
-    {
-        an_alarm_is_due_where_no_ticks_are_left();
-        match self.nearest {
-            Some(at) if at <= time => is_any_due(home, now),
-            Some(_) | None => false,
-        }
     }
 
     /// The ticks that are left of the alarm of the process in a slot.

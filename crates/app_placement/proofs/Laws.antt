@@ -20,10 +20,13 @@ use Rattle.app_placement.specs.declared.placed.Placed.{Placed}
 use Rattle.app_placement.specs.declared.placed.Room.{Room}
 use Rattle.app_placement.proofs.Objects.{IsFound, asked_of_found}
 use Rattle.app_placement.proofs.Shares.{shares_fit, share_aligned}
-use Rattle.app_placement.specs.Applications.{application_of, application_in}
+use Rattle.app_placement.specs.Applications.{application_of}
+use Rattle.app_placement.specs.Parts.{application_in}
 use Rattle.tbf_headers.specs.Meaning.{header_reading}
-use Rattle.app_placement.specs.Placement.{Place, block_length, block_start, is_start_taken, extents, room_of}
-use Rattle.app_placement.specs.Placement.{filled_after, places_from, placements, LiesInRam, LiesBefore, LiesInFlash}
+use Rattle.app_placement.specs.Placement.{block_length, is_start_taken, extents, room_of}
+use Rattle.app_placement.specs.Parts.{Place, block_start}
+use Rattle.app_placement.specs.Placement.{filled_after, places_from, LiesInRam, LiesBefore, LiesInFlash}
+use Rattle.app_placement.specs.Parts.{placements}
 use Rattle.app_placement.specs.Placement.{place_of, IsAccessible, IsLaidOut, is_placed, AreNumbered}
 
 -- how far RAM and the slots can be filled

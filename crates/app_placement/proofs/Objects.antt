@@ -12,7 +12,8 @@ use Rattle.flash_walk.specs.declared.found.Verdict.TheVariants.{Bad, Padding, Di
 use Rattle.flash_walk.specs.Image.{verdict_of, object_bytes, objects, IsObject}
 use Rattle.flash_walk.specs.Laws.{HasItsSize, ObjectsAreFound}
 use Rattle.app_placement.specs.declared.application.Application.{Application}
-use Rattle.app_placement.specs.Applications.{is_app, application_in, application_of}
+use Rattle.app_placement.specs.Applications.{is_app, application_of}
+use Rattle.app_placement.specs.Parts.{application_in}
 
 -- an object that was found, and where its size stands
 pub record IsFound (flash : List ℕ) (f : Found) : Type 0 where

@@ -2,7 +2,8 @@
 use Rattle.std.proofs.Common.{◌≡◌, ◌≤◌, ℕ, ◌*◌, ◌/◌, ◌%◌, arith}
 use Rattle.std.proofs.Math.Nat.{mul_assoc, mul-le-mul_right}
 use Rattle.tk_base.specs.declared.limits.TheConstants.{RAM_UNIT, SLOT_COUNT}
-use Rattle.app_placement.specs.Placement.{share, share_start}
+use Rattle.app_placement.specs.Placement.{share_start}
+use Rattle.app_placement.specs.Parts.{share}
 
 -- all shares together are no more than RAM
 pub shares_fit : (ram slot : ℕ) → slot ≤ SLOT_COUNT → slot * share ram ≤ ram

@@ -2,7 +2,7 @@
 -- grants at the end).
 use Rattle.std.specs.Prelude.{◌≡◌, ◌≤◌, ◌<◌, ℕ, ◌+◌, ◌*◌, ◌/◌, ◌%◌, ◌==◌, Bool, true, false, not, ◌||◌, nat_lt}
 use Rattle.std.specs.Prelude.{nat_le, if◌then◌else◌, List, [], ◌∷◌, length, take, count_by, slice_index_or, Option}
-use Rattle.std.specs.Prelude.{Some, None, option_map, Result, Ok, Err, is_ok, IfOk}
+use Rattle.std.specs.Prelude.{Some, None, option_map, unwrap_or, Result, Ok, Err, is_ok, IfOk}
 use Rattle.tk_base.specs.declared.access.TheConstants.{FLASH_START, RAM_START}
 use Rattle.tk_base.specs.declared.limits.TheConstants.{RAM_UNIT, SLOT_COUNT}
 use Rattle.tk_base.specs.declared.process.PlaceFault.{PlaceFault}
@@ -10,8 +10,8 @@ use Rattle.tk_base.specs.declared.process.PlaceFault.TheVariants.{NoSlot, FixedT
 use Rattle.process_layout.specs.LayoutView.{LayoutView, extents_at_start}
 use Rattle.flash_walk.specs.Image.{size_at, object_bytes, verdict_of}
 use Rattle.flash_walk.specs.declared.found.Verdict.TheVariants.{App}
-use Rattle.tbf_headers.specs.Meaning.{header_reading}
-use Rattle.app_placement.specs.Applications.{application_in}
+use Rattle.tbf_headers.specs.Meaning.{header_reading, of_app}
+use Rattle.app_placement.specs.Applications.{application}
 use Rattle.app_placement.specs.declared.application.Application.{Application}
 use Rattle.app_placement.specs.declared.placed.Filled.{Filled}
 use Rattle.app_placement.specs.declared.placed.Placed.{Placed}
@@ -21,23 +21,15 @@ use Rattle.app_placement.specs.declared.placed.Room.{Room}
 abbrev pub block_length : ℕ → ℕ
 block_length minimum_ram = (minimum_ram + 768 + 1023) / 1024 * 1024
 
--- a slot's share of RAM where there are time partitions: for each slot as many whole units as all of them can have
-abbrev pub share : ℕ → ℕ
-share ram = ram / SLOT_COUNT / RAM_UNIT * RAM_UNIT
-
--- where the share of a slot starts
+-- where a slot's share of RAM starts where there are time partitions: for each slot as many whole units as all of them
+-- can have
 abbrev pub share_start : ℕ → ℕ → ℕ
-share_start ram slot = RAM_START + slot * share ram
+share_start ram slot = RAM_START + slot * (ram / SLOT_COUNT / RAM_UNIT * RAM_UNIT)
 
 -- where the next block may lie: in the share of its slot; or, without time partitions, from the last end on
 abbrev pub room_of : Bool → ℕ → Filled → Room
 room_of true ram filled = record { from = share_start ram filled.count; to = share_start ram (filled.count + 1) }
 room_of false ram filled = record { from = filled.last_end; to = RAM_START + ram }
-
--- a block starts at the fixed RAM start, if there is one, or else where it may lie first
-abbrev pub block_start : ℕ → Option ℕ → ℕ
-block_start from None = from
-block_start from (Some fixed) = fixed
 
 -- the fixed RAM start is not where the share starts; or, without time partitions, it is no multiple of 8, or lies
 -- below the last end
@@ -51,22 +43,19 @@ abbrev pub extents : Application → ℕ → LayoutView
 extents app start =
     extents_at_start app.flash_from app.flash_to start (start + block_length app.minimum_ram) app.minimum_ram
 
--- where an application is placed: its slot, and the memory that it has there
-abbrev pub Place : Type 0
-Place = ℕ × LayoutView
-
--- an application's place in so many bytes of RAM, or the first cause for which it has none
-unfoldable pub place_of : Bool → ℕ → Filled → Application → Result Place PlaceFault
+-- An application's place in so many bytes of RAM, its slot and the memory that it has there, or the first cause for
+-- which it has none. Its block starts at the fixed RAM start, if there is one, or else where it may lie first.
+unfoldable pub place_of : Bool → ℕ → Filled → Application → Result (ℕ × LayoutView) PlaceFault
 place_of partition ram filled app =
     let room = room_of partition ram filled in
-    let start = block_start room.from app.fixed_start in
+    let start = unwrap_or app.fixed_start room.from in
     if nat_le SLOT_COUNT filled.count then Err NoSlot
     else (if is_start_taken partition room.from app.fixed_start then Err FixedTaken
     else (if nat_lt room.to (start + block_length app.minimum_ram) then Err NoRoom
     else Ok (filled.count, extents app start)))
 
 -- an application that is placed takes a slot and its block; one that is not leaves all as it was
-abbrev pub filled_after : Filled → Result Place PlaceFault → Filled
+abbrev pub filled_after : Filled → Result (ℕ × LayoutView) PlaceFault → Filled
 filled_after filled (Err fault) = filled
 filled_after filled (Ok place) = record { last_end = place.1.end; count = filled.count + 1 }
 
@@ -76,10 +65,6 @@ places_from partition ram filled [] = []
 places_from partition ram filled (app ∷ apps) =
     record { offset = app.offset; place = place_of partition ram filled app }
     ∷ places_from partition ram (filled_after filled (place_of partition ram filled app)) apps
-
--- the places of all applications, of which none is placed at first
-abbrev pub placements : Bool → ℕ → List Application → List Placed
-placements partition ram apps = places_from partition ram (record { last_end = RAM_START; count = 0 }) apps
 
 -- the block of an application that is placed lies in RAM
 abbrev pub LiesInRam : ℕ → Placed → Type 0
@@ -110,7 +95,7 @@ IsApp flash offset = verdict_of (FLASH_START + offset) (header_reading (object_b
 -- the memory that the application at an offset asks for, from its block's start on
 abbrev pub asked_extents : List ℕ → ℕ → ℕ → Option LayoutView
 asked_extents flash offset start =
-    option_map (λ app. extents app start) (application_in offset (header_reading (object_bytes flash offset)))
+    option_map (λ app. extents app start) (of_app (application offset) (header_reading (object_bytes flash offset)))
 
 -- the object of each is an application, and the memory of one that is placed is what its header asks for, from
 -- its block's start on

@@ -3,7 +3,8 @@ ghost use Rattle.std.specs.Prelude.{◌≡◌, ◌+◌, ◌%◌, ◌≤◌, leng
 ghost use Rattle.tbf_headers.specs.Shown.{shown};
 ghost use Rattle.flash_walk.specs.Image.{app_verdict, IsObject};
 ghost use Rattle.flash_walk.specs.declared.found.Verdict.TheVariants.{App};
-ghost use Rattle.app_placement.specs.Applications.{application_of, application, fixed_start};
+ghost use Rattle.app_placement.specs.Applications.{application_of, application};
+ghost use Rattle.app_placement.specs.Parts.{fixed_start};
 ghost use Rattle.app_placement.specs.Placement.{IsAccessible};
 
 use flash_walk::{Found, Verdict};

@@ -3,9 +3,11 @@ ghost use Rattle.std.specs.Prelude.{◌≡◌, ◌+◌, ◌%◌, ◌≤◌, ◌<
 ghost use Rattle.tk_base.specs.declared.limits.TheConstants.{SLOT_COUNT};
 ghost use Rattle.flash_walk.specs.Image.{objects};
 ghost use Rattle.app_placement.specs.Applications.{applications};
-ghost use Rattle.app_placement.specs.Placement.{block_length, block_start, is_start_taken};
+ghost use Rattle.app_placement.specs.Placement.{block_length, is_start_taken};
+ghost use Rattle.app_placement.specs.Parts.{block_start};
 ghost use Rattle.app_placement.specs.Placement.{share_start, room_of, place_of, filled_after};
-ghost use Rattle.app_placement.specs.Placement.{placements, LiesInRam, LiesBefore, LiesInFlash};
+ghost use Rattle.app_placement.specs.Placement.{LiesInRam, LiesBefore, LiesInFlash};
+ghost use Rattle.app_placement.specs.Parts.{placements};
 ghost use Rattle.app_placement.specs.Placement.{IsLaidOut, AreNumbered, is_placed};
 
 use crate::application::{Application, application_at};

@@ -1,5 +1,5 @@
 -- What comes in, as a step of the board: bytes, an edge of a button, or an operator's act that means nobody.
-use Rattle.std.proofs.Common.{◌≡◌, ◌<◌, ℕ, true, List, [], ◌∷◌, map, Option, None, Some, refl, sym, ap, subst}
+use Rattle.std.proofs.Common.{◌≡◌, Bool, ◌<◌, ℕ, true, List, [], ◌∷◌, map, Option, None, Some, refl, sym, ap, subst}
 use Rattle.std.specs.Option.{option_and_then, option_map}
 use Rattle.std.specs.List.{zip}
 use Rattle.tk_base.specs.declared.limits.TheConstants.{STEP_LIMIT}
@@ -15,7 +15,8 @@ use Rattle.driver_model.specs.Answers.{LinesFollowAnswers}
 use Rattle.grant_enter.specs.Homes.{Homes}
 use Rattle.kernel_model.specs.Shown.{shown_by}
 use Rattle.kernel_model.specs.Record.{Record}
-use Rattle.kernel_model.specs.World.{carried_out, slot_of_name}
+use Rattle.kernel_model.specs.World.{carried_out}
+use Rattle.kernel_model.specs.Parts.{slot_of_name}
 use Rattle.kernel_model.specs.Laws.{DevicesAnswerOne}
 use Rattle.board_core.specs.declared.board.Board.TheInside.{Inside}
 use Rattle.board_drivers.specs.declared.drivers.Drivers.{Drivers}
@@ -31,6 +32,7 @@ use Rattle.board_core.specs.PartsOf.{parts_of}
 use Rattle.board_core.specs.Shows.{IsBoard, world_of}
 use Rattle.board_core.proofs.Changes.{a_step_later, with_step}
 use Rattle.board_core.proofs.PartsOf.{are_parts}
+use Rattle.board_core.specs.ReadySlots.{TurnsTell}
 
 -- where no act is meant for a process that is there, what comes in first is none, or means nobody
 pub means_nobody : (arrivals : List ScriptEvent) (rs : List Record)
@@ -92,12 +94,14 @@ module _ (b : Inside) (home : Homes) (d : Drivers) (came : Arrives b.machine.hom
     }
 
     -- what always holds of a board holds then
-    pub arrived_board : (calm : ℕ) → IsCalm b.machine.moment.settings.start b.machine.moment.window b.machine.moment.time calm home.owns d
+    pub arrived_board : (calm : ℕ) (ready : List Bool) → TurnsTell ready (zip b.processes.items home.owns)
+        → IsCalm b.machine.moment.settings.start b.machine.moment.window b.machine.moment.time calm home.owns d
         → IsBoard (record b {
           machine = record b.machine { home = home; drivers = d; moment = a_step_later b.machine.moment };
           calm = calm;
+          ready = ready;
         })
-    arrived_board calm quiet = record {
+    arrived_board calm ready turns quiet = record {
       seated = parts_then.seated;
       lost = parts_then.lost;
       owns = parts_then.owns;
@@ -110,6 +114,7 @@ module _ (b : Inside) (home : Homes) (d : Drivers) (came : Arrives b.machine.hom
       time = parts_then.time;
       calm = quiet;
       alarms = parts.arrived_alarms (parts_of b) lines home d came b.alarms h.alarms;
+      ready = turns;
       slice = h.slice;
       used = h.used;
     }

@@ -14,7 +14,9 @@ use Rattle.tk_base.specs.declared.process.Choice.TheVariants.{Run, Device, Pass}
 use Rattle.tk_base.specs.declared.process.Choice.{Choice}
 use Rattle.tk_base.specs.declared.upcall.Wait.{Wait}
 use Rattle.turn_scheduler.specs.Situation.{Situation}
-use Rattle.turn_scheduler.specs.RoundRobin.{LiesAhead, choice, place_is_ready, ready_device, slot_in}
+use Rattle.turn_scheduler.specs.RoundRobin.{LiesAhead, choice, ready_device}
+use Rattle.turn_scheduler.specs.Parts.{place_is_ready}
+use Rattle.turn_scheduler.specs.Parts.{slot_in}
 use Rattle.process_model.specs.Handed.{HoldsInPlace}
 use Rattle.process_model.specs.declared.place.Footprint.{Footprint}
 use Rattle.process_model.specs.Own.{Own, kernel_break_of, opened}
@@ -31,7 +33,9 @@ use Rattle.tk_base.specs.Bits.{bits_of}
 use Rattle.grant_enter.specs.Homes.{Homes, IsInPlace, nobody, own_of}
 use Rattle.kernel_model.specs.Record.{Record, slot_line_of}
 use Rattle.kernel_model.specs.Turn.{may_turn}
-use Rattle.kernel_model.specs.World.{World, is_let, is_ready, may_be_made, can_run, only_in, work_of}
+use Rattle.kernel_model.specs.World.{World, is_let, is_ready, may_be_made, only_in}
+use Rattle.kernel_model.specs.Parts.{work_of}
+use Rattle.kernel_model.specs.Named.{can_run}
 use Rattle.kernel_model.specs.Causes.{AreWhole}
 use Rattle.kernel_model.specs.Laws.{NextIsReady, NextLiesAhead}
 use Rattle.kernel_model.specs.Run.{is_left, may_go, next, next_time, passes_to, ready_devices, ready_slots}

@@ -32,7 +32,7 @@ use Rattle.board_turns.specs.declared.machine.Machine.{Machine}
 
 module _ (i : ℕ) (home home_after : Homes) (old new : List Process) (t : ChangesSlot i home home_after old new) where
   -- the residents after the change
-  residents_after : zip new home_after.owns ≡ slice_set (zip old home.owns) i t.after
+  pub residents_after : zip new home_after.owns ≡ slice_set (zip old home.owns) i t.after
   residents_after =
       ap (λ (h : Homes). zip new h.owns) t.own_is
       ∙ ap (λ (xs : List Process). zip xs (slice_set home.owns i t.after.1)) t.is

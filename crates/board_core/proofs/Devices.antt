@@ -50,9 +50,13 @@ use Rattle.board_core.specs.Makes.{MakesStep, shown_printed}
 use Rattle.board_drivers.specs.Residents.{HasLost, IsResident, record_of}
 use Rattle.board_turns.specs.Turning.{ChangesSlot}
 use Rattle.board_core.specs.Shows.{IsBoard, recorded, world_of, residents}
-use Rattle.board_drivers.specs.Tells.{DeviceTold, tells_one}
+use Rattle.board_drivers.specs.Tells.{DeviceTold, is_alarm, tells_one}
+use Rattle.kernel_alarms.specs.Acting.{AnswersLeaveAlarms, HasSameAlarm}
+use Rattle.board_core.proofs.SameAlarms.{same_alarms_tell}
+use Rattle.board_core.specs.ReadySlots.{OtherTurnsTell, TurnsTell}
+use Rattle.board_core.proofs.ReadySlots.{others_ready}
 use Rattle.board_drivers.proofs.Lines.{line_after}
-use Rattle.board_core.proofs.Changes.{a_step_later, as_many_owns, changed_records, found}
+use Rattle.board_core.proofs.Changes.{a_step_later, as_many_owns, changed_records, found, residents_after}
 use Rattle.board_drivers.proofs.Records.{beside, bytes_of}
 use Rattle.board_core.proofs.Changes.{still_seated, with_step}
 use Rattle.board_core.proofs.Ready.{is_carried_out}
@@ -297,17 +301,41 @@ module _ (b : Inside) (device : Dev) (slot : ℕ) (printed : List ℕ) (home : H
       (others_tell (clock_at b.machine.moment.settings.start b.machine.moment.time) b.machine.moment.time slot b.alarms
       b.machine.home.owns (own_of home slot) h.alarms)
 
+  -- as many slots have a process's own
+  pub told_owns_count : length home.owns ≡ length b.processes.items
+  told_owns_count = as_many_owns slot b.machine.home home b.processes.items b.processes.items told_at ∙ h.owns
+
+  -- so does what is kept of which other processes can have a turn
+  pub others_stay_ready : OtherTurnsTell slot b.ready (zip b.processes.items home.owns)
+  unfolding told_at
+  others_stay_ready =
+      subst (OtherTurnsTell slot b.ready)
+      (sym (residents_after slot b.machine.home home b.processes.items b.processes.items told_at))
+      (others_ready slot b.ready (zip b.processes.items b.machine.home.owns) told_at.after h.ready)
+
+  -- and where the device is another one than the alarm, so does what is told of its own
+  pub all_still : AnswersLeaveAlarms → is_alarm device ≡ false
+      → AlarmsTell b.machine.moment b.alarms home.owns
+  all_still law other =
+      let same : HasSameAlarm (own_of b.machine.home slot) (own_of home slot) =
+      subst (HasSameAlarm (own_of b.machine.home slot)) (ap (λ (r : Record). r.own) t.serves.tells)
+      (law b.machine.moment.settings t.serves.event _ (t.serves.leaves other)) in
+      subst (AlarmsTell b.machine.moment b.alarms) (sym told_owns)
+      (same_alarms_tell slot b.machine.home.owns (own_of b.machine.home slot) (own_of home slot) own_was same
+      (clock_at b.machine.moment.settings.start b.machine.moment.time) b.machine.moment.time b.alarms h.alarms)
+
   -- what always holds of a board holds then
-  pub told_board : (calm : ℕ) (times : List (Option ℕ)) → b.machine.moment.steps < STEP_LIMIT
-      → AlarmsTell b.machine.moment times home.owns
+  pub told_board : (calm : ℕ) (times : List (Option ℕ)) (ready : List Bool) → b.machine.moment.steps < STEP_LIMIT
+      → AlarmsTell b.machine.moment times home.owns → TurnsTell ready (zip b.processes.items home.owns)
       → IsCalm b.machine.moment.settings.start b.machine.moment.window b.machine.moment.time calm home.owns d
       → IsBoard (record b {
         machine = record b.machine { home = home; drivers = d; moment = a_step_later b.machine.moment };
         calm = calm;
         alarms = times;
+        ready = ready;
       })
   unfolding told_at
-  told_board calm times below tell quiet = record {
+  told_board calm times ready below tell turns quiet = record {
     seated = still_seated slot b.machine.home home b.processes.items b.processes.items told_at b.machine.moment.steps
         (remains_seated b.machine.home.flash b.machine.moment.steps t.process (own_of b.machine.home slot)
         (own_of home slot)
@@ -332,6 +360,7 @@ module _ (b : Inside) (device : Dev) (slot : ℕ) (printed : List ℕ) (home : H
     time = omega (arith, h.time);
     calm = quiet;
     alarms = tell;
+    ready = turns;
     slice = h.slice;
     used = h.used;
   }

@@ -5,6 +5,7 @@ pub mod Devices
 pub mod Ready
 pub mod Stretches
 mod SameAlarms
+mod ReadySlots
 pub mod TurnLines
 pub mod Plays
 pub mod Looks
@@ -13,3 +14,4 @@ pub mod Operating
 pub mod AnyReady
 pub mod Tables
 pub mod InWindows
+pub mod KnownEnds

@@ -1,5 +1,5 @@
 -- An operator's act on a process that is there, as a step of the board.
-use Rattle.std.proofs.Common.{◌≡◌, ◌<◌, ◌≤◌, ℕ, ◌+◌, cond, List, [], ◌∷◌, drop, length, map, slice_get}
+use Rattle.std.proofs.Common.{◌≡◌, Bool, ◌<◌, ◌≤◌, ℕ, ◌+◌, cond, List, [], ◌∷◌, drop, length, map, slice_get}
 use Rattle.std.proofs.Common.{All, slice_set, Option, None, Some, IfSome, refl, sym, ap, ap₂, subst, ◌∙◌, arith}
 use Rattle.std.specs.Prelude.{unwrap_or}
 use Rattle.std.specs.Option.{option_and_then, option_map}
@@ -31,9 +31,11 @@ use Rattle.driver_model.specs.Lines.{IsWithin}
 use Rattle.grant_enter.specs.Homes.{Homes, nobody}
 use Rattle.kernel_model.specs.Record.{Record, slot_line_of}
 use Rattle.kernel_model.specs.Turn.{apply, operated}
-use Rattle.kernel_model.specs.World.{DeviceAnswer, Devices, Stepped, acting_on, acts_of, answering, arrived}
+use Rattle.kernel_model.specs.World.{DeviceAnswer, Devices, Stepped, answering, arrived}
+use Rattle.kernel_model.specs.Parts.{acting_on, acts_of}
 use Rattle.kernel_model.specs.World.{carried_out}
-use Rattle.kernel_model.specs.World.{device_step_of, done, listed, operating, slot_of_name, telling_nobody}
+use Rattle.kernel_model.specs.World.{device_step_of, done, listed, operating, telling_nobody}
+use Rattle.kernel_model.specs.Parts.{slot_of_name}
 use Rattle.kernel_model.specs.World.{World}
 use Rattle.kernel_model.specs.Shown.{shown_by}
 use Rattle.kernel_model.specs.Laws.{CanStartAgain, DevicesAnswerOne, KeepsLines, one_answered}
@@ -56,9 +58,12 @@ use Rattle.board_core.specs.declared.board.Board.TheInside.{Inside}
 use Rattle.board_core.specs.Makes.{act_meant, shown_act}
 use Rattle.board_core.specs.Shows.{IsBoard, world_of}
 use Rattle.board_core.proofs.Boards.{has_storage}
-use Rattle.board_core.proofs.Changes.{a_step_later, as_many, as_many_owns, found, kept_records, still_seated, with_step}
+use Rattle.board_core.proofs.Changes.{a_step_later, as_many, as_many_owns, found, kept_records, residents_after}
+use Rattle.board_core.proofs.Changes.{still_seated, with_step}
 use Rattle.board_core.proofs.Devices.{lost_where, still_lost}
 use Rattle.board_core.proofs.TurnLines.{can_start_again}
+use Rattle.board_core.specs.ReadySlots.{OtherTurnsTell, TurnsTell}
+use Rattle.board_core.proofs.ReadySlots.{others_ready}
 
 -- what comes in first is an operator's act on the process in a slot
 pub record ActComes (arrivals : List ScriptEvent) (rs : List Record) (slot : ℕ) (verb : Verb) : Type 0 where
@@ -314,21 +319,35 @@ module _ (b : Inside) (slot : ℕ) (verb : Verb) (c : ActComes b.machine.drivers
       subst (λ (y : Homes). OthersTell slot now b.machine.moment.time b.alarms y.owns) (sym t.at.own_is)
       (others_tell now b.machine.moment.time slot b.alarms b.machine.home.owns t.at.after.1 h.alarms)
 
+  -- as many slots have a process's own
+  pub owns_counted : length x.home.owns ≡ length processes
+  owns_counted = as_many_owns slot b.machine.home x.home b.processes.items processes t.at ∙ h.owns
+      ∙ as_many slot b.machine.home x.home b.processes.items processes t.at
+
+  -- so does what is kept of which other processes can have a turn
+  pub others_keep_ready : OtherTurnsTell slot b.ready (zip processes x.home.owns)
+  others_keep_ready =
+      subst (OtherTurnsTell slot b.ready)
+      (sym (residents_after slot b.machine.home x.home b.processes.items processes t.at))
+      (others_ready slot b.ready (zip b.processes.items b.machine.home.owns) t.at.after h.ready)
+
 -- A board whose tables, registers and drivers are then these: after the act it is one again.
 module _ (b a : Inside) (slot : ℕ) (verb : Verb)
     (c : ActComes b.machine.drivers.arrivals (world_of b).records slot verb)
     (t : OperatesAt verb slot (let_in b.machine c.rest) a.machine b.processes.items a.processes.items)
     (h : IsBoard b) where
-  pub operated_board : (calm : ℕ) (times : List (Option ℕ)) → b.machine.moment.steps < STEP_LIMIT
+  pub operated_board : (calm : ℕ) (times : List (Option ℕ)) (ready : List Bool) → b.machine.moment.steps < STEP_LIMIT
       → AlarmsTell b.machine.moment times a.machine.home.owns
+      → TurnsTell ready (zip a.processes.items a.machine.home.owns)
       → IsCalm b.machine.moment.settings.start b.machine.moment.window b.machine.moment.time calm a.machine.home.owns a.machine.drivers
       → IsBoard (record b {
         machine = record a.machine { moment = a_step_later b.machine.moment };
         processes = a.processes;
         calm = calm;
         alarms = times;
+        ready = ready;
       })
-  operated_board calm times below tell quiet = record {
+  operated_board calm times ready below tell turns quiet = record {
     seated = still_seated slot b.machine.home a.machine.home b.processes.items a.processes.items t.at
         b.machine.moment.steps t.seated h.seated;
     lost = still_lost b.machine.moment.steps slot b.machine.home a.machine.home t.at.after.1 t.at.own_is
@@ -350,6 +369,7 @@ module _ (b a : Inside) (slot : ℕ) (verb : Verb)
     time = omega (arith, h.time);
     calm = quiet;
     alarms = tell;
+    ready = turns;
     slice = h.slice;
     used = h.used;
   }

@@ -12,11 +12,13 @@ use Rattle.process_record.specs.Emit.{nothing}
 use Rattle.process_record.specs.declared.emit.Emit.{Emit}
 use Rattle.kernel_model.specs.Shown.{shown_by}
 use Rattle.kernel_model.specs.World.{Stepped, World, carried_out, is_ready, now_in, owns_in, stepped, unmade}
-use Rattle.kernel_model.specs.World.{work_at, work_of}
+use Rattle.kernel_model.specs.World.{work_at}
+use Rattle.kernel_model.specs.Parts.{work_of}
 use Rattle.kernel_model.specs.Run.{ready_devices}
 use Rattle.tk_base.specs.declared.process.Dev.{Dev}
 use Rattle.tk_base.specs.declared.process.Dev.TheVariants as dev
-use Rattle.turn_scheduler.specs.RoundRobin.{device_order, device_place, place_is_ready}
+use Rattle.turn_scheduler.specs.RoundRobin.{device_order, device_place}
+use Rattle.turn_scheduler.specs.Parts.{place_is_ready}
 use Rattle.board_core.specs.declared.board.Board.TheInside.{Inside}
 use Rattle.kernel_laws.specs.Windows.{due_time}
 use Rattle.board_drivers.specs.Calm.{IsCalmAt, due_time_for, work_for, work_in}
@@ -130,6 +132,7 @@ passed_board law b n small below h =
       time = omega (arith, h.time, small);
       calm = later_calm start b.machine.moment.window time (time + n) b.calm b.machine.home.owns b.machine.drivers (omega arith) h.calm;
       alarms = all_later law start time n b.alarms b.machine.home.owns h.alarms;
+      ready = h.ready;
       slice = h.slice;
       used = h.used;
     }

@@ -17,13 +17,13 @@ use Rattle.board_drivers.specs.declared.drivers.Drivers.{Drivers}
 use Rattle.board_drivers.specs.Calm.{IsCalm}
 
 -- a slot that is set has what it is set to, and every other has what it had
-set_same : (owns : List Own) (slot : ℕ) (own o : Own) → slice_get owns slot ≡ Some own
+pub set_same : {X : Type 0} (owns : List X) (slot : ℕ) (own o : X) → slice_get owns slot ≡ Some own
     → slice_get (slice_set owns slot o) slot ≡ Some o
 set_same [] slot own o e = cc
 set_same (x ∷ xs) zero own o e = refl
 set_same (x ∷ xs) (suc slot) own o e = set_same xs slot own o e
 
-set_other : (owns : List Own) (slot other : ℕ) (o : Own) → other ≢ slot
+pub set_other : {X : Type 0} (owns : List X) (slot other : ℕ) (o : X) → other ≢ slot
     → slice_get (slice_set owns slot o) other ≡ slice_get owns other
 set_other [] slot other o apart = refl
 set_other (x ∷ xs) zero zero o apart = absurd (apart refl)

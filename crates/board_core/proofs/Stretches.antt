@@ -6,9 +6,10 @@ use Rattle.std.proofs.Common.{◌≡◌, ℕ, zero, suc, ◌+◌, ◌-◌, ◌<�
 use Rattle.std.proofs.Common.{◌||◌, cond, find, is_some, slice_get, slice_set, All, Option, None, Some, refl, sym, ap, ap₂, subst, ◌∙◌, arith}
 use Rattle.process_model.specs.Own.{Own}
 use Rattle.process_record.specs.declared.process.Process.{Process}
+use Rattle.rv32_model.specs.declared.turn_end.TurnEnd.{TurnEnd}
 use Rattle.kernel_model.specs.Record.{Record, instruction}
 use Rattle.kernel_model.specs.Stretch.{after_instructions, instruction_made}
-use Rattle.std.specs.Prelude.{IfSome}
+use Rattle.std.specs.Prelude.{◌&&◌, IfSome, not}
 use Rattle.std.specs.List.{range_with_len, zip}
 use Rattle.std.proofs.lemmas.Bool.{false≢true}
 use Rattle.std.specs.Option.{option_map, option_or}
@@ -29,12 +30,15 @@ use Rattle.grant_enter.specs.Homes.{Homes, nobody}
 use Rattle.kernel_model.specs.declared.settings.Settings.{Settings}
 use Rattle.kernel_model.specs.Laws.{NextLiesAhead}
 use Rattle.kernel_model.specs.Run.{is_left, is_left_for, next, next_time as world_next_time, passes_to, ready_devices}
-use Rattle.kernel_model.specs.Run.{ready_slots, work_for}
+use Rattle.kernel_model.specs.Run.{ready_slots}
+use Rattle.kernel_model.specs.Parts.{work_for}
 use Rattle.kernel_model.specs.Stretch.{GoesOn, IsLetOnTheWay, IsStretch, NoneActs, NoneIsStretch}
 use Rattle.kernel_model.specs.Stretch.{PresentIsNextOnTheWay, PresentStaysOn, RoundIsStretch}
 use Rattle.kernel_model.specs.Stretch.{after_stretch, at_turn}
 use Rattle.driver_model.specs.Alarm.{nearer}
-use Rattle.kernel_model.specs.World.{World, can_run, is_let, only_in, owns_in, work_of}
+use Rattle.kernel_model.specs.World.{World, is_let, only_in, owns_in}
+use Rattle.kernel_model.specs.Parts.{work_of}
+use Rattle.kernel_model.specs.Named.{can_run}
 use Rattle.kernel_laws.proofs.Turns.{turn_is_free, turn_is_let, turn_is_ready}
 use Rattle.board_drivers.specs.Calm.{AlarmsTell, HasCome, IsCalm, ServesNobody, only_of, work_in}
 use Rattle.board_core.specs.declared.board.Board.TheInside.{Inside}
@@ -43,14 +47,15 @@ use Rattle.board_drivers.specs.declared.moment.Moment.{Moment}
 use Rattle.board_drivers.specs.Driven.{AreDriven, devices_of, ids_waiting_in}
 use Rattle.board_core.specs.Makes.{ready_in}
 use Rattle.board_core.specs.Shows.{IsBoard, recorded, residents, world_of}
-use Rattle.board_drivers.specs.Residents.{HasLost, IsResident, Resident, record_of}
+use Rattle.board_drivers.specs.Residents.{HasLost, IsResident, Resident, record_of, resident_turns}
+use Rattle.board_core.specs.KnownEnds.{EndsSo, IsKnownEnd}
 use Rattle.board_core.specs.Stretches.{is_running, slot_runs}
 use Rattle.board_turns.specs.Quiet.{QuietAt}
 use Rattle.board_drivers.proofs.Calm.{kept_calm, later_calm}
 use Rattle.board_drivers.proofs.Lanes.{later_free}
 use Rattle.board_core.proofs.Changes.{as_many, as_many_owns, found, kept_records, still_seated_on}
 use Rattle.board_drivers.proofs.Records.{beside, bytes_of}
-use Rattle.board_core.proofs.Changes.{with_step}
+use Rattle.board_core.proofs.Changes.{resident_was, residents_after, with_step}
 use Rattle.board_core.proofs.Devices.{lost_where, still_lost_on}
 use Rattle.board_drivers.proofs.Lines.{line_after}
 use Rattle.board_drivers.proofs.Pairs.{get-firsts}
@@ -59,6 +64,10 @@ use Rattle.board_core.proofs.Boards.{next_in_calm}
 use Rattle.board_core.proofs.Ready.{calm_ready, devices_shown, next_shown, owns_in_world}
 use Rattle.board_turns.proofs.Quiet.{own_after, none_more, kept_own}
 use Rattle.board_turns.specs.declared.machine.Machine.{Machine}
+use Rattle.upcall_queue.specs.Pending.{due}
+use Rattle.kernel_model.specs.Turn.{has_turn}
+use Rattle.board_core.specs.ReadySlots.{TurnsTell}
+use Rattle.board_core.proofs.ReadySlots.{still_ready}
 
 -- drivers of which nothing is asked, and who waits, while a process's RAM changes and time passes
 pub ram_driven : (settings : Settings) (time later slot : ℕ) (owns : List Own) (d : Drivers) (own : Own) (ram : List ℕ)
@@ -103,6 +112,7 @@ pub record StillHolds (b : Inside) (k : ℕ) (home : Homes) (processes : List Pr
   pub driven : AreDriven b.machine.moment.settings (b.machine.moment.time + k) home.owns b.machine.drivers
   pub calm : IsCalm b.machine.moment.settings.start b.machine.moment.window (b.machine.moment.time + k) b.calm home.owns b.machine.drivers
   pub alarms : TimeBringsNearer → AlarmsTell (turns_later k b.machine.moment) b.alarms home.owns
+  pub ready : TurnsTell b.ready (zip processes home.owns)
 
 set-same : {X : Type 0} (xs : List X) (i : ℕ) (x : X) → slice_get xs i ≡ Some x → slice_set xs i x ≡ xs
 set-same xs i x e = ap (slice_set xs i) (sym (get_or_from_slice_get xs i x x e)) ∙ set-get_or xs i x
@@ -242,8 +252,8 @@ module _ (b : Inside) (board : IsBoard b) where
       let runs : slot_runs (slice_get b.processes.items slot) ≡ true = ap slot_runs there ∙ ap is_running g.runs in
       cc
 
-  module _ (slot k most used : ℕ) (present : Option ℕ) (x : Machine) (processes : List Process)
-      (q : QuietAt k most slot b.machine x b.processes.items processes) where
+  module _ (slot k most used : ℕ) {end : TurnEnd} (present : Option ℕ) (x : Machine) (processes : List Process)
+      (q : QuietAt k most end slot b.machine x b.processes.items processes) where
     few : length (residents b) ≤ length b.machine.drivers.stores.slots
     few = beside b.processes.items b.machine.home.owns b.machine.drivers.stores.slots board.owns board.few
         board.driven.slots
@@ -307,6 +317,23 @@ module _ (b : Inside) (board : IsBoard b) where
     records_then : world_then.records ≡ slice_set (world_of b).records slot after
     records_then = kept_records slot b.machine.home x.home b.processes.items processes q.at
         b.machine.drivers.buttons.pressed b.machine.drivers.stores.slots
+
+    -- the record there after the turns
+    after_there : slice_get world_then.records slot ≡ Some after
+    after_there = ap (λ (rs : List Record). slice_get rs slot) records_then
+        ∙ set_there (world_of b).records (slice_get_within (world_of b).records slot before was_there)
+      where
+        set_there : (rs : List Record) → slot < length rs → slice_get (slice_set rs slot after) slot ≡ Some after
+        set_there rs h =
+            slice_get-get_or (slice_set rs slot after) slot after (rw length-set h)
+            ∙ ap Some (get_or-set_same rs slot after after h)
+
+    -- what was told of the end of its next instruction is known then
+    pub end_known : (ticks : ℕ) → ticks ≡ k → IsKnownEnd (world_after_ticks ticks) end (Run slot)
+    end_known ticks is =
+        subst (λ (n : ℕ). IsKnownEnd (world_after_ticks n) end (Run slot)) (sym is)
+        (subst (λ (o : Option Record). IfSome o (EndsSo end)) (sym after_there)
+        (λ stops. q.quiet.ends stops pressed storage))
 
     state_is : (s : State) → is_running s ≡ true → s ≡ Running
     state_is Running e = refl
@@ -375,16 +402,6 @@ module _ (b : Inside) (board : IsBoard b) where
       stretch_shown ticks w law chooses law_none is shown =
           subst (λ (n : ℕ). IsStretch k w (world_after_ticks n)) (sym is)
           (subst (λ (v : World). IsStretch k v world_then) shown (by_count law chooses law_none k refl))
-
-      -- the record there after the turns
-      after_there : slice_get world_then.records slot ≡ Some after
-      after_there = ap (λ (rs : List Record). slice_get rs slot) records_then
-          ∙ set_there (world_of b).records (slice_get_within (world_of b).records slot before was_there)
-        where
-          set_there : (rs : List Record) → slot < length rs → slice_get (slice_set rs slot after) slot ≡ Some after
-          set_there rs h =
-              slice_get-get_or (slice_set rs slot after) slot after (rw length-set h)
-              ∙ ap Some (get_or-set_same rs slot after after h)
 
       after_runs : after.process.state ≡ Running
       after_runs = ap (λ (r : Record). r.process.state) (q.quiet.leads pressed storage) ∙ still_runs k before
@@ -470,7 +487,7 @@ module _ (b : Inside) (board : IsBoard b) where
           (omega (arith, zero_left, ahead))
 
     kept : q.at.after.1 ≡ record q.at.before.1 { ram = q.at.after.1.ram }
-    kept = kept_own k most b.machine.home.flash q.at.before q.at.after q.quiet
+    kept = kept_own k most end b.machine.home.flash q.at.before q.at.after q.quiet
 
     many : length b.processes.items ≡ length processes
     many = as_many slot b.machine.home x.home b.processes.items processes q.at
@@ -513,7 +530,23 @@ module _ (b : Inside) (board : IsBoard b) where
           (ap (λ (o : Own). o.grants) kept) (ap (λ (o : Own). o.lives) kept)
           (all_later law b.machine.moment.settings.start b.machine.moment.time k b.alarms b.machine.home.owns
           board.alarms));
+      ready = subst (TurnsTell b.ready)
+          (sym (residents_after slot b.machine.home x.home b.processes.items processes q.at))
+          (still_ready slot b.ready (residents b) q.at.before q.at.after
+          (resident_was slot b.machine.home x.home b.processes.items processes q.at) turns_as_before board.ready);
     }
+      where
+        left : record_of b.machine.home.flash 0 (q.at.after, [])
+            ≡ after_instructions k (record_of b.machine.home.flash 0 (q.at.before, []))
+        left = q.quiet.leads 0 []
+
+        turns_as_before : resident_turns q.at.after ≡ resident_turns q.at.before
+        turns_as_before =
+            ap (λ (r : Record). not r.process.held && has_turn r.process.state (due q.at.after.1.inbox)) left
+            ∙ ap₂ (λ (held : Bool) (state : State). not held && has_turn state (due q.at.after.1.inbox))
+            (still_free k (record_of b.machine.home.flash 0 (q.at.before, [])))
+            (still_runs k (record_of b.machine.home.flash 0 (q.at.before, [])))
+            ∙ ap (λ (o : Own). not q.at.before.0.held && has_turn q.at.before.0.state (due o.inbox)) kept
 
 -- what is used of a slice, after so many turns
 pub used_within : (before slice first k used : ℕ) → before ≤ slice → first + k ≤ slice → (k ≡ 0 → used ≡ before)
@@ -547,6 +580,7 @@ looked_ahead b calm board is = record {
   time = board.time;
   calm = is;
   alarms = board.alarms;
+  ready = board.ready;
   slice = board.slice;
   used = board.used;
 }

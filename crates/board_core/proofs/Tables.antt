@@ -8,7 +8,7 @@ use Rattle.std.proofs.lemmas.List.FromFn.{map-range_with_len_more}
 use Rattle.kernel_model.specs.Record.{Record}
 use Rattle.kernel_model.specs.Run.{may_go}
 use Rattle.kernel_model.specs.Turn.{may_turn}
-use Rattle.kernel_model.specs.World.{can_run}
+use Rattle.kernel_model.specs.Named.{can_run}
 
 -- one more of a function of the slots
 pub slot_more : {X : Type 0} (f : ℕ → X) (slot named : ℕ) (value : X) (so_far more : List X) → named ≡ slot

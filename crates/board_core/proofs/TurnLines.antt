@@ -34,6 +34,7 @@ use Rattle.upcall_queue.specs.Pending.{due}
 use Rattle.kernel_model.specs.Turn.{Turned, has_turn, turned}
 use Rattle.process_record.specs.declared.process.State.{State}
 use Rattle.process_record.specs.declared.process.State.TheVariants.{Running, Yielded, Faulted, Terminated}
+use Rattle.std.specs.List.{zip}
 use Rattle.std.proofs.lemmas.Bool.{false≢true}
 use Rattle.board_core.specs.declared.board.Board.TheInside.{Inside}
 use Rattle.board_turns.specs.declared.turn.Shown.{Shown}
@@ -46,13 +47,15 @@ use Rattle.board_drivers.proofs.Lanes.{few_still, later_free, same_free, same_la
 use Rattle.board_devices.specs.Storage.{StoredSlots}
 use Rattle.board_core.specs.Shows.{IsBoard, residents, world_of}
 use Rattle.board_core.proofs.Boards.{below_limit, ready_within}
-use Rattle.board_core.proofs.Changes.{as_many, as_many_owns, still_seated, turn_later}
+use Rattle.board_core.proofs.Changes.{as_many, as_many_owns, residents_after, still_seated, turn_later}
 use Rattle.board_core.proofs.Devices.{lost_where, still_lost}
 use Rattle.board_drivers.proofs.Records.{lost_there, seated_there}
 use Rattle.board_drivers.proofs.Lines.{line_after}
 use Rattle.board_drivers.proofs.Pairs.{zip-get}
 use Rattle.board_turns.proofs.Turns.{loses_one}
 use Rattle.board_turns.specs.declared.machine.Machine.{Machine}
+use Rattle.board_core.specs.ReadySlots.{OtherTurnsTell, TurnsTell}
+use Rattle.board_core.proofs.ReadySlots.{others_ready}
 
 -- an application that started can start again
 pub can_start_again : (address : ℕ) (e : Bounds) (read : Result Meaning HeaderFault) → IsApplication address e read
@@ -198,6 +201,18 @@ module _ (b : Inside) (slot : ℕ) (x : Machine) (processes : List Process) (sho
       (same_alarms_tell slot b.machine.home.owns t.at.before.1 t.at.after.1 t.at.own_was same
       (clock_at start (time + 1)) (time + 1) b.alarms (all_later law start time 1 b.alarms b.machine.home.owns h.alarms))
 
+  -- as many slots have a process's own
+  pub owns_count : length x.home.owns ≡ length processes
+  owns_count = as_many_owns slot b.machine.home x.home b.processes.items processes t.at ∙ h.owns
+      ∙ as_many slot b.machine.home x.home b.processes.items processes t.at
+
+  -- what is kept of which other processes can have a turn holds
+  pub others_stay_able : OtherTurnsTell slot b.ready (zip processes x.home.owns)
+  others_stay_able =
+      subst (OtherTurnsTell slot b.ready)
+      (sym (residents_after slot b.machine.home x.home b.processes.items processes t.at))
+      (others_ready slot b.ready (residents b) t.at.after h.ready)
+
   -- a process that can have a turn lives
   turn_lives : can_turn_in (slice_get (residents b) slot) ≡ true → t.at.before.1.lives ≡ true
   turn_lives can =
@@ -220,19 +235,21 @@ module _ (b : Inside) (slot : ℕ) (x : Machine) (processes : List Process) (sho
 -- A board whose tables, registers and drivers are then these: after the turn it is one again, and the slot is present.
 module _ (b a : Inside) (slot : ℕ) (shown : Shown) (h : IsBoard b)
     (t : TurnsAt slot b.machine a.machine b.processes.items a.processes.items shown) where
-  pub turned_board : (calm used : ℕ) (times : List (Option ℕ)) → DropsAtMostOne → TurnsKeepLines
+  pub turned_board : (calm used : ℕ) (times : List (Option ℕ)) (ready : List Bool) → DropsAtMostOne → TurnsKeepLines
       → is_ready (world_of b) (Run slot) ≡ true
       → IsCalm b.machine.moment.settings.start b.machine.moment.window (b.machine.moment.time + 1) calm a.machine.home.owns a.machine.drivers
-      → AlarmsTell (turn_later b.machine.moment) times a.machine.home.owns → used ≤ b.slice
+      → AlarmsTell (turn_later b.machine.moment) times a.machine.home.owns
+      → TurnsTell ready (zip a.processes.items a.machine.home.owns) → used ≤ b.slice
       → IsBoard (record b {
         machine = record a.machine { moment = turn_later b.machine.moment };
         processes = a.processes;
         calm = calm;
         alarms = times;
+        ready = ready;
         present = Some slot;
         used = used;
       })
-  turned_board calm used times drops keeps ready quiet tell within = record {
+  turned_board calm used times ready drops keeps may quiet tell turns within = record {
     seated = still_seated slot b.machine.home a.machine.home b.processes.items a.processes.items t.at
         b.machine.moment.steps t.seated h.seated;
     lost = still_lost b.machine.moment.steps slot b.machine.home a.machine.home t.at.after.1 t.at.own_is
@@ -250,14 +267,15 @@ module _ (b a : Inside) (slot : ℕ) (shown : Shown) (h : IsBoard b)
     driven = turn_driven b slot a.machine a.processes.items shown h t keeps lives;
     lanes = lanes_stay b slot a.machine a.processes.items shown h t;
     served = served_stays b slot a.machine a.processes.items shown h t;
-    steps = omega (arith, (ready_within b slot h ready).0);
+    steps = omega (arith, (ready_within b slot h may).0);
     time = omega (arith, h.time);
     calm = quiet;
     alarms = tell;
+    ready = turns;
     slice = h.slice;
     used = within;
   }
     where
       lives : t.at.before.1.lives ≡ true
       lives = turn_lives b slot a.machine a.processes.items shown h t
-          (below_limit b slot h (ready_within b slot h ready).0 ∙ ready)
+          (below_limit b slot h (ready_within b slot h may).0 ∙ may)

@@ -5,3 +5,5 @@ pub mod Makes
 pub mod Plays
 pub mod PartsOf
 pub mod LanesOf
+pub mod KnownEnds
+pub mod ReadySlots

@@ -5,7 +5,8 @@ use Rattle.tk_base.specs.declared.process.Dev.TheVariants.{Event, Alarm, Uart, R
 use Rattle.tk_base.specs.declared.process.ProcessId.{ProcessId}
 use Rattle.driver_model.specs.Commands.{Writes, Reads, Randoms, Stores}
 use Rattle.kernel_model.specs.Record.{Record}
-use Rattle.kernel_model.specs.World.{Devices, World, slots_in}
+use Rattle.kernel_model.specs.World.{Devices, World}
+use Rattle.kernel_model.specs.Named.{slots_in}
 
 -- the slots whose processes wait for a device step, the first one first
 abbrev pub waiting_for : Devices → Dev → List ℕ

@@ -8,7 +8,8 @@ use Rattle.process_record.specs.Emit.{nothing}
 use Rattle.process_model.specs.Own.{Own}
 use Rattle.turn_scheduler.specs.RoundRobin.{device_order}
 use Rattle.board_devices.specs.Arriving.{first_act}
-use Rattle.kernel_model.specs.World.{World, after, is_ready, labels, slot_of_name}
+use Rattle.kernel_model.specs.World.{World, after, is_ready, labels}
+use Rattle.kernel_model.specs.Parts.{slot_of_name}
 use Rattle.kernel_model.specs.Shown.{shown_by}
 use Rattle.tk_base.specs.declared.process.NotReady.{NotReady}
 use Rattle.board_drivers.specs.declared.drivers.Drivers.{Drivers}

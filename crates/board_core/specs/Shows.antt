@@ -10,6 +10,7 @@ use Rattle.board_drivers.specs.Residents.{HasLost, Resident, record_of, IsReside
 use Rattle.board_drivers.specs.Calm.{AlarmsTell, IsCalm}
 use Rattle.board_drivers.specs.Driven.{AreDriven, HasLanes, devices_of}
 use Rattle.board_core.specs.declared.board.Board.TheInside.{Inside}
+use Rattle.board_core.specs.ReadySlots.{TurnsTell}
 
 -- each process with what is its own
 abbrev pub residents : Inside → List Resident
@@ -20,10 +21,12 @@ residents b = zip b.processes.items b.machine.home.owns
 abbrev pub recorded : Inside → Resident × List ℕ → Record
 recorded b = record_of b.machine.home.flash b.machine.drivers.buttons.pressed
 
--- the records are those of the processes
+-- the records are those of the processes, each with its own and its storage; of buttons they were told what the device
+-- holds
 abbrev pub world_of : Inside → World
 world_of b = record {
-  records = map (recorded b) (zip (residents b) b.machine.drivers.stores.slots);
+  records = map (record_of b.machine.home.flash b.machine.drivers.buttons.pressed)
+      (zip (zip b.processes.items b.machine.home.owns) b.machine.drivers.stores.slots);
   unplaced = b.unplaced.items;
   settings = b.machine.moment.settings;
   pace = record { slice = b.slice; window = b.machine.moment.window };
@@ -46,5 +49,6 @@ pub record IsBoard (b : Inside) : Type 0 where
   pub calm : IsCalm b.machine.moment.settings.start b.machine.moment.window b.machine.moment.time b.calm
       b.machine.home.owns b.machine.drivers
   pub alarms : AlarmsTell b.machine.moment b.alarms b.machine.home.owns
+  pub ready : TurnsTell b.ready (residents b)
   pub slice : 1 ≤ b.slice
   pub used : b.used ≤ b.slice

@@ -29,12 +29,14 @@ ghost use Rattle.alarm_capsule.specs.Times.{OthersTell};
 ghost use Rattle.board_drivers.specs.Calm.{AlarmsTell, IsCalm};
 ghost use Rattle.board_drivers.specs.Driven.{AreFreeSoon};
 ghost use Rattle.board_devices.specs.Arriving.{is_time};
+ghost use Rattle.board_core.specs.KnownEnds.{IsKnownEnd};
 ghost use Rattle.board_core.specs.LanesOf.{lanes_of};
 ghost use Rattle.board_core.specs.Makes.{MakesStep, act_meant, ready_in, shown_act, shown_printed};
-ghost use Rattle.board_drivers.specs.Tells.{tells_one};
+ghost use Rattle.board_drivers.specs.Tells.{is_alarm, tells_one};
 ghost use Rattle.board_drivers.specs.Residents.{InFlash, line_in, resident_turns, can_turn_in};
 ghost use Rattle.kernel_alarms.specs.Acting.{may_have_acted, may_have_armed};
 
+use crate::ready_slots::ReadySlots;
 use alarm_capsule::{AlarmTimes, nearer_time};
 use arrayvec::ArrayVec;
 use board_drivers::{Drivers, Moment};
@@ -42,7 +44,7 @@ use board_opening::{LoadedProcesses, first_crew, placed_in, unplaced};
 use board_turns::{ActivePmp, Machine, can_turn};
 use driver_model::{lines_follow_answers, time_brings_an_alarm_nearer};
 use grant_enter::Home;
-use kernel_alarms::{alarms_change_at_their_commands, may_act, may_arm};
+use kernel_alarms::{alarms_change_at_their_commands, answers_leave_alarms, may_act, may_arm};
 use kernel_laws::{grants_change_at_calls, next_is_of_the_window, turns_keep_lines};
 use kernel_lives::steps_are_accounted_for;
 use kernel_model::{
@@ -52,6 +54,7 @@ use led_capsule::bits;
 use process_console::{find, list_line};
 use process_model::Object;
 use process_record::{Emit, Process, SlotLine, Summary, object_name};
+use rv32_model::TurnEnd;
 use script_text::Script;
 use std::alloc::Global;
 use std::marker::Model;
@@ -76,6 +79,8 @@ pub struct Board {
     pub(crate) calm: u64,
     /// When the alarm of each process becomes due.
     pub(crate) alarms: AlarmTimes,
+    /// Whether each process can have a turn.
+    ready: ReadySlots,
     /// How many turns a process may have in a row while another is ready.
     pub(crate) slice: u32,
     /// The slot that had the last turn, and how many turns of its slice it has used.
@@ -233,6 +238,21 @@ fn look_again(alarms: &mut AlarmTimes, moment: &Moment, home: &Home, slot: Slot,
     }
 }
 
+/// Looks again when the alarm of a process becomes due which a device answered, where that was the
+/// alarm: no other one's answer changes it.
+#[inline(always)]
+fn look_after(alarms: &mut AlarmTimes, moment: &Moment, home: &Home, slot: Slot, device: Dev)
+    requires time { moment.now.time + 2 ^ 32 ≤ 2 ^ 64 }
+    requires others { OthersTell slot (clock_at moment.now.settings.start moment.now.time)
+        moment.now.time alarms.old home.now.owns }
+    requires another { is_alarm device ≡ false → AlarmsTell moment.now alarms.old home.now.owns }
+    ensures { AlarmsTell moment.now alarms.new home.now.owns }
+{
+    if device == Dev::Alarm {
+        alarms.note(home, slot, moment.tick(), moment.time);
+    }
+}
+
 /// A time up to which no device step is ready after a turn, by what it showed. It asks that the one
 /// so far holds on where the turn did not act.
 #[inline(always)]
@@ -322,8 +342,7 @@ impl Situated for Board {
     }
 
     fn slot_is_ready(&self, slot: Slot) -> bool {
-        self.machine.moment.served().serves(slot)
-            && can_run(&self.machine.home, &self.processes, slot)
+        self.machine.moment.served().serves(slot) && self.ready.has(slot)
     }
 
     fn slots(&self) -> usize {
@@ -381,6 +400,8 @@ impl Board {
         let slice = script.slice;
         let drivers = Drivers::new(alloc, script)?;
         let alarms = AlarmTimes::new();
+        let mut ready = ReadySlots::new();
+        ready.look_at_all(&home, &processes);
         let calm = moment.look_ahead(&home, &alarms, &drivers);
         let machine = Machine {
             home,
@@ -394,6 +415,7 @@ impl Board {
             unplaced: unplaced(&placed),
             calm,
             alarms,
+            ready,
             slice,
             present: None,
             used: 0,
@@ -423,14 +445,15 @@ impl Board {
         requires { self.now.clock.steps < STEP_LIMIT }
         ensures { result ≡ is_ready self.now (Run slot) }
     {
-        can_run(&self.machine.home, &self.processes, slot)
+        self.ready.has(slot)
     }
 
     /// A turn of the process in a slot. When its alarm becomes due is looked at again where the turn
     /// may have armed one, and when a device step is ready where it may have acted.
     #[inline(always)]
-    fn run(&mut self, slot: Slot, emit: &mut Emit) -> Result<(), NotReady>
-        requires { self.old.clock.steps < STEP_LIMIT }
+    fn run(&mut self, slot: Slot, end: TurnEnd, emit: &mut Emit) -> Result<(), NotReady>
+        requires limit { self.old.clock.steps < STEP_LIMIT }
+        requires known { IsKnownEnd self.old end (Run slot) }
         ensures { MakesStep (Run slot) self.old self.new emit.old emit.new result }
     {
         grants_change_at_calls();
@@ -442,7 +465,8 @@ impl Board {
         }
         clear(emit);
         emit.slot = Some(slot);
-        self.machine.turn_at(&mut self.processes, slot, emit);
+        self.machine.turn_at(&mut self.processes, slot, end, emit);
+        self.ready.look(&self.machine.home, &self.processes, slot);
         self.used = used_after(self.present, self.used, self.slice, slot);
         self.present = Some(slot);
         self.machine.moment.time += 1;
@@ -502,6 +526,7 @@ impl Board {
         let slots = self.processes.len();
         self.machine.drivers.arrive(&mut self.machine.home, slots);
         self.machine.operate_at(&mut self.processes, slot, verb);
+        self.ready.look(&self.machine.home, &self.processes, slot);
         show_act(emit, slot, verb, printed);
         self.machine.moment.steps += 1;
         self.alarms.note(
@@ -539,6 +564,7 @@ impl Board {
         }
         let slots = self.processes.len();
         self.machine.drivers.arrive(&mut self.machine.home, slots);
+        self.ready.look_at_all(&self.machine.home, &self.processes);
         hide(emit);
         self.machine.moment.steps += 1;
         self.calm = self
@@ -555,9 +581,11 @@ impl Board {
         ensures { MakesStep (Device device) self.old self.new emit.old emit.new result }
     {
         devices_answer_one();
+        answers_leave_alarms();
         let mut printed = ArrayVec::new();
-        let Ok(answer) = self.machine.drivers.act(
+        let Ok(answer) = self.machine.drivers.act_by(
             &mut self.machine.home,
+            &self.alarms,
             device,
             &self.machine.moment,
             &mut printed,
@@ -566,13 +594,15 @@ impl Board {
             return Err(NotReady);
         };
         let served = answer.to.slot;
+        self.ready.look(&self.machine.home, &self.processes, served);
         show(emit, served, printed);
         self.machine.moment.steps += 1;
-        self.alarms.note(
+        look_after(
+            &mut self.alarms,
+            &self.machine.moment,
             &self.machine.home,
             served,
-            self.machine.moment.tick(),
-            self.machine.moment.time,
+            device,
         );
         self.calm = self
             .machine
@@ -645,8 +675,29 @@ impl Board {
     /// board. The record of each process is the replay of its own turn, or of what the device
     /// answers it, and as it was where the step is neither.
     #[inline(always)]
-    #[tactic(auto, unfolding(kernel_model::specs::World::may_be_made))]
     pub fn step(&mut self, choice: Choice, emit: &mut Emit) -> Result<(), NotReady>
+        ensures ready { IsOk result ↔ IsTrue (is_ready self.old choice) }
+        ensures ok { OnOk result (self.new ≡ after self.old choice) }
+        ensures shown { OnOk result (emit.new ≡ shown_by (labels self.old choice)) }
+        ensures refused { OnErr result ((self.new ≡ self.old) × (emit.new ≡ emit.old)) }
+        ensures accounted { IsAccountedFor self.old choice }
+        ensures records { OnOk result (IsReplayed self.old self.new (choice ∷ [])) }
+    {
+        self.step_with_end(choice, TurnEnd::Went, emit)
+    }
+
+    /// Makes one step, as [`Board::step`] does. Where it is a turn whose instruction is known not to
+    /// go, `end` is how it ends ([`Board::run_quietly`] tells it), and the instruction is not
+    /// decoded again; with `Went` nothing is known.
+    #[inline(always)]
+    #[tactic(auto, unfolding(kernel_model::specs::World::may_be_made))]
+    pub fn step_with_end(
+        &mut self,
+        choice: Choice,
+        end: TurnEnd,
+        emit: &mut Emit,
+    ) -> Result<(), NotReady>
+        requires { IsKnownEnd self.old end choice }
         ensures ready { IsOk result ↔ IsTrue (is_ready self.old choice) }
         ensures ok { OnOk result (self.new ≡ after self.old choice) }
         ensures shown { OnOk result (emit.new ≡ shown_by (labels self.old choice)) }
@@ -661,7 +712,7 @@ impl Board {
             return Err(NotReady);
         }
         match choice {
-            Choice::Run(slot) => self.run(slot, emit),
+            Choice::Run(slot) => self.run(slot, end, emit),
             Choice::Device(device) => self.act(device, emit),
             Choice::Pass(ticks) => self.pass(ticks, emit),
         }

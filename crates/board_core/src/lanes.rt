@@ -5,7 +5,7 @@ ghost use Rattle.std.specs.Option.{option_map};
 ghost use Rattle.tk_base.specs.declared.limits.TheConstants.{SLOT_COUNT};
 ghost use Rattle.partition_turns.specs.Lanes.{lanes_shown};
 ghost use Rattle.kernel_laws.specs.Windows.{due_time, lane_order};
-ghost use Rattle.kernel_model.specs.Run.{work_for};
+ghost use Rattle.kernel_model.specs.Parts.{work_for};
 ghost use Rattle.kernel_model.specs.Turn.{may_turn};
 ghost use Rattle.kernel_model.specs.World.{sending_time};
 ghost use Rattle.board_core.specs.LanesOf.{lanes_of};

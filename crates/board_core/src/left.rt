@@ -3,8 +3,9 @@ ghost use Rattle.std.specs.Prelude.{◌≡◌, ◌||◌, is_some, map, slice_get
 ghost use Rattle.tk_base.specs.declared.process.Dev.TheVariants.{Event, Alarm, Uart, Receive};
 ghost use Rattle.tk_base.specs.declared.process.Dev.TheVariants.{Random, Store};
 ghost use Rattle.turn_scheduler.specs.RoundRobin.{device_order, ready_device};
-ghost use Rattle.kernel_model.specs.Run.{is_left, is_left_for, work_for};
-ghost use Rattle.kernel_model.specs.World.{can_run};
+ghost use Rattle.kernel_model.specs.Run.{is_left, is_left_for};
+ghost use Rattle.kernel_model.specs.Parts.{work_for};
+ghost use Rattle.kernel_model.specs.Named.{can_run};
 
 use crate::board::{Board, can_run};
 use board_drivers::Served;

@@ -7,6 +7,7 @@ mod lanes;
 mod left;
 mod look;
 mod play;
+mod ready_slots;
 mod stretch;
 
 pub use board::Board;

@@ -13,6 +13,7 @@ ghost use Rattle.kernel_model.specs.World.{is_ready};
 ghost use Rattle.board_drivers.specs.Calm.{AlarmsTell, HasCome, IsCalm};
 ghost use Rattle.board_drivers.specs.Calm.{ServesNobody, only_of, work_in};
 ghost use Rattle.board_drivers.specs.Driven.{AreFreeSoon};
+ghost use Rattle.board_core.specs.KnownEnds.{IsKnownEnd};
 ghost use Rattle.board_core.specs.Stretches.{EndsStretch, slot_runs};
 
 use crate::board::Board;
@@ -24,23 +25,27 @@ use kernel_laws::round_is_stretch;
 use kernel_lives::steps_are_accounted_for;
 use kernel_model::next_is_ready;
 use process_record::{Process, State};
+use rv32_model::TurnEnd;
 use tk_base::{Choice, STEP_LIMIT, Slot};
 
 /// A part of a stretch: how many turns were made, whether the stretch ends with them, and the round
-/// robin's next choice, where it does.
+/// robin's next choice, where it does, with what is known of its end.
 #[derive(Clone, Copy)]
 pub struct Part {
     pub made: u32,
     pub is_over: bool,
     pub next_choice: Option<Choice>,
+    pub end: TurnEnd,
 }
 
 /// A quiet stretch: how many turns were made, and the round robin's next choice after them
-/// ([`Board::next_choice`]).
+/// ([`Board::next_choice`]). Where that is a turn whose instruction is known not to go, `end` is how
+/// it ends, for [`Board::step_with_end`]; else `Went`.
 #[derive(Clone, Copy)]
 pub struct QuietTurns {
     pub made: u32,
     pub next_choice: Option<Choice>,
+    pub end: TurnEnd,
 }
 
 /// Whether the process in a slot runs.
@@ -162,6 +167,8 @@ impl Board {
         ensures ends { EndsStretch most result self.new }
         ensures more { result.is_over ≡ false → 0 < result.made }
         ensures next { result.is_over ≡ true → result.next_choice ≡ next self.new }
+        ensures known { result.is_over ≡ true
+            → IfSome result.next_choice (IsKnownEnd self.new result.end) }
     {
         round_is_stretch();
         next_is_ready();
@@ -172,6 +179,7 @@ impl Board {
                 made: 0,
                 is_over: true,
                 next_choice,
+                end: TurnEnd::Went,
             };
         };
         if !runs(&self.processes, slot) {
@@ -179,6 +187,7 @@ impl Board {
                 made: 0,
                 is_over: true,
                 next_choice,
+                end: TurnEnd::Went,
             };
         }
         self.calm = calm_ahead(
@@ -193,11 +202,13 @@ impl Board {
                 made: 0,
                 is_over: true,
                 next_choice,
+                end: TurnEnd::Went,
             };
         }
         let before = used_before(self.present, self.used, self.slice, slot);
         let left = turns_left(before, self.slice, &self.machine.moment, self.calm, most);
-        let made = self.machine.turns_at(&mut self.processes, slot, left);
+        let stretch = self.machine.turns_at(&mut self.processes, slot, left);
+        let made = stretch.went;
         let (present, used) = present_after(self.present, self.used, slot, before, made);
         self.present = present;
         self.used = used;
@@ -208,11 +219,13 @@ impl Board {
             made,
             is_over: is_over(made, left),
             next_choice,
+            end: stretch.end,
         }
     }
 
     /// Makes as many of the round robin's next steps as are turns that only execute an instruction,
-    /// one after another, at most `most`, and answers how many, and which step is next then. None
+    /// one after another, at most `most`, and answers how many, which step is next then, and, where
+    /// that is a turn whose instruction does not go, how it ends, if that is known. None
     /// of these steps makes a system call, is denied or prints, and each byte of a process that one
     /// of them changes has its cause among its labels: a store that the process may make. Where
     /// fewer than `most` were made, the next step is not such a turn. It may be made while fewer
@@ -223,6 +236,7 @@ impl Board {
         ensures accounted { Throughout IsAccountedFor self.old (chosen result.made self.old) }
         ensures ends { result.made < most → GoesOn self.new → ⊥ }
         ensures next { result.next_choice ≡ next self.new }
+        ensures known { IfSome result.next_choice (IsKnownEnd self.new result.end) }
         ensures ready { IfSome result.next_choice
             (λ choice. self.new.clock.steps < STEP_LIMIT → IsTrue (is_ready self.new choice)) }
     {
@@ -237,12 +251,14 @@ impl Board {
                 return QuietTurns {
                     made,
                     next_choice: part.next_choice,
+                    end: part.end,
                 };
             }
         }
         QuietTurns {
             made,
             next_choice: self.next_choice(),
+            end: TurnEnd::Went,
         }
     }
 }

@@ -145,6 +145,18 @@ fn go_on(board: &mut Board) -> (Option<Slot>, Option<Denial>) {
     (emit.slot, emit.denial)
 }
 
+/// The same, with what a quiet stretch tells of the end of its instruction.
+fn go_on_with_end(board: &mut Board) -> (Option<Slot>, Option<Denial>) {
+    let mut emit = Emit::new();
+    let quiet = board.run_quietly(10);
+    let next_choice = quiet.next_choice;
+    let end = quiet.end;
+    if let Some(choice) = next_choice {
+        let _ = board.step_with_end(choice, end, &mut emit);
+    }
+    (emit.slot, emit.denial)
+}
+
 /// How many turns quiet stretches have: ten at the most from the first step on; then to the end of
 /// the slice and on to the second application's first turn; and before its second one.
 fn stretches(board: &mut Board) -> [u32; 3] {
@@ -160,7 +172,8 @@ fn is_stopped(board: &mut Board) -> bool {
         address: 0x8000_0000,
         rule: Rule::NoRegion,
     };
-    go_on(board) == (Some(Slot::new(1)), Some(stray)) && go_on(board) == (Some(Slot::new(0)), None)
+    go_on_with_end(board) == (Some(Slot::new(1)), Some(stray))
+        && go_on(board) == (Some(Slot::new(0)), None)
 }
 
 /// Three turns of the first application, one of the second one, and one of the first one again.

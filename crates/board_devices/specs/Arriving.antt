@@ -21,10 +21,9 @@ is_time time (event ∷ rest) = nat_le event.time time
 -- what an event tells of a button: which one, and whether it is pressed; nothing where bytes come in, or an operator
 -- acts
 abbrev pub edge_of : EventKind → Option (ℕ × Bool)
-edge_of (Input bytes) = None
 edge_of (Press button) = Some (button, true)
 edge_of (Release button) = Some (button, false)
-edge_of (Act verb name) = None
+edge_of other = None
 
 -- the serial line of each lane after an event: bytes come in on all; of those in a ring the newest are kept
 abbrev pub lines_after : EventKind → List SerialLine → List SerialLine
@@ -36,13 +35,11 @@ abbrev pub differs : ℕ → ℕ → Bool → Bool
 differs mask button true = not (has_bit mask button)
 differs mask button false = has_bit mask button
 
--- a button and its state, where it has another one by a mask of pressed buttons
-abbrev pub if_differs : ℕ → ℕ × Bool → Option (ℕ × Bool)
-if_differs mask edge = if differs mask edge.0 edge.1 then Some edge else None
-
--- what an event changes of a button, by a mask of pressed buttons: which one, and whether it is pressed then
+-- what an event changes of a button, by a mask of pressed buttons: which one, and whether it is pressed then; nothing
+-- where it has that state already
 abbrev pub change_by : EventKind → ℕ → Option (ℕ × Bool)
-change_by kind mask = option_and_then (if_differs mask) (edge_of kind)
+change_by kind mask =
+    option_and_then (λ edge. if differs mask edge.0 edge.1 then Some edge else None) (edge_of kind)
 
 -- a mask of pressed buttons with the state of one button set, if one is told
 abbrev pub with_edge : Option (ℕ × Bool) → ℕ → ℕ

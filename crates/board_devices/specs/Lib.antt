@@ -3,3 +3,4 @@ pub mod SerialLine
 pub mod Storage
 pub mod Arriving
 pub mod Buttons
+pub mod Parts

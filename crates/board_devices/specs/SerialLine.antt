@@ -10,18 +10,10 @@ pub record SerialLine : Type 0 where
   pub ticks : ℕ
   pub free : ℕ
 
--- a serial line that is nowhere
-abbrev pub no_line : SerialLine
-no_line = record { ring = []; ticks = 0; free = 0 }
-
 -- that of a lane
 abbrev pub line_at : ℕ → List SerialLine → SerialLine
-line_at lane lines = slice_index_or lines lane no_line
+line_at lane lines = slice_index_or lines lane (record { ring = []; ticks = 0; free = 0 })
 
--- what is kept of bytes that came in: the newest
-abbrev pub newest : List ℕ → List ℕ
-newest bytes = drop (length bytes - RING_SIZE) bytes
-
--- a UART at which bytes came in, the first one first
+-- a UART at which bytes came in, the first one first: of all that came in the newest are kept
 abbrev pub with_input : List ℕ → SerialLine → SerialLine
-with_input bytes line = record line { ring = newest (line.ring ++ bytes) }
+with_input bytes line = record line { ring = drop (length (line.ring ++ bytes) - RING_SIZE) (line.ring ++ bytes) }

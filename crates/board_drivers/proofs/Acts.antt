@@ -12,7 +12,8 @@ use Rattle.tk_base.specs.declared.process.ProcessId.{ProcessId}
 use Rattle.board_devices.specs.declared.answer.Answer.{Answer}
 use Rattle.tk_base.specs.declared.process.NotReady.{NotReady}
 use Rattle.board_devices.specs.Clock.{clock_at}
-use Rattle.board_devices.specs.SerialLine.{SerialLine, line_at, no_line}
+use Rattle.board_devices.specs.SerialLine.{SerialLine, line_at}
+use Rattle.board_devices.specs.Parts.{no_line}
 use Rattle.board_devices.specs.Storage.{StoredSlots}
 use Rattle.process_model.specs.Flash.{ReadsOwnFlash}
 use Rattle.driver_model.specs.Answers.{EventsTellSteps, LinesFollowAnswers}

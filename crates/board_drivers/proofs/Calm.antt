@@ -21,7 +21,11 @@ use Rattle.driver_model.specs.Alarm.{armed_in, due_for, due_slot, has_due, if_du
 use Rattle.driver_model.specs.Commands.{Writes, Reads, Randoms, Stores}
 use Rattle.driver_model.specs.Laws.{QuietUntilNext}
 use Rattle.grant_enter.specs.Homes.{nobody}
-use Rattle.kernel_model.specs.World.{is_waited_for, lane_by, line_in, may_serve, only_at, sending_time, waits_in}
+use Rattle.kernel_model.specs.World.{may_serve, only_at, sending_time}
+use Rattle.kernel_model.specs.Parts.{line_in}
+use Rattle.kernel_model.specs.Named.{waits_in}
+use Rattle.kernel_model.specs.Named.{lane_by}
+use Rattle.kernel_model.specs.Parts.{is_waited_for}
 use Rattle.kernel_model.specs.World.{work_at}
 use Rattle.partition_turns.specs.Laws.{WindowsAreInTurn}
 use Rattle.partition_turns.specs.Windows.{window_end}

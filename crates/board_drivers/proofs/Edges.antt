@@ -25,11 +25,12 @@ use Rattle.driver_model.specs.Lines.{IsWithin, has_waiting}
 use Rattle.driver_model.specs.Steps.{own_after, scheduling, silently}
 use Rattle.grant_enter.specs.Homes.{Homes, nobody, own_of}
 use Rattle.kernel_model.specs.Record.{Record}
-use Rattle.kernel_model.specs.Turn.{edge_known}
+use Rattle.kernel_model.specs.Parts.{edge_known}
 use Rattle.kernel_model.specs.Shown.{shown_by}
 use Rattle.kernel_model.specs.Laws.{DevicesAnswerOne, edge_heard}
-use Rattle.kernel_model.specs.World.{Devices, Stepped, World, acting_on, arrived, coming_in, device_step_of, done}
-use Rattle.kernel_model.specs.World.{slot_of_name}
+use Rattle.kernel_model.specs.World.{Devices, Stepped, World, arrived, coming_in, device_step_of, done}
+use Rattle.kernel_model.specs.Parts.{acting_on}
+use Rattle.kernel_model.specs.Parts.{slot_of_name}
 use Rattle.alarm_capsule.specs.Times.{AllTell, Tells}
 use Rattle.alarm_capsule.proofs.KeptTimes.{same_tells}
 use Rattle.board_drivers.specs.declared.drivers.Drivers.{Drivers}

@@ -8,7 +8,8 @@ use Rattle.tk_base.specs.Bits.{bits_of}
 use Rattle.driver_model.specs.Leds.{lit_after, lit_by}
 use Rattle.driver_requests.specs.Waiting.{after_act, queue_after, without}
 use Rattle.kernel_model.specs.World as world
-use Rattle.kernel_model.specs.World.{Devices, acted, routed, slots_in}
+use Rattle.kernel_model.specs.World.{Devices, acted, routed}
+use Rattle.kernel_model.specs.Named.{slots_in}
 use Rattle.board_devices.specs.Storage.{StoredSlots}
 use Rattle.board_drivers.specs.declared.drivers.Drivers.{Drivers}
 use Rattle.board_drivers.specs.Driven.{Drives, devices_of, ids_waiting_in, slots_of, waiting_by}

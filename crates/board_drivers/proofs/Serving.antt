@@ -20,7 +20,8 @@ use Rattle.tk_base.specs.declared.process.ProcessId.{ProcessId}
 use Rattle.board_devices.specs.declared.answer.Answer.{Answer}
 use Rattle.tk_base.specs.declared.process.NotReady.{NotReady}
 use Rattle.board_devices.specs.Clock.{clock_at}
-use Rattle.board_devices.specs.SerialLine.{SerialLine, line_at, no_line}
+use Rattle.board_devices.specs.SerialLine.{SerialLine, line_at}
+use Rattle.board_devices.specs.Parts.{no_line}
 use Rattle.board_devices.specs.Storage.{StoredSlots, is_fault, with_served}
 use Rattle.tk_outside.specs.Count.{counted}
 use Rattle.process_model.specs.Flash.{HasObject, ReadsOwnFlash, flash_byte, object_byte, object_in}
@@ -52,11 +53,16 @@ use Rattle.console_capsule.specs.Answers.{cannot_give, cannot_send, received_by,
 use Rattle.grant_enter.specs.Homes.{Homes, ChangesOnly, nobody, own_of}
 use Rattle.kernel_model.specs.declared.settings.Settings.{Settings}
 use Rattle.kernel_model.specs.Record.{Record, record_with_step}
-use Rattle.kernel_model.specs.Turn.{Event, Alarmed, Taken, WriteDone, Input, Stored, apply, flash_of}
-use Rattle.kernel_model.specs.Turn.{written_over}
+use Rattle.kernel_model.specs.Turn.{Event, Alarmed, Taken, WriteDone, Input, Stored, apply}
+use Rattle.kernel_model.specs.Record.{flash_of}
+use Rattle.kernel_model.specs.Parts.{written_over}
+use Rattle.kernel_alarms.specs.Acting.{leaves_alarm}
 use Rattle.kernel_model.specs.Laws.{queue_after_answer}
-use Rattle.kernel_model.specs.World.{drawn_event, DeviceAnswer, Devices, World, alarmed, answering, can_act, random_step}
-use Rattle.kernel_model.specs.World.{WaitingSlots, is_waited_for, lane_by, may_serve, owns_in}
+use Rattle.kernel_model.specs.World.{DeviceAnswer, Devices, World, answering, can_act, random_step}
+use Rattle.kernel_model.specs.Parts.{drawn_event, alarmed}
+use Rattle.kernel_model.specs.World.{WaitingSlots, may_serve, owns_in}
+use Rattle.kernel_model.specs.Named.{lane_by}
+use Rattle.kernel_model.specs.Parts.{is_waited_for}
 use Rattle.kernel_model.specs.World.{receive_step, serving, storing, transmitting}
 use Rattle.board_drivers.specs.declared.drivers.Drivers.{Drivers}
 use Rattle.board_drivers.specs.Calm.{only_of}
@@ -92,10 +98,10 @@ first_deed : (deed : ℕ → Record → DeviceAnswer) (w : World) (only : Option
     → after queue ≡ waiting_still (queue_left_by here completed queue) id.slot (before queue))
     → deed id.slot r ≡ shown (waiting_by (λ queue. if is_same here queue
     then queue_after_answer completed id.slot (slots_of (before queue)) else slots_of (before queue)))
-    → serving w deed (slice_get (may_serve only (slots_of (before here))) 0)
+    → serving w.records deed (slice_get (may_serve only (slots_of (before here))) 0)
     ≡ Some (answering id.slot (shown (waiting_by (λ queue. slots_of (after queue)))))
 first_deed deed w only here before after id r completed shown e f left does =
-    ap (serving w deed) (first_slot only (before here) ∙ ap (option_map (λ (x : ProcessId). x.slot)) e)
+    ap (serving w.records deed) (first_slot only (before here) ∙ ap (option_map (λ (x : ProcessId). x.slot)) e)
     ∙ ap (option_map (λ (x : Record). answering id.slot (deed id.slot x))) f
     ∙ ap (λ (a : DeviceAnswer). Some (answering id.slot a)) (does ∙ sym (ap shown lists))
   where
@@ -322,6 +328,15 @@ in_its_life life own there gone is = ap (λ (b : Bool). if b then there else gon
 abbrev telling : Event → List ℕ → Devices → DeviceAnswer
 telling event printed devices = record { answer = record { event = event; printed = printed }; devices = devices }
 
+-- what the UART tells of a write, and the source of a word, leaves an alarm
+sent_leaves : (done : Bool) → leaves_alarm (if done then WriteDone else Taken) ≡ true
+sent_leaves true = refl
+sent_leaves false = refl
+
+drawn_leaves : (drawn : Option ℕ) → leaves_alarm (drawn_event drawn) ≡ true
+drawn_leaves None = refl
+drawn_leaves (Some word) = refl
+
 -- what is then its own, as an event tells
 sent_applied : (settings : Settings) (done : Bool) (r : Record) (step : DriverStep)
     → step ≡ (if done then write_done r.own else taken r.own)
@@ -419,6 +434,7 @@ serves_sent b h lines events law lent id is_there first =
       bytes = bytes_of b.drivers.stores.slots id.slot;
       stores = stores_stay b h id is_there;
       event = if s.completed then WriteDone else Taken;
+      leaves = λ other. sent_leaves s.completed;
       deed = first_deed (transmitting (lane_on b) b.moment.time (devices_of b.drivers)) (world_shown b) (only_on b)
           Writes (ids_waiting_in b.drivers) (ids_waiting_in ((sends b).after
           (waiting_still s.completed id.slot b.drivers.console.writes) (record { items = s.printed }))) id r
@@ -477,6 +493,7 @@ serves_received b h lines events id is_there first =
       bytes = bytes_of b.drivers.stores.slots id.slot;
       stores = stores_stay b h id is_there;
       event = Input s.moved;
+      leaves = λ other. refl;
       deed = first_deed (receive_step (lane_on b) (devices_of b.drivers)) (world_shown b) (only_on b) Reads
           (ids_waiting_in b.drivers) (ids_waiting_in ((receives b).after
           (waiting_still s.completed id.slot b.drivers.console.reads)
@@ -535,6 +552,7 @@ serves_drawn b h lines events id is_there first =
       bytes = bytes_of b.drivers.stores.slots id.slot;
       stores = stores_stay b h id is_there;
       event = drawn_event s.drawn;
+      leaves = λ other. drawn_leaves s.drawn;
       deed = first_deed (random_step (lane_on b) (devices_of b.drivers)) (world_shown b) (only_on b) Randoms
           (ids_waiting_in b.drivers) (ids_waiting_in ((draws b).after
           (waiting_still s.completed id.slot b.drivers.random.waiting) (random.words_after s.drawn words))) id r
@@ -677,6 +695,7 @@ serves_stored b h lines law lent id is_there first =
             slots_after s id.slot a.completed a.written (not_written fails (flash_of r) bytes own);
       };
       event = Stored (not fails);
+      leaves = λ other. refl;
       deed = first_deed (storing lane (devices_of b.drivers)) (world_shown b) (only_on b) Stores
           (ids_waiting_in b.drivers) (ids_waiting_in ((stores b).after
           (waiting_still a.completed id.slot b.drivers.storage.waiting) s')) id r
@@ -727,7 +746,8 @@ serves_alarmed b h id is_there lines due =
       bytes = bytes_of b.drivers.stores.slots id.slot;
       stores = stores_stay b h id is_there;
       event = Alarmed now;
-      deed = ap (serving (world_shown b) (λ slot r. alarmed b.moment.settings b.moment.time (devices_of b.drivers))) due
+      leaves = λ other. absurd (false≢true (sym other));
+      deed = ap (serving (world_shown b).records (λ slot r. alarmed b.moment.settings b.moment.time (devices_of b.drivers))) due
           ∙ ap (option_map (λ (r : Record). answering id.slot
           (alarmed b.moment.settings b.moment.time (devices_of b.drivers)))) (its_record_was b h id is_there);
       tells = alarm_applied b.moment.settings now (its_record b h id is_there);

@@ -7,7 +7,9 @@ use Rattle.std.proofs.lemmas.Bool.Decides.{nat_tests}
 use Rattle.tk_base.specs.declared.limits.TheConstants.{SLOT_COUNT}
 use Rattle.tk_base.specs.declared.process.ProcessId.{ProcessId}
 use Rattle.partition_turns.specs.Windows.{window_slot}
-use Rattle.kernel_model.specs.World.{is_waited_for, lane_by, lane_count, may_serve, only_at}
+use Rattle.kernel_model.specs.World.{lane_count, may_serve, only_at}
+use Rattle.kernel_model.specs.Named.{lane_by}
+use Rattle.kernel_model.specs.Parts.{is_waited_for}
 use Rattle.driver_requests.specs.Waiting.{first_of}
 use Rattle.board_drivers.specs.Driven.{slots_of}
 

@@ -46,7 +46,12 @@ waiting_by slots =
 -- the devices that the drivers show
 abbrev pub devices_of : Drivers → Devices
 devices_of d = record {
-  waiting = waiting_by (λ queue. slots_of (ids_waiting_in d queue));
+  waiting = record {
+    writes = slots_of d.console.writes;
+    reads = slots_of d.console.reads;
+    randoms = slots_of d.random.waiting;
+    stores = slots_of d.storage.waiting;
+  };
   leds = bits_of d.leds;
   lines = d.uarts;
   arrivals = d.arrivals;

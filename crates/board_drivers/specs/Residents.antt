@@ -12,7 +12,6 @@ use Rattle.kernel_model.specs.Record.{Record}
 use Rattle.upcall_queue.specs.Pending.{due}
 use Rattle.kernel_model.specs.Turn.{has_turn}
 use Rattle.process_model.specs.Flash.{object_in}
-use Rattle.kernel_calls.specs.Own.{record_in}
 use Rattle.process_restart.specs.Own.{IsOwn}
 use Rattle.tk_base.specs.declared.process.ProcessId.{ProcessId}
 
@@ -20,9 +19,10 @@ use Rattle.tk_base.specs.declared.process.ProcessId.{ProcessId}
 abbrev pub Resident : Type 0
 Resident = Process × Own
 
--- the record that it shows, with its storage, where buttons of a mask are pressed
-abbrev pub record_of : List ℕ → ℕ → Resident × List ℕ → Record
-record_of flash pressed r = record_in flash r.0.0 r.0.1 (record { storage = r.1; pressed = pressed })
+-- the record that it shows, with its storage, where buttons of a mask are pressed: its object is in flash
+abbrev pub record_of : List ℕ → ℕ → (Process × Own) × List ℕ → Record
+record_of flash pressed r =
+    record { process = r.0.0; object = object_in flash r.0.0.object; own = r.0.1; storage = r.1; pressed = pressed }
 
 -- the process in a slot, with what is its own
 abbrev pub resident : Homes → ℕ → Process → Resident

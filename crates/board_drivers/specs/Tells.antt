@@ -18,6 +18,7 @@ use Rattle.driver_model.specs.Steps.{own_after}
 use Rattle.driver_requests.specs.Waiting.{waiting_still}
 use Rattle.grant_enter.specs.Homes.{Homes, ChangesOnly, own_of}
 use Rattle.kernel_model.specs.Turn.{Event, apply}
+use Rattle.kernel_alarms.specs.Acting.{leaves_alarm}
 use Rattle.kernel_model.specs.World.{answering, can_act, device_step_of}
 use Rattle.board_drivers.specs.declared.drivers.Drivers.{Drivers}
 use Rattle.board_drivers.specs.declared.moment.Moment.{Moment}
@@ -34,6 +35,11 @@ tells_one Uart = true
 tells_one Receive = true
 tells_one Random = true
 tells_one Store = true
+
+-- whether a device is the alarm, which may change what its process keeps for it
+abbrev pub is_alarm : Dev → Bool
+is_alarm Alarm = true
+is_alarm other = false
 
 -- the UART takes as long for a byte as it may, and is free soon, in each lane, of which there are as many
 pub record IsFreeSoon (time : ℕ) (old new : List SerialLine) : Type 0 where
@@ -63,6 +69,7 @@ pub record DeviceServes (b : BoardParts) (process : Process) (device : Dev) (slo
   pub bytes : List ℕ
   pub stores : HoldsFor b.moment.steps slot bytes b.drivers.stores d.stores
   pub event : Event
+  pub leaves : is_alarm device ≡ false → leaves_alarm event ≡ true
   pub deed : device_step_of (world_shown b) device ≡ Some (answering slot (record {
     answer = record { event = event; printed = printed };
     devices = devices_of d;

@@ -7,6 +7,7 @@ ghost use Rattle.grant_enter.specs.Homes.{own_of, ChangesOnly};
 ghost use Rattle.grant_enter.specs.Visits.{is_stale};
 ghost use Rattle.kernel_model.specs.World.{can_act_at, lane_count, sending_time};
 ghost use Rattle.tk_base.specs.declared.process.Dev.TheVariants.{Receive};
+ghost use Rattle.board_drivers.specs.Calm.{AlarmsTell};
 ghost use Rattle.board_drivers.specs.Residents.{HasLost};
 ghost use Rattle.board_drivers.specs.Tells.{Acts, Arrives, tells_one};
 ghost use Rattle.tk_base.specs.declared.limits.TheConstants.{SLOT_COUNT, STEP_LIMIT};
@@ -15,7 +16,7 @@ ghost use Rattle.board_drivers.specs.Driven.{MayAsk, devices_of};
 
 use crate::moment::Moment;
 use crate::served::Served;
-use alarm_capsule::AlarmCapsule;
+use alarm_capsule::{AlarmCapsule, AlarmTimes};
 use arrayvec::ArrayVec;
 use board_devices::{Answer, Arrivals, Buttons, Leds, Stores, Uarts, WordLanes};
 use console_capsule::ConsoleCapsule;
@@ -188,6 +189,41 @@ impl Drivers {
             Dev::Receive => self.console.receive(home, self.uarts.at(lane), only),
             Dev::Random => self.random.answer(home, self.words.at(lane), only),
             Dev::Store => self.storage.answer(home, &mut self.stores, only),
+        }
+    }
+
+    /// Has a device act as [`Drivers::act`] does, with the times that are kept of the alarms: the
+    /// one that is due is found by them.
+    #[inline(always)]
+    pub fn act_by(
+        &mut self,
+        home: &mut Home,
+        alarms: &AlarmTimes,
+        device: Dev,
+        moment: &Moment,
+        printed: &mut ArrayVec<u8, PRINT_LIMIT>,
+    ) -> Result<Answer, NotReady>
+        requires tells { tells_one device ≡ true }
+        requires alarms { AlarmsTell moment.now alarms.now home.old.owns }
+        requires driven { AreDriven moment.now.settings moment.now.time home.old.owns self.old }
+        requires lanes { HasLanes moment.now.window self.old }
+        requires lost { All (HasLost moment.now.steps) home.old.owns }
+        requires limit { moment.now.steps < STEP_LIMIT }
+        requires time { moment.now.time ≤ moment.now.steps * 2 ^ 32 }
+        requires empty { printed.old.items ≡ [] }
+        ensures { Acts device moment.now home.old self.old result printed.new.items home.new
+            self.new }
+    {
+        a_due_slot_is_there();
+        lines_follow_answers();
+        match device {
+            Dev::Alarm => {
+                let only = moment.served().only();
+                AlarmCapsule.answer_by(home, alarms, moment.tick(), moment.time, only)
+            }
+            Dev::Event | Dev::Uart | Dev::Receive | Dev::Random | Dev::Store => {
+                self.act(home, device, moment, printed)
+            }
         }
     }
 

@@ -5,7 +5,8 @@ ghost use Rattle.std.specs.Option.{option_map};
 ghost use Rattle.tk_base.specs.declared.limits.TheConstants.{SENDING_LIMIT, STEP_LIMIT};
 ghost use Rattle.board_devices.specs.Arriving.{first_arrival_time};
 ghost use Rattle.board_devices.specs.Clock.{clock_at};
-ghost use Rattle.kernel_model.specs.World.{lane_by, lane_count};
+ghost use Rattle.kernel_model.specs.World.{lane_count};
+ghost use Rattle.kernel_model.specs.Named.{lane_by};
 ghost use Rattle.board_drivers.specs.Calm.{AlarmsTell, HasCome, IsCalm, ServesNobody};
 ghost use Rattle.board_drivers.specs.Calm.{due_time_for, end_of, only_of, work_for, work_in};
 ghost use Rattle.board_drivers.specs.Driven.{AreFreeSoon, devices_of};
@@ -44,6 +45,7 @@ fn has_come(at: Option<u64>, time: u64) -> bool
 
 impl Moment {
     /// Whom device steps serve: with time partitions the slot alone whose window it is.
+    #[inline(always)]
     pub fn served(&self) -> Served
         ensures only { result.only ≡ only_of self.now }
         ensures lane { lane_by result.only < lane_count self.now.window }

@@ -1,6 +1,7 @@
 //! Whom device steps serve.
 ghost use Rattle.std.specs.Prelude.{◌≡◌};
-ghost use Rattle.kernel_model.specs.World.{is_let, lane_by};
+ghost use Rattle.kernel_model.specs.World.{is_let};
+ghost use Rattle.kernel_model.specs.Named.{lane_by};
 
 use tk_base::Slot;
 
@@ -12,6 +13,7 @@ pub struct Served {
 
 impl Served {
     /// The one slot that is served, if it is one alone.
+    #[inline(always)]
     pub fn only(&self) -> Option<Slot>
         ensures { result ≡ self.now.only }
     {
@@ -20,6 +22,7 @@ impl Served {
 
     /// The lane by which devices serve: the one that there is, or that of the slot that alone is
     /// served.
+    #[inline(always)]
     pub fn lane(&self) -> usize
         ensures { result ≡ lane_by self.now.only }
     {
@@ -30,6 +33,7 @@ impl Served {
     }
 
     /// Whether a slot is served.
+    #[inline(always)]
     pub fn serves(&self, slot: Slot) -> bool
         ensures { result ≡ is_let self.now.only slot }
     {

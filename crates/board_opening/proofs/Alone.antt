@@ -13,9 +13,12 @@ use Rattle.tbf_headers.specs.declared.program.Main.{Main}
 use Rattle.tbf_headers.specs.Meaning.{Meaning, header_reading}
 use Rattle.process_layout.specs.LayoutView.{LayoutView}
 use Rattle.flash_walk.specs.Image.{ends_at, found_at, object_bytes, objects_from, size_at, verdict_of}
-use Rattle.app_placement.specs.Applications.{application, application_in, application_of, applications, is_app}
-use Rattle.app_placement.specs.Placement.{block_length, block_start, extents, filled_after, is_start_taken, place_of}
-use Rattle.app_placement.specs.Placement.{places_from, room_of, Place}
+use Rattle.app_placement.specs.Applications.{application, application_of, applications, is_app}
+use Rattle.app_placement.specs.Parts.{application_in}
+use Rattle.app_placement.specs.Placement.{block_length, extents, filled_after, is_start_taken, place_of}
+use Rattle.app_placement.specs.Parts.{block_start}
+use Rattle.app_placement.specs.Placement.{places_from, room_of}
+use Rattle.app_placement.specs.Parts.{Place}
 use Rattle.app_placement.specs.declared.application.Application.{Application}
 use Rattle.app_placement.specs.declared.placed.Filled.{Filled}
 use Rattle.kernel_model.specs.Record.{Record}
@@ -23,10 +26,12 @@ use Rattle.kernel_model.specs.Replay.{RecordIsReplay, RoundFollowsChoices, SameH
 use Rattle.kernel_model.specs.Replay.{replay}
 use Rattle.kernel_model.specs.World.{World, after}
 use Rattle.board_opening.specs.Alone.{IsFirstAlone, IsReplayed, OpeningsAreAlone, RunsAreAlone, SameViewSameRecord}
-use Rattle.board_opening.specs.Alone.{extents_of, first_alone, first_by}
+use Rattle.board_opening.specs.Alone.{extents_of, first_alone}
+use Rattle.board_opening.specs.Parts.{first_by}
 use Rattle.board_opening.specs.Settings.{is_partitioned}
-use Rattle.board_opening.specs.Opening.{first_record, opening_record, opened_by, opening, record_placed}
-use Rattle.board_opening.specs.Opening.{record_with_place}
+use Rattle.board_opening.specs.Opening.{first_record, opening_record, opening, record_placed}
+use Rattle.board_opening.specs.Parts.{opened_by}
+use Rattle.board_opening.specs.Parts.{record_with_place}
 use Rattle.board_opening.proofs.Openings.{with_first}
 
 module _ (flash : List ℕ) where
@@ -60,7 +65,7 @@ module _ (flash : List ℕ) where
         later,
       )
 
-  asked_from : (n at : ℕ) → AllByRecursion IsAsked (filter_map (application_of flash) (objects_from n flash at))
+  pub asked_from : (n at : ℕ) → AllByRecursion IsAsked (filter_map (application_of flash) (objects_from n flash at))
   unfolding objects_from
   asked_from zero at = tt
   asked_from (suc n) at = by_end (ends_at flash at) (asked_from n (at + size_at flash at))

@@ -19,14 +19,18 @@ use Rattle.tbf_headers.specs.Meaning.{Meaning, header_reading}
 use Rattle.process_layout.specs.LayoutView.{LayoutView, first_break}
 use Rattle.flash_walk.specs.Image.{ends_at, found_at, object_bytes, objects_from, size_at}
 use Rattle.script_text.specs.Settings.{ScriptSettings as Script}
-use Rattle.app_placement.specs.Applications.{application, application_in, application_of, applications, is_app}
-use Rattle.app_placement.specs.Placement.{block_length, block_start, extents, filled_after, is_start_taken, place_of}
-use Rattle.app_placement.specs.Placement.{places_from, room_of, Place}
+use Rattle.app_placement.specs.Applications.{application, application_of, applications, is_app}
+use Rattle.app_placement.specs.Parts.{application_in}
+use Rattle.app_placement.specs.Placement.{block_length, extents, filled_after, is_start_taken, place_of}
+use Rattle.app_placement.specs.Parts.{block_start}
+use Rattle.app_placement.specs.Placement.{places_from, room_of}
+use Rattle.app_placement.specs.Parts.{Place}
 use Rattle.app_placement.specs.declared.application.Application.{Application}
 use Rattle.app_placement.specs.declared.placed.Filled.{Filled}
 use Rattle.app_placement.specs.declared.placed.Room.{Room}
 use Rattle.kernel_model.specs.Record.{Record}
-use Rattle.kernel_model.specs.Calls.{restart, restarted_by, restarted_main}
+use Rattle.kernel_model.specs.Calls.{restart}
+use Rattle.kernel_model.specs.Parts.{restarted_by, restarted_main}
 use Rattle.tbf_headers.specs.Meaning.{main_by}
 use Rattle.kernel_lives.specs.Counts.{CountsAddUp, WaitingAreThere, turns_of_all}
 use Rattle.driver_model.specs.Commands.{QueueName}
@@ -43,7 +47,8 @@ use Rattle.kernel_model.specs.Replay.{after_all}
 use Rattle.kernel_histories.specs.Drops.{DropsAddUp, drops_of}
 use Rattle.board_opening.specs.Certified.{CountsFromBootAddUp, DropsFromBootAddUp}
 use Rattle.board_opening.specs.Settings.{is_partitioned}
-use Rattle.board_opening.specs.Opening.{opening_record, opened_by, opening, record_placed, record_with_place}
+use Rattle.board_opening.specs.Opening.{opening_record, opening, record_placed}
+use Rattle.board_opening.specs.Parts.{opened_by, record_with_place}
 
 -- an application asks for what its object says
 abbrev IsAsked : List ℕ → Application → Type 0

@@ -20,7 +20,8 @@ use Rattle.tbf_headers.specs.declared.fault.HeaderFault.{HeaderFault}
 use Rattle.tbf_headers.specs.declared.fault.HeaderFault.TheVariants.{Short, Version, Sizes, Checksum}
 use Rattle.tbf_headers.specs.declared.program.Main.{Main}
 use Rattle.tbf_headers.specs.Addresses.{entry_of, after_protected, accessible_start, accessible_end_of}
-use Rattle.tbf_headers.specs.Meaning.{Meaning, header_reading, meaning_of, unless_bad}
+use Rattle.tbf_headers.specs.Meaning.{Meaning, header_reading, meaning_of}
+use Rattle.tbf_headers.specs.Parts.{unless_bad}
 use Rattle.tbf_headers.specs.Objects.{object_at}
 use Rattle.process_layout.specs.LayoutView.{LayoutView, first_break}
 use Rattle.process_layout.specs.Bounds.{bounds_of}
@@ -28,12 +29,15 @@ use Rattle.process_layout.specs.Ordered.{IsOrdered}
 use Rattle.process_model.specs.declared.place.Footprint.{Footprint}
 use Rattle.process_model.specs.Own.{Own, opened as own_opened}
 use Rattle.flash_walk.specs.declared.found.Verdict.TheVariants.{Disabled, BadEntry, WrongFlash, App}
-use Rattle.flash_walk.specs.Image.{object_bytes, size_at, verdict_of, object_verdict, app_verdict, has_bad_entry}
-use Rattle.flash_walk.specs.Image.{is_bad_binary_end, is_wrong_flash, is_outside_flash}
+use Rattle.flash_walk.specs.Image.{object_bytes, size_at, verdict_of, app_verdict, has_bad_entry}
+use Rattle.flash_walk.specs.Parts.{object_verdict}
+use Rattle.flash_walk.specs.Parts.{is_bad_binary_end, is_wrong_flash, is_outside_flash}
 use Rattle.app_placement.specs.declared.placed.Placed.{Placed}
-use Rattle.app_placement.specs.Applications.{application, application_in}
+use Rattle.app_placement.specs.Applications.{application}
+use Rattle.app_placement.specs.Parts.{application_in}
 use Rattle.app_placement.specs.Placement.{extents, IsAccessible, IsLaidOut, LiesBefore, LiesInFlash, LiesInRam}
-use Rattle.app_placement.specs.Placement.{is_placed, Place}
+use Rattle.app_placement.specs.Placement.{is_placed}
+use Rattle.app_placement.specs.Parts.{Place}
 use Rattle.process_record.specs.declared.process.Process.{Process}
 use Rattle.process_record.specs.Summary.{Unplaced}
 use Rattle.process_record.specs.Process.{started}
@@ -49,11 +53,13 @@ use Rattle.board_drivers.specs.Driven.{AreFresh, devices_of}
 use Rattle.board_opening.proofs.Fresh.{devices_fresh, records_fresh}
 use Rattle.board_opening.specs.declared.boot.LoadedProcesses.{LoadedProcesses}
 use Rattle.board_opening.specs.Boot.{IsCrew, IsFirst, footprint_of, fresh_record, layout_at, layout_in}
-use Rattle.board_opening.specs.Opening.{opening_record, opened_by, record_placed, record_with_place, unplaced_at}
+use Rattle.board_opening.specs.Opening.{opening_record, record_placed, unplaced_at}
+use Rattle.board_opening.specs.Parts.{opened_by, record_with_place}
 use Rattle.board_opening.specs.Opening.{placed_applications, opening}
 use Rattle.board_drivers.specs.Residents.{IsResident, record_of}
 use Rattle.kernel_model.specs.declared.settings.Settings.{Settings}
-use Rattle.board_opening.specs.Settings.{erased, is_partitioned, pace, visible_settings}
+use Rattle.board_opening.specs.Settings.{is_partitioned, visible_settings}
+use Rattle.board_opening.specs.Parts.{erased, pace}
 use Rattle.board_drivers.proofs.Pairs.{zip-more, length-firsts}
 
 -- a byte of an object is one of flash

@@ -22,7 +22,8 @@ use Rattle.board_opening.specs.Boot.{fresh_record}
 use Rattle.board_drivers.specs.Driven.{AreDriven, AreFresh, HasLanes, IsQueueOf, devices_of, ids_waiting_in, slots_of, waiting_by}
 use Rattle.board_drivers.proofs.Routing.{devices_same, slots_by}
 use Rattle.board_drivers.specs.Residents.{Resident, record_of}
-use Rattle.board_opening.specs.Settings.{erased, visible_settings}
+use Rattle.board_opening.specs.Settings.{visible_settings}
+use Rattle.board_opening.specs.Parts.{erased}
 
 -- what holds of one holds of as many of it as may be
 pub all_same : {X : Type 0} (P : X → Type 0) (n : ℕ) (x : X) → P x → All P (replicate n x)

@@ -15,7 +15,8 @@ use Rattle.tk_base.specs.declared.access.TheConstants.{RAM_START}
 use Rattle.tk_base.specs.declared.process.PlaceFault.TheVariants.{NoSlot}
 use Rattle.script_text.specs.Settings.{ScriptSettings as Script}
 use Rattle.app_placement.specs.Applications.{applications}
-use Rattle.app_placement.specs.Placement.{filled_after, place_of, places_from, Place}
+use Rattle.app_placement.specs.Placement.{filled_after, place_of, places_from}
+use Rattle.app_placement.specs.Parts.{Place}
 use Rattle.app_placement.specs.declared.application.Application.{Application}
 use Rattle.app_placement.specs.declared.placed.Filled.{Filled}
 use Rattle.app_placement.specs.declared.placed.Placed.{Placed}
@@ -23,8 +24,9 @@ use Rattle.kernel_model.specs.Record.{Record}
 use Rattle.tbf_headers.specs.Meaning.{main_by}
 use Rattle.kernel_model.specs.Histories.{HandedNothing}
 use Rattle.board_opening.specs.Settings.{is_partitioned}
-use Rattle.board_opening.specs.Opening.{opening_record, opened_by, opening, placed_applications, record_placed}
-use Rattle.board_opening.specs.Opening.{record_with_place}
+use Rattle.board_opening.specs.Opening.{opening_record, opening, placed_applications, record_placed}
+use Rattle.board_opening.specs.Parts.{opened_by}
+use Rattle.board_opening.specs.Parts.{record_with_place}
 use Rattle.board_opening.specs.Histories.{OpensWithNothingHanded}
 
 -- what holds of each record holds with one more before them

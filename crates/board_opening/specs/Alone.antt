@@ -1,11 +1,10 @@
 -- A process alone: its first record by what it can see, and what becomes of it by what happens to it. No other process,
 -- no slot and no flash but its object occurs here. Processes are isolated as in Levy et al., SOSP 2017.
-use Rattle.std.specs.Prelude.{◌≡◌, ℕ, ◌+◌, List, slice_get, Option, None, Some, option_map, IfSome, Result, Ok, Err}
+use Rattle.std.specs.Prelude.{◌≡◌, ℕ, ◌+◌, List, slice_get, Option, Some, option_map, IfSome}
 use Rattle.tk_base.specs.declared.process.Choice.{Choice}
-use Rattle.tbf_headers.specs.declared.fault.HeaderFault.{HeaderFault}
 use Rattle.tbf_headers.specs.declared.program.Main.{Main}
 use Rattle.tbf_headers.specs.Addresses.{accessible_start, accessible_end_of}
-use Rattle.tbf_headers.specs.Meaning.{Meaning, header_reading}
+use Rattle.tbf_headers.specs.Meaning.{Meaning, header_reading, of_app}
 use Rattle.process_layout.specs.LayoutView.{LayoutView, extents_at_start}
 use Rattle.app_placement.specs.Placement.{block_length}
 use Rattle.script_text.specs.Settings.{ScriptSettings as Script}
@@ -29,15 +28,11 @@ extents_of address start h m =
     extents_at_start (accessible_start address h m) (accessible_end_of address h m) start
     (start + block_length m.minimum_ram) m.minimum_ram
 
--- the first record of an application by what its bytes mean, with so many bytes of storage
-abbrev pub first_by : ℕ → List ℕ → ℕ → ℕ → Result Meaning HeaderFault → Option Record
-first_by storage object address start (Ok h) =
-    option_map (λ m. first_record storage object address (extents_of address start h m) h m) h.main
-first_by storage object address start (Err fault) = None
-
--- by the bytes of its object, the object's address, and where its block starts
+-- the first record of an application by the bytes of its object, the object's address, and where its block starts, with
+-- so many bytes of storage
 abbrev pub first_alone : ℕ → List ℕ → ℕ → ℕ → Option Record
-first_alone storage object address start = first_by storage object address start (header_reading object)
+first_alone storage object address start =
+    of_app (λ h m. first_record storage object address (extents_of address start h m) h m) (header_reading object)
 
 -- what becomes of it under settings, by its own turns and by what devices answer it
 abbrev pub alone : Settings → List ℕ → ℕ → ℕ → List Event → Option Record

@@ -11,13 +11,13 @@ use Rattle.process_model.specs.declared.place.Footprint.{Footprint}
 use Rattle.process_model.specs.Own.{opened}
 use Rattle.process_record.specs.declared.process.Process.{Process}
 use Rattle.process_model.specs.Flash.{HasObject}
-use Rattle.app_placement.specs.Placement.{Place}
+use Rattle.app_placement.specs.Parts.{Place}
 use Rattle.app_placement.specs.declared.placed.Placed.{Placed}
 use Rattle.board_opening.specs.declared.boot.LoadedProcesses.{LoadedProcesses}
 use Rattle.kernel_model.specs.Record.{Record}
 use Rattle.board_opening.specs.Opening.{record_placed}
 use Rattle.board_drivers.specs.Residents.{IsResident, Resident, record_of}
-use Rattle.board_opening.specs.Settings.{erased}
+use Rattle.board_opening.specs.Parts.{erased}
 
 -- the application at an offset has this place
 abbrev pub at_offset : ℕ → Place → Placed

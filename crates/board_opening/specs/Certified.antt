@@ -4,7 +4,8 @@ use Rattle.std.specs.Prelude.{◌≡◌, ◌≢◌, ◌↔◌, ◌<◌, ℕ, ◌
 use Rattle.tk_base.specs.declared.process.Choice.{Choice}
 use Rattle.script_text.specs.Settings.{ScriptSettings as Script}
 use Rattle.kernel_model.specs.Record.{Record}
-use Rattle.kernel_model.specs.World.{World, Label, after, labels, lane_count, words_in}
+use Rattle.kernel_model.specs.World.{World, Label, after, labels, lane_count}
+use Rattle.kernel_model.specs.Named.{words_in}
 use Rattle.kernel_model.specs.Run.{next, round}
 use Rattle.kernel_model.specs.Accounts.{IsAccountedFor}
 use Rattle.kernel_model.specs.Choices.{Throughout, are_ready, labels_of_all}

@@ -1,23 +1,23 @@
 -- The opening world of a flash image under a script: its applications in their places, before the first step. Where
 -- they start is the Tock Binary Format, "Main"; what the devices begin with is this board's own rule.
-use Rattle.std.specs.Prelude.{ℕ, ◌+◌, ◌-◌, Bool, List, [], filter_map, replicate, Option, None, Some, option_map, Result, Ok, Err}
-use Rattle.tk_base.specs.declared.access.TheConstants.{FLASH_START}
-use Rattle.tk_base.specs.declared.process.PlaceFault.{PlaceFault}
-use Rattle.tbf_headers.specs.declared.fault.HeaderFault.{HeaderFault}
+use Rattle.std.specs.Prelude.{ℕ, ◌+◌, ◌-◌, Bool, List, [], filter_map, replicate, Option, None, option_and_then}
+use Rattle.std.specs.Prelude.{option_map}
+use Rattle.std.specs.Result.{result_ok, result_err}
+use Rattle.tk_base.specs.declared.access.TheConstants.{FLASH_START, RAM_START}
 use Rattle.tbf_headers.specs.declared.program.Main.{Main}
-use Rattle.tbf_headers.specs.Meaning.{Meaning, header_reading}
+use Rattle.tbf_headers.specs.Meaning.{Meaning, header_reading, of_app}
 use Rattle.process_layout.specs.LayoutView.{LayoutView}
 use Rattle.process_model.specs.Own as own
 use Rattle.flash_walk.specs.Image.{object_bytes}
 use Rattle.app_placement.specs.Applications.{applications}
-use Rattle.app_placement.specs.Placement.{placements, Place}
+use Rattle.app_placement.specs.Placement.{places_from}
 use Rattle.app_placement.specs.declared.placed.Placed.{Placed}
 use Rattle.process_record.specs.Process.{started}
 use Rattle.process_record.specs.Summary.{Unplaced}
 use Rattle.script_text.specs.Settings.{ScriptSettings as Script}
 use Rattle.kernel_model.specs.Record.{Record}
 use Rattle.kernel_model.specs.World.{World, lane_count}
-use Rattle.board_opening.specs.Settings.{erased, is_partitioned, pace, visible_settings}
+use Rattle.board_opening.specs.Settings.{is_partitioned, visible_settings}
 
 -- the first record of an application with these bytes, whose object stands at an address: at its start, its block
 -- zeroed, so many bytes of storage erased, and no button pressed
@@ -26,7 +26,7 @@ first_record storage object address e h m = record {
   process = started address h m e.start (e.end - e.start) e.brk;
   object = object;
   own = own.opened (record { object = record { address = address; size = h.total_size }; layout = e });
-  storage = erased storage;
+  storage = replicate storage 0xFF;
   pressed = 0;
 }
 
@@ -35,43 +35,33 @@ unfoldable pub opening_record : ℕ → List ℕ → ℕ → LayoutView → Mean
 opening_record storage flash offset e h m =
     first_record storage (object_bytes flash offset) (FLASH_START + offset) e h m
 
--- of one by what its header means; none where that has a fault, or says nothing of an entry
-abbrev pub opened_by : ℕ → List ℕ → ℕ → LayoutView → Result Meaning HeaderFault → Option Record
-opened_by storage flash offset e (Ok h) = option_map (opening_record storage flash offset e h) h.main
-opened_by storage flash offset e (Err fault) = None
-
--- the record of one that has a place
-abbrev pub record_with_place : ℕ → List ℕ → ℕ → Result Place PlaceFault → Option Record
-record_with_place storage flash offset (Ok place) =
-    opened_by storage flash offset place.1 (header_reading (object_bytes flash offset))
-record_with_place storage flash offset (Err fault) = None
-
--- the record of an application by what its placement came to, if it has a place
+-- the record of an application by what its placement came to, if it has a place and its header says where it starts
 abbrev pub record_placed : ℕ → List ℕ → Placed → Option Record
-record_placed storage flash p = record_with_place storage flash p.offset p.place
-
--- and one that has none
-abbrev pub unplaced_in : ℕ → Result Place PlaceFault → Option Unplaced
-unplaced_in offset (Ok place) = None
-unplaced_in offset (Err fault) = Some (offset, fault)
+record_placed storage flash p =
+    option_and_then (λ place.
+    of_app (opening_record storage flash p.offset place.1) (header_reading (object_bytes flash p.offset)))
+    (result_ok p.place)
 
 -- an application that has no place, with the cause
 abbrev pub unplaced_at : Placed → Option Unplaced
-unplaced_at p = unplaced_in p.offset p.place
+unplaced_at p = option_map (λ fault. (p.offset, fault)) (result_err p.place)
 
--- the places of the applications of a flash image, in so many bytes of RAM, with time partitions or without
+-- the places of the applications of a flash image, in so many bytes of RAM, with time partitions or without; none is
+-- placed at first
 abbrev pub placed_applications : Bool → ℕ → List ℕ → List Placed
-placed_applications partition ram flash = placements partition ram (applications flash)
+placed_applications partition ram flash =
+    places_from partition ram (record { last_end = RAM_START; count = 0 }) (applications flash)
 
--- the world before the first step: time and all counts are 0, nobody waits, all LEDs are off, nothing came in on any lane,
--- the words are left in each, and no slot is present
+-- the world before the first step: time and all counts are 0, nobody waits, all LEDs are off, nothing came in on any
+-- lane, the words are left in each, and no slot is present. The script says how many turns a slice has and how many
+-- ticks a window.
 unfoldable pub opening : Script → List ℕ → World
 opening script flash = record {
   records = filter_map (record_placed script.storage flash)
       (placed_applications (is_partitioned script) script.ram flash);
   unplaced = filter_map unplaced_at (placed_applications (is_partitioned script) script.ram flash);
   settings = visible_settings script;
-  pace = pace script;
+  pace = record { slice = script.slice; window = script.partition };
   devices = record {
     waiting = record { writes = []; reads = []; randoms = []; stores = [] };
     leds = 0;

@@ -1,8 +1,7 @@
 -- The settings of a board under a script. They are this board's own.
-use Rattle.std.specs.Prelude.{ℕ, ◌==◌, Bool, not, List, replicate}
+use Rattle.std.specs.Prelude.{◌==◌, Bool, not}
 use Rattle.script_text.specs.Settings.{ScriptSettings as Script}
 use Rattle.kernel_model.specs.declared.settings.Settings.{Settings}
-use Rattle.kernel_model.specs.World.{Pace}
 
 -- of what a script says processes can see how many LEDs and buttons there are, what the alarm's clock shows at time 0,
 -- how many bytes of storage a slot has, the policy for processes that fault, and whether an application without a
@@ -17,14 +16,6 @@ visible_settings script = record {
   strict = script.strict;
 }
 
--- slices of so many turns, and windows of so many ticks
-abbrev pub pace : Script → Pace
-pace script = record { slice = script.slice; window = script.partition }
-
 -- whether a script divides time and RAM among the slots
 abbrev pub is_partitioned : Script → Bool
 is_partitioned script = not (script.partition == 0)
-
--- so many bytes of storage that nobody wrote yet
-abbrev pub erased : ℕ → List ℕ
-erased size = replicate size 0xFF

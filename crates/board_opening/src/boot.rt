@@ -5,7 +5,8 @@ ghost use Rattle.tk_base.specs.declared.limits.TheConstants.{OBJECT_LIMIT, SLOT_
 ghost use Rattle.process_model.specs.Own.{opened};
 ghost use Rattle.app_placement.specs.Placement.{LiesBefore, LiesInFlash, LiesInRam, IsLaidOut};
 ghost use Rattle.app_placement.specs.Placement.{is_placed};
-ghost use Rattle.board_opening.specs.Opening.{placed_applications, record_with_place, unplaced_at};
+ghost use Rattle.board_opening.specs.Opening.{placed_applications, unplaced_at};
+ghost use Rattle.board_opening.specs.Parts.{record_with_place};
 ghost use Rattle.board_drivers.specs.Residents.{IsResident};
 ghost use Rattle.board_opening.specs.Boot.{at_offset, footprint_of, fresh_record, IsCrew, IsFirst};
 ghost use Rattle.board_opening.specs.Boot.{StartsInRam};

@@ -91,7 +91,7 @@ two_images law w script image slot shares = record {
   one_is = subst (λ (v : World). slice_get v.records slot ≡ Some shares.one) shares.opens shares.one_is;
   other = shares.other;
   other_is = shares.other_is;
-  same = shares.same;
+  same = record { object = shares.object; address = shares.address };
 }
 
 pub runs_are_partitioned : ScriptsWithPartitionsHaveNoActs → SameObjectSameTimes → SameObjectSameRecord

@@ -18,7 +18,7 @@ use Rattle.script_text.specs.declared.table.Line.TheVariants.{Partition, Press, 
 use Rattle.script_text.specs.declared.table.Line.TheVariants.{Start, Stop, Storage, StorageFault, Threshold, Uart}
 use Rattle.script_text.specs.Progress.{with_line}
 use Rattle.script_text.specs.Reading.{Fault, fault_of, faults, reading, unless_fault}
-use Rattle.script_text.specs.Rules.{breaks_rule, broken, context_of, disorders, is_unknown, skips}
+use Rattle.script_text.specs.Rules.{breaks_rule, broken, disorders, is_unknown, skips}
 use Rattle.script_text.specs.Said.{event_by, lines_of, settings}
 use Rattle.script_text.specs.Settings.{ScriptEvent, ScriptSettings as Script}
 use Rattle.script_text.specs.Table.{line_of}
@@ -66,7 +66,7 @@ one_event s e none before = λ some.
     All-append IsNoAct s.events (e ∷ []) (before some) (All-cons IsNoAct e [] none (All-nil IsNoAct))
 
 -- what one line more says
-with_one : (line : Line) (ws : List (List ℕ)) (s : Script) → is_unknown (context_of s) line ≡ false
+with_one : (line : Line) (ws : List (List ℕ)) (s : Script) → is_unknown (nat_lt 0 s.partition) line ≡ false
     → disorders line s ws ≡ false → ActsNowhere s → ActsNowhere (with_line line ws s)
 with_one Ram ws s known ordered before = before
 with_one Leds ws s known ordered before = before

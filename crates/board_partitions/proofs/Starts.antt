@@ -13,61 +13,22 @@ use Rattle.tbf_headers.specs.declared.fault.HeaderFault.{HeaderFault}
 use Rattle.tbf_headers.specs.declared.program.Main.{Main}
 use Rattle.tbf_headers.specs.Meaning.{Meaning, header_reading}
 use Rattle.flash_walk.specs.Image.{ends_at, found_at, object_bytes, objects_from, size_at, verdict_of}
-use Rattle.app_placement.specs.Applications.{application, application_in, application_of, applications, is_app}
-use Rattle.app_placement.specs.Placement.{Place, block_length, block_start, extents, filled_after, is_start_taken}
+use Rattle.app_placement.specs.Applications.{application, application_of, applications, is_app}
+use Rattle.app_placement.specs.Parts.{application_in}
+use Rattle.app_placement.specs.Placement.{block_length, extents, filled_after, is_start_taken}
+use Rattle.app_placement.specs.Parts.{Place, block_start}
 use Rattle.app_placement.specs.Placement.{place_of, places_from, share_start}
 use Rattle.app_placement.specs.declared.application.Application.{Application}
 use Rattle.app_placement.specs.declared.placed.Filled.{Filled}
 use Rattle.script_text.specs.Settings.{ScriptSettings as Script}
 use Rattle.kernel_model.specs.Record.{Record}
-use Rattle.board_opening.specs.Opening.{opened_by, opening, opening_record, record_placed, record_with_place}
+use Rattle.board_opening.specs.Opening.{opening, opening_record, record_placed}
+use Rattle.board_opening.specs.Parts.{opened_by, record_with_place}
 use Rattle.board_opening.specs.Settings.{is_partitioned}
+use Rattle.board_opening.proofs.Alone.{IsAsked, asked_from}
 use Rattle.board_partitions.specs.Boot.{BlocksStartWithTheirShares}
 
 module _ (flash : List ℕ) where
-  -- an application is what its object's header says
-  abbrev IsAsked : Application → Type 0
-  IsAsked app = application_in app.offset (header_reading (object_bytes flash app.offset)) ≡ Some app
-
-  same_offset : (at : ℕ) (r : Result Meaning HeaderFault) (app : Application) → application_in at r ≡ Some app
-      → app.offset ≡ at
-  same_offset at (Err fault) app e = cc
-  same_offset at (Ok h) app e = by_main h.main e
-    where
-      by_main : (o : Option Main) → option_map (application at h) o ≡ Some app → app.offset ≡ at
-      by_main None f = cc
-      by_main (Some m) f = let is : application at h m ≡ app = cc in sym (ap (λ (a : Application). a.offset) is)
-
-  asked_one : (at : ℕ) (rest : List Application) → AllByRecursion IsAsked rest
-      → AllByRecursion IsAsked (cons_option (application_of flash (found_at flash at)) rest)
-  unfolding found_at
-  asked_one at rest later =
-      by_app (is_app (verdict_of (FLASH_START + at) (header_reading (object_bytes flash at))))
-      (application_in at (header_reading (object_bytes flash at))) refl
-    where
-      by_app : (b : Bool) (o : Option Application) → application_in at (header_reading (object_bytes flash at)) ≡ o
-          → AllByRecursion IsAsked (cons_option (cond b o None) rest)
-      by_app false o e = later
-      by_app true None e = later
-      by_app true (Some app) e = (
-        subst (λ (k : ℕ). application_in k (header_reading (object_bytes flash k)) ≡ Some app)
-            (sym (same_offset at (header_reading (object_bytes flash at)) app e)) e,
-        later,
-      )
-
-  asked_from : (n at : ℕ) → AllByRecursion IsAsked (filter_map (application_of flash) (objects_from n flash at))
-  unfolding objects_from
-  asked_from zero at = tt
-  asked_from (suc n) at = by_end (ends_at flash at) (asked_from n (at + size_at flash at))
-    where
-      by_end : (b : Bool)
-          → AllByRecursion IsAsked (filter_map (application_of flash) (objects_from n flash (at + size_at flash at)))
-          → AllByRecursion IsAsked (filter_map (application_of flash)
-          (cond b [] (found_at flash at ∷ objects_from n flash (at + size_at flash at))))
-      by_end true later = tt
-      by_end false later =
-          asked_one at (filter_map (application_of flash) (objects_from n flash (at + size_at flash at))) later
-
   module _ (storage ram : ℕ) where
     -- one that is placed starts with the share of the next slot
     fixed_there : (from : ℕ) (fixed : Option ℕ) → is_start_taken true from fixed ≡ false → block_start from fixed ≡ from
@@ -106,7 +67,7 @@ module _ (flash : List ℕ) where
       is : o ≡ Some first
       start : first.own.layout.start ≡ place.1.start
 
-    opens_there : (app : Application) (place : Place) → IsAsked app
+    opens_there : (app : Application) (place : Place) → IsAsked flash app
         → Opens place (record_with_place storage flash app.offset (Ok place))
     unfolding opening_record
     opens_there app place asked = by_reading (header_reading (object_bytes flash app.offset)) asked
@@ -121,7 +82,7 @@ module _ (flash : List ℕ) where
         by_reading (Err fault) e = absurd (cc)
         by_reading (Ok h) e = by_main h h.main e
 
-    all_start : (apps : List Application) (filled : Filled) → AllByRecursion IsAsked apps → (i : ℕ)
+    all_start : (apps : List Application) (filled : Filled) → AllByRecursion (IsAsked flash) apps → (i : ℕ)
         → IfSome (slice_get (filter_map (record_placed storage flash) (places_from true ram filled apps)) i)
         (λ r. r.own.layout.start ≡ share_start ram (filled.count + i))
     unfolding places_from

@@ -70,7 +70,8 @@ pub record SharesObject (w : World) (script : Script) (image : List ℕ) (slot :
   pub one_is : slice_get w.records slot ≡ Some one
   pub other : Record
   pub other_is : slice_get (opening script image).records slot ≡ Some other
-  pub same : HaveSameObject one other
+  pub object : one.object ≡ other.object
+  pub address : one.process.object.address ≡ other.process.object.address
 
 -- A run of n steps from a world, beside a run of any length from the opening world of such another image: up to each
 -- time that both have reached, the same is told of the slot's process, at the same times; and where they first reach

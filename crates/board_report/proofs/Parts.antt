@@ -11,7 +11,8 @@ use Rattle.tk_outside.specs.Sink.{SinkFacts}
 use Rattle.tk_outside.specs.Writes.{WroteAll, WrotePart}
 use Rattle.tk_outside.specs.Laws.{WritesCompose}
 use Rattle.process_record.specs.declared.summary.SlotLine.{SlotLine}
-use Rattle.board_report.specs.Report.{slot_text, slot_texts, led_text, led_texts}
+use Rattle.board_report.specs.Report.{slot_text, slot_texts, led_text}
+use Rattle.board_report.specs.Parts.{led_texts}
 
 -- a piece failed after what stands before it was written
 pub part_between : {K : Type 0} {tells : K → SinkFacts} {a b c : K} {front piece : List ℕ} → WritesCompose tells

@@ -38,14 +38,8 @@ object_text flash f =
     ++ (codes " " ++ (verdict_text f.verdict
     ++ (codes " " ++ (name_text (name_of (object_at flash f.offset f.size)) ++ newline)))))))
 
--- the line of how many there are
-unfoldable pub count_text : ℕ → List ℕ
-count_text count = codes "objects " ++ (decimal count ++ newline)
-
--- the lines of objects of a flash image
-abbrev pub object_texts : List ℕ → List Found → List ℕ
-object_texts flash found = flat_map (object_text flash) found
-
--- the whole list, by the flash image alone
+-- the whole list, by the flash image alone: a line for each object, and the one of how many there are
 unfoldable pub list_text : List ℕ → List ℕ
-list_text flash = object_texts flash (objects flash) ++ count_text (length (objects flash))
+list_text flash =
+    flat_map (object_text flash) (objects flash)
+    ++ (codes "objects " ++ (decimal (length (objects flash)) ++ newline))

@@ -3,3 +3,4 @@ pub mod Report
 pub mod Trace
 pub mod Words
 pub mod OwnWords
+pub mod Parts

@@ -42,52 +42,33 @@ own_state_text (Terminated code) wait denial = codes "terminated " ++ decimal co
 abbrev pub state_text : Bool → State → Wait → Option Denial → List ℕ
 state_text held state wait denial = if held then codes "stopped" else own_state_text state wait denial
 
--- how many upcalls were dropped, where any was
-abbrev pub dropped_text : ℕ → List ℕ
-dropped_text dropped = if dropped == 0 then [] else codes " dropped " ++ decimal dropped
-
--- what comes before the state in a slot's line, and what comes after it
-abbrev pub slot_head : ℕ → SlotLine → List ℕ
-slot_head slot line = codes "slot " ++ (decimal slot ++ (codes " " ++ (name_text line.name.items ++ codes " ")))
-
--- how many turns a process had, and how often it was started again
-abbrev pub turns_text : SlotLine → List ℕ
-turns_text line = codes " turns " ++ (decimal line.turns ++ (codes " restarts " ++ decimal line.restarts))
-
--- the line of a slot
+-- the line of a slot: its process's name and state, how many turns it had, how often it was started again, and how many
+-- upcalls were dropped, where any was
 unfoldable pub slot_text : ℕ → SlotLine → List ℕ
 slot_text slot line =
-    slot_head slot line ++ (state_text line.held line.state line.wait line.denial
-    ++ (turns_text line ++ (dropped_text line.dropped ++ newline)))
+    (codes "slot " ++ (decimal slot ++ (codes " " ++ (name_text line.name.items ++ codes " "))))
+    ++ (state_text line.held line.state line.wait line.denial
+    ++ ((codes " turns " ++ (decimal line.turns ++ (codes " restarts " ++ decimal line.restarts)))
+    ++ ((if line.dropped == 0 then [] else codes " dropped " ++ decimal line.dropped) ++ newline)))
 
 -- the lines of the slots from one on
 abbrev pub slot_texts : ℕ → List SlotLine → List ℕ
 slot_texts slot [] = []
 slot_texts slot (line ∷ lines) = slot_text slot line ++ slot_texts (slot + 1) lines
 
--- the line of an application that was not placed
+-- the line of an application that has no place
 unfoldable pub unplaced_text : Unplaced → List ℕ
 unplaced_text u = codes "unplaced " ++ (decimal u.0 ++ (codes " " ++ (fault_text u.1 ++ newline)))
-
--- the lines of the applications that have no place
-abbrev pub unplaced_texts : List Unplaced → List ℕ
-unplaced_texts us = flat_map unplaced_text us
 
 -- LED n is on where bit n is 1
 abbrev pub led_text : ℕ → ℕ → ℕ
 led_text leds n = if leds / 2 ^ n % 2 == 1 then 49 else 48
 
--- the LEDs, LED 0 first
-abbrev pub led_texts : ℕ → ℕ → List ℕ
-led_texts leds count = map (led_text leds) (range_with_len 0 count)
-
--- the LEDs; `-` where there is none
-unfoldable pub led_list : ℕ → ℕ → List ℕ
-led_list leds count = if count == 0 then codes "-" else led_texts leds count
-
--- the line of the LEDs
+-- the line of the LEDs, LED 0 first; `-` where there is none
 unfoldable pub leds_text : ℕ → ℕ → List ℕ
-leds_text leds count = codes "leds " ++ (led_list leds count ++ newline)
+leds_text leds count =
+    codes "leds "
+    ++ ((if count == 0 then codes "-" else map (led_text leds) (range_with_len 0 count)) ++ newline)
 
 -- how the run ended: nothing was left to do, or the turns were made that were asked for
 abbrev pub end_words : End → List ℕ
@@ -103,5 +84,5 @@ end_line end steps time =
 -- the whole report
 unfoldable pub report_text : Summary → End → List ℕ
 report_text s end =
-    slot_texts 0 s.slots.items ++ (unplaced_texts s.unplaced.items
+    slot_texts 0 s.slots.items ++ (flat_map unplaced_text s.unplaced.items
     ++ (leds_text s.leds s.led_count ++ end_line end s.steps s.time))

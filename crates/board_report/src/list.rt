@@ -2,8 +2,10 @@
 ghost use Rattle.std.specs.Prelude.{◌≡◌, ◌≤◌, length, All};
 ghost use Rattle.tk_outside.specs.Writes.{Writes};
 ghost use Rattle.flash_walk.specs.Image.{objects, IsObject};
-ghost use Rattle.board_report.specs.FlashList.{bad_text, verdict_text, object_text, object_texts};
-ghost use Rattle.board_report.specs.FlashList.{count_text, list_text};
+ghost use Rattle.board_report.specs.FlashList.{bad_text, verdict_text, object_text};
+ghost use Rattle.board_report.specs.Parts.{object_texts};
+ghost use Rattle.board_report.specs.FlashList.{list_text};
+ghost use Rattle.board_report.specs.Parts.{count_text};
 
 use flash_walk::{Found, Verdict, objects_are_found};
 use itoa::Buffer;
@@ -79,7 +81,7 @@ fn write_objects<K: Sink>(out: &mut K, flash: &[u8], found: &[Found]) -> Result<
 }
 
 /// Writes how many objects there are.
-#[tactic(auto, unfolding(crate::specs::FlashList::count_text))]
+#[tactic(auto, unfolding(crate::specs::Parts::count_text))]
 fn write_count<K: Sink>(out: &mut K, count: usize) -> Result<(), Failed>
     ensures { Writes K.tells out.old out.new (count_text count) result }
 {

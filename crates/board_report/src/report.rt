@@ -4,10 +4,13 @@ ghost use Rattle.std.specs.Prelude.{◌≡◌, ◌++◌, codes, decimal};
 ghost use Rattle.tk_base.specs.declared.upcall.Wait.TheVariants.{For};
 ghost use Rattle.tk_outside.specs.Writes.{Writes};
 ghost use Rattle.board_report.specs.Words.{newline};
-ghost use Rattle.board_report.specs.Report.{denial_text, wait_text, state_text, dropped_text};
-ghost use Rattle.board_report.specs.Report.{slot_head};
-ghost use Rattle.board_report.specs.Report.{turns_text, slot_text, slot_texts, unplaced_text};
-ghost use Rattle.board_report.specs.Report.{unplaced_texts, led_text, led_texts, led_list};
+ghost use Rattle.board_report.specs.Report.{denial_text, wait_text, state_text};
+ghost use Rattle.board_report.specs.Parts.{dropped_text};
+ghost use Rattle.board_report.specs.Parts.{slot_head};
+ghost use Rattle.board_report.specs.Report.{slot_text, slot_texts, unplaced_text};
+ghost use Rattle.board_report.specs.Parts.{turns_text};
+ghost use Rattle.board_report.specs.Report.{led_text};
+ghost use Rattle.board_report.specs.Parts.{unplaced_texts, led_texts, led_list};
 ghost use Rattle.board_report.specs.Report.{leds_text, end_words, end_line, report_text};
 
 use crate::words::{access_word, fault_word, rule_word};
@@ -224,7 +227,7 @@ fn led_glyph(leds: u32, led: u32) -> u8
 }
 
 /// Writes the LEDs, or `-` where there is none.
-#[tactic(auto, unfolding(crate::specs::Report::led_list))]
+#[tactic(auto, unfolding(crate::specs::Parts::led_list))]
 fn write_led_list<K: Sink>(out: &mut K, leds: u32, count: u32) -> Result<(), Failed>
     ensures { Writes K.tells out.old out.new (led_list leds count) result }
 {

@@ -2,10 +2,14 @@
 ghost use Rattle.std.specs.Prelude.{◌++◌, Some};
 ghost use Rattle.tk_outside.specs.Writes.{Writes};
 ghost use Rattle.board_report.specs.Words.{newline};
-ghost use Rattle.board_report.specs.Trace.{line_head, register_text, registers_text, reply_text};
-ghost use Rattle.board_report.specs.Trace.{refusal_text, call_line, denial_line, bytes_text};
-ghost use Rattle.board_report.specs.Trace.{act_line, act_text, out_line, call_text, denied_text};
-ghost use Rattle.board_report.specs.Trace.{out_text, turn_text};
+ghost use Rattle.board_report.specs.Trace.{line_head, registers_text, reply_text};
+ghost use Rattle.board_report.specs.Parts.{register_text};
+ghost use Rattle.board_report.specs.Trace.{refusal_text};
+ghost use Rattle.board_report.specs.Parts.{call_line, denial_line, bytes_text};
+ghost use Rattle.board_report.specs.Trace.{act_text, call_text, denied_text};
+ghost use Rattle.board_report.specs.Parts.{act_line, out_line};
+ghost use Rattle.board_report.specs.Trace.{out_text};
+ghost use Rattle.board_report.specs.Parts.{turn_text};
 ghost use Rattle.tk_base.specs.Verbs.{verb_text};
 ghost use Rattle.board_report.specs.Trace.{lines_of_step, trace_text};
 
@@ -132,6 +136,7 @@ fn write_out_line<K: Sink>(out: &mut K, time: u64, slot: Slot, bytes: &[u8]) -> 
 }
 
 /// Writes the line of the system call in a step, where one was made.
+#[tactic(auto, unfolding(crate::specs::Parts::call_line))]
 fn write_call<K: Sink>(out: &mut K, time: u64, slot: Slot, step: &Emit) -> Result<(), Failed>
     ensures { Writes K.tells out.old out.new (call_text time slot step.now.made) result }
 {
@@ -142,6 +147,7 @@ fn write_call<K: Sink>(out: &mut K, time: u64, slot: Slot, step: &Emit) -> Resul
 }
 
 /// Writes the line of the denial in a step, where there was one.
+#[tactic(auto, unfolding(crate::specs::Parts::denial_line))]
 fn write_denied<K: Sink>(out: &mut K, time: u64, slot: Slot, step: &Emit) -> Result<(), Failed>
     ensures { Writes K.tells out.old out.new (denied_text time slot step.now.denial) result }
 {
@@ -168,6 +174,7 @@ fn write_act_line<K: Sink>(out: &mut K, time: u64, slot: Slot, verb: Verb) -> Re
 }
 
 /// Writes the line of an operator's act in a step, where there was one.
+#[tactic(auto, unfolding(crate::specs::Parts::act_line))]
 fn write_act<K: Sink>(out: &mut K, time: u64, step: &Emit) -> Result<(), Failed>
     ensures { Writes K.tells out.old out.new (act_text time step.now.act) result }
 {
@@ -178,6 +185,7 @@ fn write_act<K: Sink>(out: &mut K, time: u64, step: &Emit) -> Result<(), Failed>
 }
 
 /// Writes the line of what a step printed, where it printed anything.
+#[tactic(auto, unfolding(crate::specs::Parts::out_line))]
 fn write_out<K: Sink>(out: &mut K, time: u64, slot: Slot, step: &Emit) -> Result<(), Failed>
     ensures { Writes K.tells out.old out.new (out_text time slot step.now.printed.items) result }
 {

@@ -1,6 +1,6 @@
 -- What is told of a run, by what its steps show and by their labels.
 use Rattle.std.proofs.Common.{◌≡◌, inl, inr, ℕ, zero, suc, ◌==◌, ◌||◌, not, Bool, true, false, cond, List, []}
-use Rattle.std.proofs.Common.{◌∷◌, ◌++◌, length, slice_get}
+use Rattle.std.proofs.Common.{◌∷◌, ◌++◌, codes, length, slice_get}
 use Rattle.std.proofs.Common.{Option, None, Some, All, refl, sym, ap, ap₂, subst, ◌∙◌, append-nil}
 use Rattle.std.specs.List.{flat_map}
 use Rattle.std.proofs.lemmas.List.Elements.{All-cons, All-head, All-nil, All-tail}
@@ -21,9 +21,13 @@ use Rattle.kernel_model.proofs.Labels.{shown_by-printed}
 use Rattle.kernel_model.proofs.Told.{edge_answer, told_labels}
 use Rattle.kernel_model.specs.Laws.{ComesTo, DevicesAnswerOne, edge_labels}
 use Rattle.kernel_model.specs.Run.{Ran, next, printed, round}
+use Rattle.kernel_model.specs.Parts.{on_choice}
 use Rattle.kernel_model.specs.Stretch.{IsQuietTurn, IsStretch}
 use Rattle.kernel_model.specs.Shown.{act_shown, shown_by}
-use Rattle.board_report.specs.Trace.{act_text, out_line, out_text, trace_text, turn_text}
+use Rattle.board_report.specs.Trace.{act_text, line_head, out_text, trace_text}
+use Rattle.board_report.specs.Words.{newline}
+use Rattle.tk_outside.specs.Text.{hex_digits}
+use Rattle.board_report.specs.Parts.{turn_text}
 use Rattle.board_runs.proofs.Runs.{of_stepped, printed-round, round-step, steps-step, steps-stop}
 use Rattle.board_runs.proofs.Runs.{steps-zero}
 use Rattle.run_text.proofs.Tallies.{counting-tally_of}
@@ -31,7 +35,8 @@ use Rattle.run_text.specs.declared.mode.Mode.{Mode}
 use Rattle.run_text.specs.declared.mode.Mode.TheVariants.{Boot, Trace, Soak}
 use Rattle.board_runs.specs.declared.teller.RunWriter.{RunWriter}
 use Rattle.board_runs.specs.declared.teller.RunWriter.TheVariants as tellings
-use Rattle.run_text.specs.RunText.{Step, step_lines, step_of, steps, label_lines, shown_in, tally_of}
+use Rattle.run_text.specs.RunText.{label_lines, shown_in, tally_text, trace_lines}
+use Rattle.run_text.specs.Parts.{Step, step_lines, step_of, steps, tally_line, tally_of}
 use Rattle.board_runs.specs.RunWriter.{counted_bytes, passed_on, step_text, steps_text, telling_of, told_on, told_text}
 use Rattle.board_runs.specs.RunWriter.{total_text}
 
@@ -91,7 +96,8 @@ trace_text-carried_out law time w (Device device) = by_case _ (law.each w device
         by_shown act false false false e no_act = both act
         by_shown act false false true e no_act =
             sym (ap₂ (λ (o : Option (ℕ × Verb)) (b : Bool).
-            (act_text time o ++ cond b [] (out_line time slot a.printed)) ++ []) (no_act refl) e)
+            (act_text time o ++ cond b []
+            (line_head time slot (codes " out ") ++ (flat_map (hex_digits 2) a.printed ++ newline))) ++ []) (no_act refl) e)
 
         no_acts : (event : Event) → is_act event ≡ false → act_shown slot event ≡ None
         no_acts (Turn t) is = refl
@@ -184,12 +190,28 @@ silent : (ss : List Step) → steps_text Soak ss ≡ []
 silent [] = refl
 silent (step ∷ ss) = silent ss
 
+-- the lines of the steps of a run are its trace
+traced : (n : ℕ) (w : World) → flat_map step_lines (steps n w) ≡ trace_lines n w
+unfolding steps trace_lines
+traced zero w = refl
+traced (suc n) w = by_next (next w) (λ c. traced n (after w c))
+  where
+    by_next : (o : Option Choice)
+        → ((c : Choice) → flat_map step_lines (steps n (after w c)) ≡ trace_lines n (after w c))
+        → flat_map step_lines (on_choice [] (λ choice. step_of w choice ∷ steps n (after w choice)) o)
+        ≡ on_choice []
+        (λ choice. flat_map (label_lines w.clock.time) (labels w choice) ++ trace_lines n (after w choice)) o
+    by_next None later = refl
+    by_next (Some c) later =
+        ap (λ (t : List ℕ). flat_map (label_lines w.clock.time) (labels w c) ++ t) (later c)
+
 -- the text of a run: what is told of its steps, and after the last one
 pub text_in : (mode : Mode) (n : ℕ) (w : World) (end : List ℕ)
     → steps_text mode (steps n w) ++ (total_text (telling_of mode (round n w).world (printed (round n w).labels))
     ++ end) ≡ shown_in mode n w ++ end
+unfolding tally_line tally_text
 text_in Boot n w end = ap (λ (t : List ℕ). t ++ end) (sym (printed-round n w))
-text_in Trace n w end = refl
+text_in Trace n w end = ap (λ (t : List ℕ). t ++ end) (traced n w)
 text_in Soak n w end =
     ap (λ (t : List ℕ). t ++ (total_text (telling_of Soak (round n w).world (printed (round n w).labels)) ++ end))
     (silent (steps n w))

@@ -25,7 +25,8 @@ use Rattle.board_runs.proofs.RunWriter.{nothing_told, passed_on-steps, told_on-s
 use Rattle.run_text.specs.declared.mode.Mode.{Mode}
 use Rattle.run_text.specs.declared.mode.Mode.TheVariants.{Boot, Trace, Soak}
 use Rattle.board_runs.specs.declared.teller.RunWriter.{RunWriter}
-use Rattle.run_text.specs.RunText.{Step, step_of, steps, IsWorldOf}
+use Rattle.run_text.specs.RunText.{IsWorldOf}
+use Rattle.run_text.specs.Parts.{Step, step_of, steps}
 use Rattle.board_runs.specs.RunWriter.{counted_bytes, passed_on, step_text, steps_text, telling_of, told_on, told_text}
 
 -- After i steps of a run of n steps, from a world to another: what the mode tells of the steps done is put behind what

@@ -6,8 +6,10 @@ use Rattle.std.specs.List.{flat_map}
 use Rattle.tk_base.specs.declared.process.Choice.{Choice}
 use Rattle.kernel_model.specs.World.{World, Stepped, after, carried_out, is_ready}
 use Rattle.kernel_model.specs.World.{labels, stepped, unmade}
-use Rattle.kernel_model.specs.Run.{Ran, next, round, stays, told_first, runs_on, on_choice, printed}
-use Rattle.run_text.specs.RunText.{Step, step_of, steps}
+use Rattle.kernel_model.specs.Run.{Ran, next, round, stays, runs_on, printed}
+use Rattle.kernel_model.specs.Parts.{on_choice}
+use Rattle.kernel_model.specs.Parts.{told_first}
+use Rattle.run_text.specs.Parts.{Step, step_of, steps}
 
 -- what holds where nothing is made, and of what a choice comes to where it is ready, holds of a step
 pub of_stepped : (P : Stepped → Type 0) (w : World) (c : Choice) → P (unmade w) → P (carried_out w c) → P (stepped w c)

@@ -10,7 +10,7 @@ use Rattle.run_text.specs.declared.mode.Mode.{Mode}
 use Rattle.run_text.specs.declared.mode.Mode.TheVariants.{Boot, Trace, Soak}
 use Rattle.board_runs.specs.declared.teller.RunWriter.{RunWriter}
 use Rattle.board_runs.specs.declared.teller.RunWriter.TheVariants as tellings
-use Rattle.run_text.specs.RunText.{Step, step_lines, tally_line, tally_of}
+use Rattle.run_text.specs.Parts.{Step, step_lines, tally_line, tally_of}
 use Rattle.run_text.specs.Tallies.{tallying}
 
 -- what is written at once of a step

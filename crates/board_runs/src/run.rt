@@ -4,7 +4,8 @@ ghost use Rattle.tk_base.specs.declared.limits.TheConstants.{STEP_LIMIT};
 ghost use Rattle.tk_outside.specs.Writes.{Writes};
 ghost use Rattle.gathered_output.specs.Puts.{Puts};
 ghost use Rattle.kernel_model.specs.Run.{round, printed};
-ghost use Rattle.run_text.specs.RunText.{run_text, run_end_of, ending_text, steps, IsWorldOf};
+ghost use Rattle.run_text.specs.RunText.{run_text, ending_text, IsWorldOf};
+ghost use Rattle.run_text.specs.Parts.{run_end_of, steps};
 ghost use Rattle.board_runs.specs.RunWriter.{steps_text, telling_of};
 
 use crate::teller::RunWriter;
@@ -49,11 +50,12 @@ fn run_steps<K: Sink>(
         let quiet = board.run_quietly((turns - made).min(FLUSH_STEPS - gathered) - 1);
         let steps = quiet.made + 1;
         let next_choice = quiet.next_choice;
+        let end = quiet.end;
         telling.pass(board);
         let Some(choice) = next_choice else {
             return Ok(telling);
         };
-        let Ok(()) = board.step(choice, &mut emit) else {
+        let Ok(()) = board.step_with_end(choice, end, &mut emit) else {
             unreachable!()
         };
         telling.tell(board, &emit, buffer, out)?;
@@ -68,7 +70,7 @@ fn run_steps<K: Sink>(
 }
 
 /// How a run that led to this board ended.
-#[tactic(auto, unfolding(run_text::specs::RunText::run_end_of))]
+#[tactic(auto, unfolding(run_text::specs::Parts::run_end_of))]
 fn end_of_run(board: &Board) -> End
     ensures { result ≡ run_end_of board.now }
 {

@@ -9,7 +9,8 @@ use Rattle.process_model.specs.Own.{Own}
 use Rattle.process_model.specs.Flash.{object_in}
 use Rattle.process_model.specs.declared.place.Object.{Object}
 use Rattle.process_record.specs.declared.process.Process.{Process}
-use Rattle.process_record.specs.Process.{is_alive, with_held}
+use Rattle.process_record.specs.Process.{is_alive}
+use Rattle.process_record.specs.Parts.{with_held}
 use Rattle.process_record.specs.Operator.{own_operated, process_operated}
 use Rattle.grant_enter.specs.Homes.{ChangesOnly, Homes, nobody, own_of}
 use Rattle.process_restart.specs.Own.{IsOwn, KeepsObject, LivesOn}

@@ -22,8 +22,10 @@ use Rattle.driver_model.specs.Replies.{reply_of}
 use Rattle.driver_model.specs.Laws.{CommandsStayInPlace, StaysInPlace}
 use Rattle.tk_base.specs.declared.process.ProcessId.{ProcessId}
 use Rattle.grant_enter.specs.Homes.{Homes, living, nobody, own_of}
-use Rattle.kernel_model.specs.Record.{Record, record_with_own, with_process}
-use Rattle.kernel_model.specs.Calls.{Served, driver_answered, by_form, failure_of, object_permits}
+use Rattle.kernel_model.specs.Record.{Record}
+use Rattle.kernel_model.specs.Parts.{record_with_own, with_process}
+use Rattle.kernel_model.specs.Calls.{Served, driver_answered, by_form, failure_of}
+use Rattle.kernel_model.specs.Parts.{object_permits}
 use Rattle.kernel_model.specs.Calls.{refused_with, served, taken_by}
 use Rattle.process_model.specs.Flash.{object_in}
 use Rattle.kernel_calls.specs.Own.{record_in}

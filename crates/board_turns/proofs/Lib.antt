@@ -4,3 +4,4 @@ pub mod Commands
 pub mod Sight
 pub mod Turns
 pub mod Quiet
+pub mod Stopped

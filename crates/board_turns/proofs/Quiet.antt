@@ -1,6 +1,7 @@
 -- Quiet turns of a process.
-use Rattle.std.proofs.Common.{◌≡◌, ℕ, zero, suc, ◌+◌, ◌<◌, List, [], refl, sym, ap, ap₂, subst, ◌∙◌, arith}
+use Rattle.std.proofs.Common.{◌≡◌, ◌≢◌, ℕ, zero, suc, ◌+◌, ◌<◌, ◌≤◌, List, [], refl, sym, ap, ap₂, subst, ◌∙◌, arith}
 use Rattle.tk_base.specs.Regs.{Registers}
+use Rattle.rv32_model.specs.declared.turn_end.TurnEnd.{TurnEnd}
 use Rattle.rv32_model.specs.declared.turn_end.TurnEnd.TheVariants.{Went}
 use Rattle.process_model.specs.Own.{Own}
 use Rattle.process_model.specs.Instruction.{with_write}
@@ -90,27 +91,40 @@ later_seated flash steps k p own own' later same s =
     })
 
 -- and its turns are quiet ones
-pub quietly : (k most : ℕ) (flash : List ℕ) (p : Process) (own own' : Own) (later : Registers)
-    → IsOwnObject flash p.object own.layout → MakesAll k flash own p.regs own' later
-    → (k < most → IsStopped flash own' later) → Quietly k most flash (p, own) (later_process p k later, own')
-quietly k most flash p own own' later object m stops = record {
-  go = λ pressed storage.
-      (follows k flash p own own' later (record { storage = storage; pressed = pressed }) object m).go;
-  leads = λ pressed storage.
-      (follows k flash p own own' later (record { storage = storage; pressed = pressed }) object m).leads;
-  stops = λ fewer pressed storage.
-      let stopped = stops fewer in
+module _ (k most : ℕ) (end : TurnEnd) (flash : List ℕ) (p : Process) (own own' : Own) (later : Registers)
+    (object : IsOwnObject flash p.object own.layout) (m : MakesAll k flash own p.regs own' later)
+    (stops : k < most → IsStopped flash own' later end) where
+  -- how the next one ends, where they are fewer
+  stopped : k < most → (instruction (record_in flash (later_process p k later) own' nothing_beside)).end ≡ end
+  stopped fewer =
+      let s = stops fewer in
       let there : IsOwnObject flash p.object own'.layout =
       subst (λ (o : Own). IsOwnObject flash p.object o.layout) (sym (left_own k flash p own own' later object m))
       object in
-      stopped.1 (byte_at (record_in flash (later_process p k later) own' nothing_beside))
-      (sees_record flash (later_process p k later, own') there stopped.0);
-}
+      s.2 (byte_at (record_in flash (later_process p k later) own' nothing_beside))
+      (sees_record flash (later_process p k later, own') there s.1)
+
+  pub quietly : k ≤ most → (k ≡ most → end ≡ Went)
+      → Quietly k most end flash (p, own) (later_process p k later, own')
+  quietly within all = record {
+    go = λ pressed storage.
+        (follows k flash p own own' later (record { storage = storage; pressed = pressed }) object m).go;
+    leads = λ pressed storage.
+        (follows k flash p own own' later (record { storage = storage; pressed = pressed }) object m).leads;
+    stops = λ fewer pressed storage went. (stops fewer).0 (sym (stopped fewer) ∙ went);
+    ends = λ none pressed storage. stopped (fewer none);
+  }
+    where
+      not_all : end ≢ Went → most ≤ k → ⊥
+      not_all none h = none (all (omega (arith, within, h)))
+
+      fewer : end ≢ Went → k < most
+      fewer none = omega (arith, within, not_all none)
 
 -- quiet turns of the process in a slot leave what is its own, but for its RAM
-pub kept_own : (k most : ℕ) (flash : List ℕ) (old new : Resident) → Quietly k most flash old new
+pub kept_own : (k most : ℕ) (end : TurnEnd) (flash : List ℕ) (old new : Resident) → Quietly k most end flash old new
     → new.1 ≡ record old.1 { ram = new.1.ram }
-kept_own k most flash old new q =
+kept_own k most end flash old new q =
     let before = record_of flash 0 (old, []) in
     let after : new.1 ≡ (after_instructions k before).own = ap (λ (r : Record). r.own) (q.leads 0 []) in
     after ∙ own_after k before ∙ ap (λ (o : Own). record old.1 { ram = o.ram }) (sym after)

@@ -1,5 +1,7 @@
 -- One turn, or a quiet stretch, of a slot of the tables is that of the process there.
-use Rattle.std.proofs.Common.{◌≡◌, ◌<◌, ℕ, List, length, slice_get, slice_set, slice_index_or, Some, sym, ap}
+use Rattle.std.proofs.Common.{◌≡◌, ◌<◌, ℕ, List, length, slice_get, slice_set, slice_index_or, Option, Some, sym, ap}
+use Rattle.std.specs.Prelude.{IfSome}
+use Rattle.rv32_model.specs.declared.turn_end.TurnEnd.{TurnEnd}
 use Rattle.std.proofs.Common.{subst, ◌∙◌, arith}
 use Rattle.std.specs.List.{zip}
 use Rattle.std.proofs.lemmas.Option.{get_or_from_slice_get, slice_get-get_or, slice_get_within}
@@ -8,7 +10,8 @@ use Rattle.grant_enter.specs.Homes.{ChangesOnly, nobody, own_of}
 use Rattle.board_turns.specs.declared.machine.Machine.{Machine}
 use Rattle.board_turns.specs.declared.turn.Shown.{Shown}
 use Rattle.board_drivers.specs.Residents.{IsResident, resident}
-use Rattle.board_turns.specs.Turning.{ChangesSlot, LeavesOn, MayTurnAt, MayTurnOn, TurnsAt, TurnsOn}
+use Rattle.board_turns.specs.Turning.{ChangesSlot, IsKnownEnd, IsKnownEndAt, LeavesOn, MayTurnAt, MayTurnOn, TurnsAt}
+use Rattle.board_turns.specs.Turning.{TurnsOn}
 use Rattle.board_turns.specs.Quiet.{QuietAt, Quietly}
 use Rattle.board_drivers.proofs.Pairs.{zip-get}
 
@@ -42,6 +45,12 @@ module _ (turns slot index : ℕ) (x : Machine) (processes : List Process) (proc
     guard = may.guard;
   }
 
+  -- what is known of its next instruction
+  pub known_at : (known : TurnEnd) → IsKnownEndAt slot known x.home processes
+      → IsKnownEnd known x.home.flash (resident x.home slot process)
+  known_at known is = subst (λ (o : Option Process). IfSome o (λ p. IsKnownEnd known x.home.flash
+      (resident x.home slot p))) here is
+
   abbrev pub changed_at : (y : Machine) (after : Process) → ChangesOnly slot x.home y.home
       → ChangesSlot slot x.home y.home processes (slice_set processes index after)
   changed_at y after only = record {
@@ -63,10 +72,10 @@ module _ (turns slot index : ℕ) (x : Machine) (processes : List Process) (proc
     moment = leaves.moment;
   }
 
-  pub quiet_at : (made : ℕ) (y : Machine) (after : Process) → LeavesOn made slot x y after
-      → Quietly made turns x.home.flash (resident x.home slot process) (resident y.home slot after)
-      → QuietAt made turns slot x y processes (slice_set processes index after)
-  quiet_at made y after leaves quiet = record {
+  pub quiet_at : (made : ℕ) (end : TurnEnd) (y : Machine) (after : Process) → LeavesOn made slot x y after
+      → Quietly made turns end x.home.flash (resident x.home slot process) (resident y.home slot after)
+      → QuietAt made turns end slot x y processes (slice_set processes index after)
+  quiet_at made end y after leaves quiet = record {
     at = changed_at y after leaves.left.rest;
     quiet = quiet;
     seated = leaves.left.seated;

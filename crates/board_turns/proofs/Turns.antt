@@ -15,19 +15,23 @@ use Rattle.rv32_model.specs.declared.turn_end.TurnEnd.{TurnEnd}
 use Rattle.rv32_model.specs.declared.turn_end.TurnEnd.TheVariants.{Went, Call, Trap}
 use Rattle.rv32_model.specs.UserTurn.{UserTurn}
 use Rattle.process_model.specs.Own.{Own}
-use Rattle.process_record.specs.Process.{after_fault, after_turn}
+use Rattle.process_record.specs.Process.{after_turn}
+use Rattle.process_record.specs.Parts.{after_fault}
 use Rattle.grant_enter.specs.Homes.{Homes, ChangesOnly, own_of, with_own}
 use Rattle.process_model.specs.Flash.{object_in}
 use Rattle.kernel_calls.specs.Own.{Beside, record_in}
 use Rattle.process_restart.specs.Own.{IsOwn, IsApplication, HasStart}
 use Rattle.process_record.specs.Process.{is_alive}
-use Rattle.kernel_model.specs.Record.{Record, with_process}
+use Rattle.kernel_model.specs.Record.{Record}
+use Rattle.kernel_model.specs.Parts.{with_process}
 use Rattle.upcall_queue.specs.declared.inbox.Delivery.{Delivery}
 use Rattle.upcall_queue.specs.Pending.{due}
 use Rattle.kernel_calls.specs.Outcomes.{deliver_due}
-use Rattle.kernel_model.specs.Calls.{restart, restarted_by, restarted_main}
-use Rattle.kernel_model.specs.Turn.{Turned, turn_counted, calls, delivery, at_turn_end, faulted, idle, turn_in, turned}
-use Rattle.kernel_model.specs.Turn.{unknown_call}
+use Rattle.kernel_model.specs.Calls.{restart}
+use Rattle.kernel_model.specs.Parts.{restarted_by, restarted_main}
+use Rattle.kernel_model.specs.Turn.{Turned, turn_counted, at_turn_end, faulted, idle, turn_in, turned}
+use Rattle.kernel_model.specs.Parts.{calls, delivery}
+use Rattle.kernel_model.specs.Parts.{unknown_call}
 use Rattle.driver_model.specs.Commands.{leaving_all}
 use Rattle.board_drivers.specs.declared.drivers.Drivers.{Drivers}
 use Rattle.board_turns.specs.declared.guard.ActivePmp.{ActivePmp}

@@ -1,12 +1,16 @@
 -- The turns of a process with what is its own. Only proofs use this.
-use Rattle.std.specs.Prelude.{◌≡◌, ℕ, ◌+◌, ◌≤◌, ◌<◌, true, List, [], length, slice_get, slice_set, All, None, Some}
+use Rattle.std.specs.Prelude.{◌≡◌, ◌≢◌, ℕ, ◌+◌, ◌≤◌, ◌<◌, true, List, [], length, slice_get, slice_set, All, IfSome}
+use Rattle.std.specs.Prelude.{None, Some}
 use Rattle.std.specs.List.{zip}
 use Rattle.tk_base.specs.declared.limits.TheConstants.{STEP_LIMIT}
 use Rattle.rv32_model.specs.UserTurn.{MemoryAccess, UserTurn}
+use Rattle.rv32_model.specs.declared.turn_end.TurnEnd.{TurnEnd}
+use Rattle.rv32_model.specs.declared.turn_end.TurnEnd.TheVariants.{Went}
 use Rattle.syscall_abi.specs.Call.{call_of}
 use Rattle.process_model.specs.Own.{Own}
 use Rattle.process_model.specs.Instruction.{with_write}
-use Rattle.process_record.specs.Process.{after_turn, after_fault}
+use Rattle.process_record.specs.Process.{after_turn}
+use Rattle.process_record.specs.Parts.{after_fault}
 use Rattle.process_record.specs.declared.emit.Emit.{Emit}
 use Rattle.process_record.specs.declared.process.Process.{Process}
 use Rattle.grant_enter.specs.Homes.{ChangesOnly, Homes, own_of}
@@ -14,7 +18,8 @@ use Rattle.tk_base.specs.declared.access.Denial.{Denial}
 use Rattle.fault_policy.specs.Policy.{decision}
 use Rattle.fault_policy.specs.declared.Policy.{Policy}
 use Rattle.kernel_model.specs.Record.{instruction}
-use Rattle.kernel_model.specs.Turn.{Turned, calls, settled, surroundings, turned}
+use Rattle.kernel_model.specs.Turn.{Turned, settled, surroundings, turned}
+use Rattle.kernel_model.specs.Parts.{calls}
 use Rattle.kernel_calls.specs.Own.{Beside, record_in}
 use Rattle.kernel_calls.specs.Outcomes.{record_of_slot}
 use Rattle.kernel_model.specs.Calls.{served}
@@ -37,6 +42,10 @@ nothing_beside = record { storage = []; pressed = 0 }
 -- its next instruction, which reads nothing of what it has beside
 abbrev pub next_instruction : List ℕ → Resident → UserTurn
 next_instruction flash r = instruction (record_in flash r.0 r.1 nothing_beside)
+
+-- Of the next instruction it is known that it does not go, and how it ends; or nothing is known, as of one that goes.
+abbrev pub IsKnownEnd : TurnEnd → List ℕ → Resident → Type 0
+IsKnownEnd known flash r = known ≢ Went → (next_instruction flash r).end ≡ known
 
 -- what an instruction leaves of both, and that it counts as a turn
 abbrev pub after_instruction : Resident → UserTurn → Resident
@@ -140,6 +149,11 @@ pub record ChangesSlot (slot : ℕ) (home home_after : Homes) (processes process
   pub own_was : slice_get home.owns slot ≡ Some before.1
   pub is : processes_after ≡ slice_set processes slot after.0
   pub own_is : home_after ≡ record home { owns = slice_set home.owns slot after.1 }
+
+-- what is known of the next instruction of the process in a slot of the tables
+abbrev pub IsKnownEndAt : ℕ → TurnEnd → Homes → List Process → Type 0
+IsKnownEndAt slot known home processes =
+    IfSome (slice_get processes slot) (λ process. IsKnownEnd known home.flash (resident home slot process))
 
 -- one turn of the process in a slot, and of no other
 pub record TurnsAt (slot : ℕ) (old new : Machine) (processes processes_after : List Process) (shown : Shown) : Type

@@ -6,33 +6,35 @@ ghost use Rattle.board_turns.specs.Quiet.{QuietAt, Quietly};
 
 use crate::machine::Machine;
 use process_record::Process;
+use rv32_step::Stretch;
 use tk_base::Slot;
 
 impl Machine {
-    /// As many turns of the process in a slot as only execute an instruction, at most `most`. The
-    /// registers are set, and memory is lent, once for all of them.
-    pub fn take_turns(&mut self, process: &mut Process, slot: Slot, most: u32) -> u32
+    /// As many turns of the process in a slot as only execute an instruction, at most `most`: how
+    /// many they were, and how the next instruction ends, where it does not go. The registers are
+    /// set, and memory is lent, once for all of them.
+    pub fn take_turns(&mut self, process: &mut Process, slot: Slot, most: u32) -> Stretch
         requires { MayTurnOn most slot self.old process.old }
-        ensures most { result ≤ most }
-        ensures quiet { Quietly result most self.old.home.flash
+        ensures most { result.went ≤ most }
+        ensures quiet { Quietly result.went most result.end self.old.home.flash
             (resident self.old.home slot process.old) (resident self.new.home slot process.new) }
-        ensures leaves { LeavesOn result slot self.old self.new process.new }
+        ensures leaves { LeavesOn result.went slot self.old self.new process.new }
         ensures drivers { self.new.drivers ≡ self.old.drivers }
     {
         self.guard.switch_to(&self.home, slot);
         let made = self
             .home
             .instruct_quietly(slot, &self.guard.pmp, &mut process.regs, most);
-        process.turns += made;
+        process.turns += made.went;
         made
     }
 
     /// The same of the process at its place in the table.
-    pub fn turns_at(&mut self, processes: &mut Vec<Process>, slot: Slot, most: u32) -> u32
+    pub fn turns_at(&mut self, processes: &mut Vec<Process>, slot: Slot, most: u32) -> Stretch
         requires { MayTurnAt most slot self.old processes.old.items }
-        ensures most { result ≤ most }
-        ensures quiet { QuietAt result most slot self.old self.new processes.old.items
-            processes.new.items }
+        ensures most { result.went ≤ most }
+        ensures quiet { QuietAt result.went most result.end slot self.old self.new
+            processes.old.items processes.new.items }
         ensures drivers { self.new.drivers ≡ self.old.drivers }
     {
         let process = &mut processes[slot.index()];

@@ -1,8 +1,8 @@
 //! One turn of the process in a slot.
-ghost use Rattle.std.specs.Prelude.{◌≡◌, ◌+◌, ◌<◌, [], length, true, false, None, Some};
+ghost use Rattle.std.specs.Prelude.{◌≡◌, ◌≢◌, ◌+◌, ◌<◌, [], length, true, false, None, Some};
 ghost use Rattle.process_record.specs.declared.process.State.TheVariants.{Running, Yielded};
 ghost use Rattle.process_model.specs.Own.{own_ended};
-ghost use Rattle.process_record.specs.Process.{after_fault};
+ghost use Rattle.process_record.specs.Parts.{after_fault};
 ghost use Rattle.grant_enter.specs.Homes.{own_of, ChangesOnly};
 ghost use Rattle.driver_model.specs.Commands.{leaving_all};
 ghost use Rattle.kernel_calls.specs.Outcomes.{acts_for, is_for_driver};
@@ -10,14 +10,16 @@ ghost use Rattle.process_model.specs.Flash.{object_in};
 ghost use Rattle.kernel_calls.specs.Own.{Beside, record_in};
 ghost use Rattle.board_drivers.specs.Driven.{Drives};
 ghost use Rattle.kernel_model.specs.Calls.{restart};
-ghost use Rattle.kernel_model.specs.Turn.{arguments, made, unknown_call};
+ghost use Rattle.kernel_model.specs.Turn.{arguments, made};
+ghost use Rattle.kernel_model.specs.Parts.{unknown_call};
 ghost use Rattle.board_turns.specs.Guards.{IsSetFor};
 ghost use Rattle.board_drivers.specs.Residents.{id_of, resident, resident_turns};
 ghost use Rattle.board_turns.specs.Turning.{InTurn, InTurnOn, FinishesOn, IsMade, LeavesOn};
 ghost use Rattle.board_turns.specs.Turning.{LeavesSlot, MayServeOn, MayTurn, MayTurnOn};
 ghost use Rattle.board_turns.specs.Turning.{ServesCallOn, Settles, TurnsOn, next_instruction};
 ghost use Rattle.board_turns.specs.Turning.{nothing_shown, told_in_emit, with_shown, MayTurnAt};
-ghost use Rattle.board_turns.specs.Turning.{TurnsAt};
+ghost use Rattle.board_turns.specs.Turning.{IsKnownEnd, IsKnownEndAt, TurnsAt};
+ghost use Rattle.rv32_model.specs.declared.turn_end.TurnEnd.TheVariants.{Went};
 
 use crate::guard::ActivePmp;
 use crate::machine::Machine;
@@ -27,7 +29,7 @@ use fault_policy::{Action, decide};
 use grant_enter::Home;
 use kernel_calls::{deliver, give_reply, kernel_call, restart_process};
 use process_record::{CallMade, Emit, Outcome, Process, State};
-use rv32_model::TurnEnd;
+use rv32_model::{TurnEnd, stopped_turns_change_nothing, writes_are_listed};
 use syscall_abi::Call;
 use tk_base::{Access, Denial, ProcessId, Regs, Rule, Slot};
 
@@ -149,6 +151,30 @@ fn is_gone(outcome: Outcome) -> bool
     matches!(outcome, Outcome::Ended | Outcome::Again)
 }
 
+/// The next instruction of the process in a slot, which counts as a turn, and is known not to go: so
+/// it leaves registers and memory as they are.
+fn count_instruction(
+    home: &Home,
+    process: &mut Process,
+    guard: &mut ActivePmp,
+    slot: Slot,
+    moment: &Moment,
+)
+    requires turn { MayTurn 1 moment.now slot home.now process.old guard.old }
+    requires runs { process.old.state ≡ Running }
+    requires stops { (next_instruction home.now.flash (resident home.now slot process.old)).end
+        ≢ Went }
+    ensures made { IsMade slot home.now home.now process.old process.new }
+    ensures turn { InTurn moment.now slot home.now process.new }
+    ensures rest { ChangesOnly slot home.now home.now }
+    ensures guard { IsSetFor slot guard.new home.now }
+{
+    stopped_turns_change_nothing();
+    writes_are_listed();
+    guard.switch_to(home, slot);
+    process.count_turn();
+}
+
 /// One instruction of the process in a slot, which counts as a turn.
 fn make_instruction(
     home: &mut Home,
@@ -169,6 +195,36 @@ fn make_instruction(
     guard.switch_to(home, slot);
     process.count_turn();
     home.instruct(slot, &guard.pmp, &mut process.regs)
+}
+
+/// How the next instruction of the process in a slot ends, which counts as a turn. Where it is known
+/// that it does not go, and how it ends, it is not made again.
+#[inline(always)]
+fn end_instruction(
+    home: &mut Home,
+    process: &mut Process,
+    guard: &mut ActivePmp,
+    slot: Slot,
+    known: TurnEnd,
+    moment: &Moment,
+) -> TurnEnd
+    requires turn { MayTurn 1 moment.now slot home.old process.old guard.old }
+    requires runs { process.old.state ≡ Running }
+    requires known { IsKnownEnd known home.old.flash (resident home.old slot process.old) }
+    ensures end { result
+        ≡ (next_instruction home.old.flash (resident home.old slot process.old)).end }
+    ensures made { IsMade slot home.old home.new process.old process.new }
+    ensures turn { InTurn moment.now slot home.new process.new }
+    ensures rest { ChangesOnly slot home.old home.new }
+    ensures guard { IsSetFor slot guard.new home.new }
+{
+    match known {
+        TurnEnd::Went => make_instruction(home, process, guard, slot, moment),
+        TurnEnd::Call | TurnEnd::Trap(_) => {
+            count_instruction(home, process, guard, slot, moment);
+            known
+        }
+    }
 }
 
 impl Machine {
@@ -288,9 +344,11 @@ impl Machine {
     /// The turn of a process that runs: an instruction of it, and what a system call or a denial
     /// asks for. What it shows is told in `emit`, where nothing was told before: most turns show
     /// nothing, and write nothing there.
-    fn run_on(&mut self, process: &mut Process, slot: Slot, emit: &mut Emit)
+    fn run_on(&mut self, process: &mut Process, slot: Slot, known: TurnEnd, emit: &mut Emit)
         requires turn { MayTurnOn 1 slot self.old process.old }
         requires runs { process.old.state ≡ Running }
+        requires known { IsKnownEnd known self.old.home.flash
+            (resident self.old.home slot process.old) }
         requires may { MayServeOn slot self.old }
         requires quiet { told_in_emit emit.old ≡ nothing_shown }
         ensures turns { TurnsOn slot self.old self.new process.old process.new
@@ -298,7 +356,14 @@ impl Machine {
         ensures leaves { LeavesOn 1 slot self.old self.new process.new }
         ensures emit { emit.new ≡ with_shown emit.old (told_in_emit emit.new) }
     {
-        let end = make_instruction(&mut self.home, process, &mut self.guard, slot, &self.moment);
+        let end = end_instruction(
+            &mut self.home,
+            process,
+            &mut self.guard,
+            slot,
+            known,
+            &self.moment,
+        );
         match end {
             TurnEnd::Went => {}
             TurnEnd::Call => {
@@ -328,9 +393,12 @@ impl Machine {
     }
 
     /// One turn of the process in a slot, which tells in `emit` what it shows. One that has ended
-    /// has none, and nothing changes.
-    pub fn take_turn(&mut self, process: &mut Process, slot: Slot, emit: &mut Emit)
+    /// has none, and nothing changes. Where it is known how the turn's instruction ends, and it is
+    /// not `Went`, that is not found out again.
+    pub fn take_turn(&mut self, process: &mut Process, slot: Slot, known: TurnEnd, emit: &mut Emit)
         requires turn { MayTurnOn 1 slot self.old process.old }
+        requires known { IsKnownEnd known self.old.home.flash
+            (resident self.old.home slot process.old) }
         requires may { MayServeOn slot self.old }
         requires quiet { told_in_emit emit.old ≡ nothing_shown }
         ensures turns { TurnsOn slot self.old self.new process.old process.new
@@ -339,15 +407,22 @@ impl Machine {
         ensures emit { emit.new ≡ with_shown emit.old (told_in_emit emit.new) }
     {
         match process.state {
-            State::Running => self.run_on(process, slot, emit),
+            State::Running => self.run_on(process, slot, known, emit),
             State::Yielded => self.wake(process, slot),
             State::Faulted | State::Terminated(_) => {}
         }
     }
 
-    /// One turn of the process in a slot, which tells in `emit` what it shows.
-    pub fn turn_at(&mut self, processes: &mut Vec<Process>, slot: Slot, emit: &mut Emit)
+    /// The same of the process at its place in the table.
+    pub fn turn_at(
+        &mut self,
+        processes: &mut Vec<Process>,
+        slot: Slot,
+        known: TurnEnd,
+        emit: &mut Emit,
+    )
         requires turn { MayTurnAt 1 slot self.old processes.old.items }
+        requires known { IsKnownEndAt slot known self.old.home processes.old.items }
         requires may { MayServeOn slot self.old }
         requires quiet { told_in_emit emit.old ≡ nothing_shown }
         ensures turn { TurnsAt slot self.old self.new processes.old.items processes.new.items
@@ -355,6 +430,6 @@ impl Machine {
         ensures emit { emit.new ≡ with_shown emit.old (told_in_emit emit.new) }
     {
         let process = &mut processes[slot.index()];
-        self.take_turn(process, slot, emit);
+        self.take_turn(process, slot, known, emit);
     }
 }

@@ -12,7 +12,8 @@ use Rattle.process_model.specs.Own.{Own}
 use Rattle.process_model.specs.Served.{kept, own_scheduled, upcall_of, with_kept}
 use Rattle.driver_model.specs.Steps.{own_after, scheduling, silently}
 use Rattle.driver_model.specs.Commands.{Commanded, refusing}
-use Rattle.driver_model.specs.Buttons.{buttons, edged, enabled, enabled_in, of_button, set_enabled, with_enabled}
+use Rattle.driver_model.specs.Buttons.{buttons, edged, enabled, enabled_in, of_button, set_enabled}
+use Rattle.driver_model.specs.Parts.{with_enabled}
 use Rattle.grant_enter.specs.declared.visit.Unvisited.{Unvisited}
 use Rattle.grant_enter.specs.declared.visit.Unvisited.TheVariants.{Gone, NotEntered}
 use Rattle.grant_enter.specs.Seen.{Seen}
@@ -71,20 +72,20 @@ not_there false false on args own e = refl
 pub tells : {V : Type 0} (button : ℕ) (state : Bool) (driver life : ℕ) (counts : Counts) (flash : List ℕ)
     (old new : Own) (visitor : V) (leaves : Buttons → Seen → Bool → Buttons → Own → Type 0)
     (r : Result Bool (Unvisited V)) → Tells button state leaves → driver ≡ buttons
-    → Visits (grants_of driver counts ButtonsValue) visitor leaves life flash old r new
+    → Visits (grants_of driver counts (λ (b : Buttons). ButtonsValue b.enabled)) visitor leaves life flash old r new
     → new ≡ in_life life old (own_after (edged button state old)) old
 unfolding edged
 tells button state driver life counts flash old new visitor leaves (Ok answer) says is visits =
     let v = visits.1 in
     let left = says _ _ _ _ _ v.left in
     let args = args_of button state in
-    let was : kept buttons old ≡ Some (ButtonsValue v.was) = ap (λ (d : ℕ). kept d old) (sym is) ∙ v.kept in
+    let was : kept buttons old ≡ Some (ButtonsValue v.was.enabled) = ap (λ (d : ℕ). kept d old) (sym is) ∙ v.kept in
     v.after
-    ∙ ap (λ (d : ℕ). with_kept d (ButtonsValue v.value) v.own) is
-    ∙ ap (λ (b : Buttons). with_kept buttons (ButtonsValue b) v.own) left.0
-    ∙ ap (with_kept buttons (ButtonsValue v.was))
+    ∙ ap (λ (d : ℕ). with_kept d (ButtonsValue v.value.enabled) v.own) is
+    ∙ ap (λ (b : Buttons). with_kept buttons (ButtonsValue b.enabled) v.own) left.0
+    ∙ ap (with_kept buttons (ButtonsValue v.was.enabled))
     (left.2 ∙ ap (λ (d : ℕ). told_if (has_bit v.was.enabled button) d args old) is)
-    ∙ keeps (has_bit v.was.enabled button) args old (ButtonsValue v.was) was
+    ∙ keeps (has_bit v.was.enabled button) args old (ButtonsValue v.was.enabled) was
     ∙ ap (λ (o : Option KeptValue). told_if (has_bit (enabled_in o) button) buttons args old) (sym was)
     ∙ there old.lives (old.life == life) (has_bit (enabled old) button) args old visits.0
 tells button state driver life counts flash old new visitor leaves (Err (NotEntered back)) says is visits =
@@ -104,15 +105,15 @@ not_stale b e f = cc
 pub disables : {A V : Type 0} (button driver life : ℕ) (counts : Counts) (flash : List ℕ) (old new : Own) (visitor : V)
     (leaves : Buttons → Seen → A → Buttons → Own → Type 0) (r : Result A (Unvisited V))
     → Disables button leaves → driver ≡ buttons → is_stale life old ≡ false
-    → Visits (grants_of driver counts ButtonsValue) visitor leaves life flash old r new
+    → Visits (grants_of driver counts (λ (b : Buttons). ButtonsValue b.enabled)) visitor leaves life flash old r new
     → new ≡ set_enabled button false old
 disables button driver life counts flash old new visitor leaves (Ok answer) says is present visits =
     let v = visits.1 in
     let left = says _ _ _ _ _ v.left in
-    let was : kept buttons old ≡ Some (ButtonsValue v.was) = ap (λ (d : ℕ). kept d old) (sym is) ∙ v.kept in
+    let was : kept buttons old ≡ Some (ButtonsValue v.was.enabled) = ap (λ (d : ℕ). kept d old) (sym is) ∙ v.kept in
     v.after
-    ∙ ap (λ (d : ℕ). with_kept d (ButtonsValue v.value) v.own) is
-    ∙ ap (λ (b : Buttons). with_kept buttons (ButtonsValue b) v.own) left.0
+    ∙ ap (λ (d : ℕ). with_kept d (ButtonsValue v.value.enabled) v.own) is
+    ∙ ap (λ (b : Buttons). with_kept buttons (ButtonsValue b.enabled) v.own) left.0
     ∙ ap (with_enabled (with_bit v.was.enabled button false)) left.1
     ∙ ap (λ (o : Option KeptValue). with_enabled (with_bit (enabled_in o) button false) old) (sym was)
 disables button driver life counts flash old new visitor leaves (Err (NotEntered back)) says is present visits =

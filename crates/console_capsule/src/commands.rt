@@ -1,7 +1,8 @@
 //! Commands to read, and to read no more.
 ghost use Rattle.driver_model.specs.Commands.{Reads};
 ghost use Rattle.driver_model.specs.Requests.{request_in};
-ghost use Rattle.driver_model.specs.Console.{asking_to_read, cancelling, console, console_reads};
+ghost use Rattle.driver_model.specs.Console.{cancelling, console, console_reads};
+ghost use Rattle.driver_model.specs.Parts.{asking_to_read};
 ghost use Rattle.driver_requests.specs.Asking.{IsPresent, MayAskAt, MayBeTold, Obeys};
 
 use crate::grants::consoles;

@@ -5,7 +5,8 @@ ghost use Rattle.tk_base.specs.Call.{code_of};
 ghost use Rattle.grant_enter.specs.Homes.{own_of, ChangesOnly};
 ghost use Rattle.grant_enter.specs.Seen.{Framed, IsLent, own_entered, seen};
 ghost use Rattle.tk_base.specs.Bytes.{over};
-ghost use Rattle.driver_model.specs.Console.{console, bytes_moving, read_status, received};
+ghost use Rattle.driver_model.specs.Console.{console, read_status, received};
+ghost use Rattle.driver_model.specs.Parts.{bytes_moving};
 ghost use Rattle.driver_model.specs.Console.{unreceived};
 ghost use Rattle.driver_model.specs.Steps.{own_after};
 ghost use Rattle.driver_requests.specs.Asking.{MayBeTold, in_life};
@@ -28,7 +29,7 @@ struct Receive<'a> {
 
 impl<'a> VisitRequest<WaitingRead> for Receive<'a> {
     ghost use Rattle.std.specs.Prelude.{◌≡◌, ◌+◌, ◌<◌, ◌^◌, drop, length, None};
-    ghost use Rattle.driver_model.specs.Console.{bytes_moving};
+    ghost use Rattle.driver_model.specs.Parts.{bytes_moving};
     ghost use Rattle.console_capsule.specs.Receiving.{taking_in};
 
     type Answer = &'a mut Uart;

@@ -13,6 +13,7 @@ use Rattle.grant_values.specs.declared.storage.StorageKind.{StorageKind}
 use Rattle.grant_values.specs.declared.storage.StorageKind.TheVariants.{Read, Write}
 use Rattle.grant_values.specs.declared.storage.StorageRequest.{StorageRequest}
 use Rattle.process_model.specs.Own.{Own}
+use Rattle.driver_model.specs.Parts.{bytes_moving, fired_if}
 use Rattle.driver_model.specs.Commands.{is_same, QueueName, Writes, Reads, Randoms, Stores}
 use Rattle.driver_model.specs.Requests.{RequestKind, keeping_request, request_in, waiting_in, with_request}
 use Rattle.driver_model.specs.Steps.{DriverStep, own_after, scheduling, silently}
@@ -185,7 +186,7 @@ unfolding console.received
 receives ring own = by_waiting (waiting_in console_reads own) refl
   where
     bytes : WaitingRead → List ℕ
-    bytes read = console.bytes_moving ring read own
+    bytes read = bytes_moving ring read own
 
     by_waiting : (w : Option WaitingRead) → waiting_in console_reads own ≡ w
         → let r = unwrap_or (option_map (console.receiving ring own) w) (console.unreceived own) in
@@ -265,11 +266,11 @@ fires : (now : ℕ) (own : Own) → FollowsAnswer (λ line. false) own (own_afte
 unfolding alarm.answered
 fires now own = by_due (alarm.due_alarm now own)
   where
-    by_due : (due : Option Armed) → FollowsAnswer (λ line. false) own (own_after (alarm.fired_if now own due))
+    by_due : (due : Option Armed) → FollowsAnswer (λ line. false) own (own_after (fired_if now own due))
     by_due None = unmoved _ own (λ line. refl)
     by_due (Some armed) =
         subst (FollowsAnswer (λ line. false) own)
-        (keeping_commutes alarm.alarm_driver (AlarmValue (record { armed = None }))
+        (keeping_commutes alarm.alarm_driver (AlarmValue None)
         (alarm.fired now armed own).schedules (alarm.showing now own))
         (stops_alarm own _ (serves _ _ _ _ own (showing_size now own)))
 

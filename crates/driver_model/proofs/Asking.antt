@@ -14,7 +14,8 @@ use Rattle.driver_model.specs.Buttons as buttons
 use Rattle.driver_model.specs.Console as console
 use Rattle.driver_model.specs.Leds as leds
 use Rattle.driver_model.specs.Random as random
-use Rattle.driver_model.specs.Requests.{RequestKind, asking_beside, request_in}
+use Rattle.driver_model.specs.Requests.{RequestKind, request_in}
+use Rattle.driver_model.specs.Parts.{asking_beside, asking_to_read}
 use Rattle.driver_model.specs.Storage as storage
 use Rattle.driver_model.proofs.Outcomes.{of_buttons}
 use Rattle.driver_model.proofs.Tables.{Each, commanded}
@@ -62,7 +63,7 @@ AsksOf lists c = OneOf c.acts lists
 abbrev of_console : List (List BoardRequest)
 of_console = [] ∷ (Waits Writes ∷ []) ∷ (Waits Reads ∷ []) ∷ (Leaves Reads ∷ []) ∷ []
 
-reading_asks : (count : ℕ) (own : Own) → AsksOf of_console (console.asking_to_read count own)
+reading_asks : (count : ℕ) (own : Own) → AsksOf of_console (asking_to_read count own)
 reading_asks count own =
     by_test (AsksOf of_console) (count == 0) _ _ (inl refl)
     (begins (AsksOf of_console) console.console_reads (request_in console.console_reads own) _ own (λ c e. inl e)

@@ -19,6 +19,7 @@ use Rattle.process_model.specs.Handed.{held, own_entering}
 use Rattle.process_model.specs.Served.{own_scheduled, with_kept, with_written}
 use Rattle.process_model.specs.Changes.{ChangesAt, IsInside, IsOwnAddress, IsWhole, KeepsBytes, OnlyWritesChangeBytes}
 use Rattle.process_model.specs.Changes.{own_byte}
+use Rattle.driver_model.specs.Parts.{fired_if, with_word}
 use Rattle.driver_model.specs.Alarm as alarm
 use Rattle.driver_model.specs.Buttons as buttons
 use Rattle.driver_model.specs.Console as console
@@ -133,7 +134,7 @@ commands_write_in_buffers law driver taker is around number a2 a3 own whole =
 
 module _ (law : OnlyWritesChangeBytes) where
   fires : (now : ℕ) (own : Own) (due : Option Armed) → IsWhole own
-      → ChangesAt (IsInside (clock_buffer own)) own (own_after (alarm.fired_if now own due))
+      → ChangesAt (IsInside (clock_buffer own)) own (own_after (fired_if now own due))
   fires now own None whole = λ at before after. inl refl
   fires now own (Some armed) whole =
       then_scheduled (IsInside (clock_buffer own)) alarm.alarm_driver 0 (now ∷ alarm.expiration armed ∷ 0 ∷ []) own
@@ -148,7 +149,7 @@ module _ (law : OnlyWritesChangeBytes) where
   drawing left request own (Some word) whole = by_left (nat_le left 4)
     where
       o : Own
-      o = random.with_word word left request own
+      o = with_word word left request own
 
       written : ChangesAt (IsInside (word_buffer own)) own o
       written = law.written ReadWrite random.random 0 _ _ own refl whole

@@ -6,7 +6,8 @@ use Rattle.std.proofs.lemmas.Option.{slice_get_within}
 use Rattle.tk_base.specs.declared.limits.TheConstants.{SLOT_COUNT}
 use Rattle.grant_values.specs.declared.alarm.Armed.{Armed}
 use Rattle.process_model.specs.Own.{Own}
-use Rattle.driver_model.specs.Alarm.{alarm_driver, answered, due_alarm, due_slot, expiration, fired_if, has_due}
+use Rattle.driver_model.specs.Alarm.{alarm_driver, answered, due_alarm, due_slot, expiration, has_due}
+use Rattle.driver_model.specs.Parts.{fired_if}
 use Rattle.driver_model.specs.Alarm.{showing, with_alarm}
 use Rattle.driver_model.specs.Steps.{own_after}
 use Rattle.driver_model.specs.Laws.{AnAlarmLeavesTheRest, DueSlotIsThere, IsAtMostOneMore}

@@ -9,9 +9,10 @@ use Rattle.std.specs.List.{range_with_len}
 use Rattle.tk_base.specs.declared.limits.TheConstants.{SLOT_COUNT}
 use Rattle.grant_values.specs.declared.alarm.Armed.{Armed}
 use Rattle.process_model.specs.Own.{Own}
-use Rattle.driver_model.specs.Alarm.{alarm_in, due_for, due_slot, has_due, if_due, is_due, left_for, ticks_left}
+use Rattle.driver_model.specs.Alarm.{alarm_in, due_for, due_slot, has_due, if_due, left_for, ticks_left}
+use Rattle.driver_model.specs.Parts.{is_due, nearer_with}
 use Rattle.driver_model.specs.Alarm.{ticks_left_in, ticks_left_of}
-use Rattle.driver_model.specs.Alarm.{nearer, nearer_with, next_left}
+use Rattle.driver_model.specs.Alarm.{nearer, next_left}
 use Rattle.driver_model.specs.Laws.{IsDueWhereNoneAreLeft, QuietUntilNext, TimeBringsNearer}
 
 -- whether there is a number of ticks, and it is 0

@@ -23,12 +23,13 @@ use Rattle.process_model.specs.Served.{with_kept}
 use Rattle.driver_model.specs.Steps.{silently}
 use Rattle.driver_model.specs.Commands.{Commanded, Leaves, Lights, QueueName, Reads, Switch, On, Off, Toggle, Waits}
 use Rattle.driver_model.specs.Commands.{accepting, refusing, Writes, Randoms, Stores}
-use Rattle.driver_model.specs.Requests.{RequestKind, asking, asking_beside, request_in, with_request}
+use Rattle.driver_model.specs.Requests.{RequestKind, asking, request_in, with_request}
+use Rattle.driver_model.specs.Parts.{asking_beside, asking_to_read}
 use Rattle.driver_model.specs.Alarm.{alarm_driver, alarm_in, arming, showing, stopping}
 use Rattle.driver_model.specs.Alarm.{command as alarm_command, commands as alarm_commands}
 use Rattle.driver_model.specs.Buttons.{buttons, enabling, of_button, set_enabled}
 use Rattle.driver_model.specs.Buttons.{command as button_command, commands as button_commands}
-use Rattle.driver_model.specs.Console.{cancelling, console_reads, console_writes, asking_to_read, dropping_read}
+use Rattle.driver_model.specs.Console.{cancelling, console_reads, console_writes, dropping_read}
 use Rattle.driver_model.specs.Console.{command as console_command, commands as console_commands}
 use Rattle.driver_model.specs.Leds.{switching, command as led_command, commands as led_commands}
 use Rattle.driver_model.specs.Random.{randoms, command as random_command, commands as random_commands}

@@ -9,6 +9,7 @@ use Rattle.process_model.specs.Own.{Own}
 use Rattle.process_model.specs.Handed.{own_entering, has_place}
 use Rattle.process_model.specs.Served.{with_kept, with_written}
 use Rattle.process_model.proofs.Scheduling.{keeping_commutes}
+use Rattle.driver_model.specs.Parts.{fired_if}
 use Rattle.driver_model.specs.Steps.{DriverStep, own_after, scheduling, silently}
 use Rattle.driver_model.specs.Alarm as alarm
 use Rattle.driver_model.specs.Buttons as buttons
@@ -91,7 +92,7 @@ of_services P each = record {
       (serves_served fault flash bytes request own));
 }
   where
-    fires : (own : Own) (now : ℕ) (due : Option Armed) → P own (own_after (alarm.fired_if now own due))
+    fires : (own : Own) (now : ℕ) (due : Option Armed) → P own (own_after (fired_if now own due))
     fires own now None = each.same own
     fires own now (Some armed) = told P each 0 _
         (scheduling 0 0 (now ∷ alarm.expiration armed ∷ 0 ∷ []) (alarm.showing now own)) own

@@ -5,6 +5,7 @@ use Rattle.grant_values.specs.declared.console.WaitingRead.{WaitingRead}
 use Rattle.grant_values.specs.declared.console.WaitingWrite.{WaitingWrite}
 use Rattle.grant_values.specs.declared.random.RandomRequest.{RandomRequest}
 use Rattle.process_model.specs.Own.{Own}
+use Rattle.driver_model.specs.Parts.{bytes_moving, with_word}
 use Rattle.driver_model.specs.Steps.{silently}
 use Rattle.driver_model.specs.Requests.{waiting_in}
 use Rattle.driver_model.specs.Console as console
@@ -47,7 +48,7 @@ reads ring own = by_waiting (waiting_in console_reads own) refl
         (silently own)) is
     by_waiting (Some read) is =
         ap (λ (w : Option WaitingRead). unwrap_or
-        (option_map (console.reading_in (console.bytes_moving ring read own) own) w) (silently own)) is
+        (option_map (console.reading_in (bytes_moving ring read own) own) w) (silently own)) is
 
 -- a step of a request is what it is with the word that it drew, which is the next one
 pub record Draws (word : Option ℕ) (request : RandomRequest) (own : Own) (p : Progress) : Type 0 where
@@ -70,10 +71,10 @@ draws_step word request own =
         cond enough (random.completing None 0 request.written own) (random.completing None 1 request.written own)
     step enough last (Some w) =
         cond enough (random.completing None 0 request.written own)
-        (cond last (random.completing (Some w) 0 (request.written + left) (random.with_word w left request own))
+        (cond last (random.completing (Some w) 0 (request.written + left) (with_word w left request own))
         (record {
           rest = Some (record request { written = request.written + 4 });
-          step = silently (random.with_word w left request own);
+          step = silently (with_word w left request own);
           drawn = Some w;
         }))
 

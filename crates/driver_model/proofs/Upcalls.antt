@@ -6,6 +6,7 @@ use Rattle.grant_values.specs.declared.storage.StorageKind.{StorageKind}
 use Rattle.grant_values.specs.declared.storage.StorageKind.TheVariants.{Read, Write}
 use Rattle.grant_values.specs.declared.storage.StorageRequest.{StorageRequest}
 use Rattle.process_model.specs.Own.{Own}
+use Rattle.driver_model.specs.Parts.{fired_if}
 use Rattle.driver_model.specs.Alarm as alarm
 use Rattle.driver_model.specs.Console as console
 use Rattle.driver_model.specs.Console.{console_reads, console_writes}
@@ -33,7 +34,7 @@ drivers_schedule_held =
 
 -- an alarm that fires
 fires : (now : ℕ) (own : Own) (due : Option Armed)
-    → IsOfDriver alarm.alarm_driver (alarm.fired_if now own due).schedules
+    → IsOfDriver alarm.alarm_driver (fired_if now own due).schedules
 fires now own None = tt
 fires now own (Some armed) = refl
 

@@ -2,7 +2,7 @@
 -- The clock that it shows in a buffer which the process reads (Tock's userspace-readable allow) is this board's own
 -- rule.
 use Rattle.std.specs.Prelude.{ℕ, ◌+◌, ◌-◌, ◌%◌, ◌^◌, min, nat_le, Bool, if◌then◌else◌, List, [], ◌∷◌, find, fold}
-use Rattle.std.specs.Prelude.{slice_get, Option, None, Some, is_some, option_and_then, option_map}
+use Rattle.std.specs.Prelude.{slice_get, Option, None, Some, is_some, option_and_then, option_map, unwrap_or}
 use Rattle.std.specs.Int.{w32, to_le_bytes}
 use Rattle.std.specs.List.{range_with_len}
 use Rattle.tk_base.specs.declared.call.CallRule.TheVariants.{NoRoom, Nothing}
@@ -27,13 +27,9 @@ alarm_driver = number_of_driver Alarm
 abbrev pub expiration : Armed → ℕ
 expiration alarm = (alarm.reference + alarm.delta) % 2 ^ 32
 
--- an alarm is due where its delta has passed since its reference
-abbrev pub is_due : ℕ → Armed → Bool
-is_due now alarm = nat_le alarm.delta ((now + (2 ^ 32 - alarm.reference)) % 2 ^ 32)
-
 -- the alarm in a value that is kept, if one is armed
 abbrev pub armed_in : Option KeptValue → Option Armed
-armed_in (Some (AlarmValue alarm)) = alarm.armed
+armed_in (Some (AlarmValue armed)) = armed
 armed_in other = None
 
 -- the alarm that a process has armed, if it has
@@ -42,7 +38,7 @@ alarm_in own = armed_in (kept alarm_driver own)
 
 -- a process with that alarm armed, or with none
 abbrev pub with_alarm : Option Armed → Own → Own
-with_alarm alarm own = with_kept alarm_driver (AlarmValue (record { armed = alarm })) own
+with_alarm alarm own = with_kept alarm_driver (AlarmValue alarm) own
 
 -- a process to which the clock is shown: in its readable buffer 0 of the alarm, the lowest byte first, as many as fit
 abbrev pub showing : ℕ → Own → Own
@@ -76,12 +72,12 @@ commands now a2 a3 own =
 unfoldable pub command : ℕ → ℕ → ℕ → ℕ → Own → Commanded
 command now number a2 a3 own = by_number own (commands now a2 a3 own) number
 
--- the alarm of a process that is due; none of one that has ended
+-- an alarm, where it is due: its delta has passed since its reference
 abbrev pub if_due : ℕ → Option Armed → Option Armed
 if_due now None = None
-if_due now (Some alarm) = if is_due now alarm then Some alarm else None
+if_due now (Some alarm) = if nat_le alarm.delta ((now + (2 ^ 32 - alarm.reference)) % 2 ^ 32) then Some alarm else None
 
--- the alarm of a process that lives, where it is due
+-- the alarm of a process that is due; none of one that has ended
 abbrev pub due_alarm : ℕ → Own → Option Armed
 due_alarm now own = if own.lives then if_due now (alarm_in own) else None
 
@@ -89,14 +85,9 @@ due_alarm now own = if own.lives then if_due now (alarm_in own) else None
 abbrev pub fired : ℕ → Armed → Own → DriverStep
 fired now alarm own = scheduling alarm_driver 0 (now ∷ expiration alarm ∷ 0 ∷ []) (with_alarm None (showing now own))
 
--- a process whose alarm fired, if one did
-abbrev pub fired_if : ℕ → Own → Option Armed → DriverStep
-fired_if now own None = silently own
-fired_if now own (Some alarm) = fired now alarm own
-
 -- what the clock's answer changes of a process: its alarm fires, where it is due
 unfoldable pub answered : ℕ → Own → DriverStep
-answered now own = fired_if now own (due_alarm now own)
+answered now own = unwrap_or (option_map (λ alarm. fired now alarm own) (due_alarm now own)) (silently own)
 
 -- whether the alarm of the process in a slot is due, if there is one
 abbrev pub has_due : ℕ → Option Own → Bool
@@ -129,13 +120,9 @@ nearer None other = other
 nearer (Some ticks) None = Some ticks
 nearer (Some ticks) (Some other) = Some (min ticks other)
 
--- the least so far, and then with one slot more
-abbrev pub nearer_with : ℕ → List Own → Option ℕ → ℕ → Option ℕ
-nearer_with now owns least slot = nearer least (ticks_left_in now owns slot)
-
 -- the ticks that are left until the next alarm becomes due: the least over all slots
 unfoldable pub next_left : ℕ → List Own → Option ℕ
-next_left now owns = fold (nearer_with now owns) None (range_with_len 0 SLOT_COUNT)
+next_left now owns = fold (λ least slot. nearer least (ticks_left_in now owns slot)) None (range_with_len 0 SLOT_COUNT)
 
 -- and until that of one slot alone does, or that of any
 abbrev pub left_for : Option ℕ → ℕ → List Own → Option ℕ

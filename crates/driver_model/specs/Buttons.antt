@@ -19,20 +19,16 @@ buttons = number_of_driver Buttons
 
 -- the mask in a value that is kept
 abbrev pub enabled_in : Option KeptValue → ℕ
-enabled_in (Some (ButtonsValue value)) = value.enabled
+enabled_in (Some (ButtonsValue mask)) = mask
 enabled_in other = 0
 
 -- of which buttons a process is told, bit n for button n: of none where it never entered the driver
 abbrev pub enabled : Own → ℕ
 enabled own = enabled_in (kept buttons own)
 
--- a process that is told of these buttons
-abbrev pub with_enabled : ℕ → Own → Own
-with_enabled mask own = with_kept buttons (ButtonsValue (record { enabled = mask })) own
-
 -- a process that keeps a mask is told of one button more, or of one less
 abbrev pub set_enabled : ℕ → Bool → Own → Own
-set_enabled button on own = with_enabled (with_bit (enabled own) button on) own
+set_enabled button on own = with_kept buttons (ButtonsValue (with_bit (enabled own) button on)) own
 
 -- a process is told of a button from now on, if there is room for the driver's grant
 abbrev pub enabling : ℕ → Own → Commanded

@@ -48,11 +48,6 @@ console_reads = record {
   line = Reads;
 }
 
--- a read of so many bytes begins to wait; one of no bytes is refused
-abbrev pub asking_to_read : ℕ → Own → Commanded
-asking_to_read count own =
-    if count == 0 then refusing Empty own else asking console_reads (record { length = count }) own
-
 -- the read that waits is dropped: upcall 2 tells that it was cancelled
 abbrev pub dropping_read : Own → DriverStep
 dropping_read own = scheduling console 2 (code_of CANCEL ∷ 0 ∷ 0 ∷ []) (with_request console_reads None own)
@@ -62,12 +57,12 @@ abbrev pub cancelling : Option WaitingRead → Own → Commanded
 cancelling None own = refusing Nothing own
 cancelling (Some read) own = record { answer = Ok Success; step = dropping_read own; acts = Leaves Reads ∷ [] }
 
--- its commands: the driver is there; write, and read, so many bytes; drop the read
+-- its commands: the driver is there; write, and read, so many bytes, where a read of no bytes is refused; drop the read
 unfoldable pub commands : ℕ → Own → List (ℕ × Commanded)
 commands count own =
     (0, accepting Success own)
     ∷ (1, asking console_writes (record { length = count; taken = 0 }) own)
-    ∷ (2, asking_to_read count own)
+    ∷ (2, if count == 0 then refusing Empty own else asking console_reads (record { length = count }) own)
     ∷ (3, cancelling (request_in console_reads own) own)
     ∷ []
 
@@ -154,14 +149,11 @@ pub record Received : Type 0 where
 abbrev pub unreceived : Own → Received
 unreceived own = record { step = silently own; moved = []; completed = false }
 
--- the oldest bytes that came in, as many as a read asks for, and no more than the buffer has that is held now
-abbrev pub bytes_moving : List ℕ → WaitingRead → Own → List ℕ
-bytes_moving ring read own = take (min read.length (held ReadWrite console 1 own).1) ring
-
--- the bytes are moved into the read's buffer, and the read completes
+-- the oldest bytes that came in are moved into the read's buffer, as many as it asks for, and no more than the buffer
+-- has that is held now; and the read completes
 abbrev pub receiving : List ℕ → Own → WaitingRead → Received
 receiving ring own read =
-    let bytes = bytes_moving ring read own in
+    let bytes = take (min read.length (held ReadWrite console 1 own).1) ring in
     record { step = reading_in bytes own read; moved = bytes; completed = true }
 
 -- the step for a process, with these bytes in the ring; nothing changes where no read of it waits

@@ -9,6 +9,7 @@ pub mod Random
 pub mod Storage
 pub mod Told
 pub mod Replies
+pub mod Parts
 pub mod Drivers
 pub mod Laws
 pub mod Asked

@@ -22,7 +22,7 @@ random = number_of_driver Random
 
 -- the request in a value that is kept, if one waits
 abbrev pub random_request : KeptValue → Option RandomRequest
-random_request (RandomValue kept) = kept.request
+random_request (RandomValue request) = request
 random_request other = None
 
 -- where a process asks for bytes: its request is all that it keeps
@@ -30,7 +30,7 @@ abbrev pub randoms : RequestKind RandomRequest
 randoms = record {
   driver = random;
   told = random_request;
-  with_request = λ request value. RandomValue (record { request = request });
+  with_request = λ request value. RandomValue request;
   line = Randoms;
 }
 
@@ -59,17 +59,13 @@ abbrev pub completing : Option ℕ → ℕ → ℕ → Own → Progress
 completing drawn outcome bytes own =
     record { rest = None; step = scheduling random 0 (outcome ∷ bytes ∷ 0 ∷ []) own; drawn = drawn }
 
--- a process with the first bytes of a word, the lowest first, after those that were written so far
-abbrev pub with_word : ℕ → ℕ → RandomRequest → Own → Own
-with_word word left request own =
-    with_written ReadWrite random 0 request.written (take (min 4 left) (to_le_bytes w32 word)) own
-
--- the next word is drawn for a request that wants so many bytes more; it completes where these are no more than
--- four, and where no word is left
+-- the next word is drawn for a request that wants so many bytes more: as many of its bytes, the lowest first, are
+-- written after those so far; it completes where these are no more than four, and where no word is left
 abbrev pub drawing : ℕ → RandomRequest → Own → Option ℕ → Progress
 drawing left request own None = completing None 1 request.written own
 drawing left request own (Some word) =
-    let o = with_word word left request own in
+    let bytes = take (min 4 left) (to_le_bytes w32 word) in
+    let o = with_written ReadWrite random 0 request.written bytes own in
     if nat_le left 4 then completing (Some word) 0 (request.written + left) o
     else record { rest = Some (record request { written = request.written + 4 }); step = silently o; drawn = Some word }
 

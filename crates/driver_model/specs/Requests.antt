@@ -1,6 +1,6 @@
 -- Requests of processes that a driver serves one after another. A process's request waits in the grant that it keeps
 -- for the driver (Levy et al., SOSP 2017, section 4), and the process waits in a list of the board's.
-use Rattle.std.specs.Prelude.{ℕ, if◌then◌else◌, [], ◌∷◌, Option, None, Some, option_and_then, unwrap_or, Ok}
+use Rattle.std.specs.Prelude.{ℕ, if◌then◌else◌, [], ◌∷◌, Option, None, Some, is_some, option_and_then, unwrap_or, Ok}
 use Rattle.tk_base.specs.declared.call.CallRule.TheVariants.{Busy, NoRoom}
 use Rattle.grant_values.specs.Values.{KeptValue, NoValue}
 use Rattle.syscall_abi.specs.declared.reply.Reply.TheVariants.{Success}
@@ -40,18 +40,12 @@ waiting_in request_kind own = if own.lives then request_in request_kind own else
 -- a request begins to wait, if there is room for the driver's grant
 abbrev pub beginning : {R : Type 0} → RequestKind R → R → Own → Commanded
 beginning request_kind request own =
-    if has_place request_kind.driver own then record {
-      answer = Ok Success;
-      step = silently (with_request request_kind (Some request) (own_entering request_kind.driver own));
-      acts = Waits request_kind.line ∷ [];
-    }
+    let o = with_request request_kind (Some request) (own_entering request_kind.driver own) in
+    if has_place request_kind.driver own
+    then record { answer = Ok Success; step = silently o; acts = Waits request_kind.line ∷ [] }
     else refusing NoRoom own
-
--- where one waits already there is none more
-abbrev pub asking_beside : {R : Type 0} → RequestKind R → Option R → R → Own → Commanded
-asking_beside request_kind None request own = beginning request_kind request own
-asking_beside request_kind (Some waiting) request own = refusing Busy own
 
 -- a request begins to wait, or is refused: one of this kind waits already, or there is no room for the grant
 abbrev pub asking : {R : Type 0} → RequestKind R → R → Own → Commanded
-asking request_kind request own = asking_beside request_kind (request_in request_kind own) request own
+asking request_kind request own =
+    if is_some (request_in request_kind own) then refusing Busy own else beginning request_kind request own

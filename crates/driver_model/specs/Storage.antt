@@ -24,7 +24,7 @@ storage = number_of_driver Storage
 
 -- the request in a value that is kept, if one waits
 abbrev pub storage_request : KeptValue → Option StorageRequest
-storage_request (StorageValue kept) = kept.request
+storage_request (StorageValue request) = request
 storage_request other = None
 
 -- where a process asks for its slot's bytes: its request, of either kind, is all that it keeps
@@ -32,7 +32,7 @@ abbrev pub storages : RequestKind StorageRequest
 storages = record {
   driver = storage;
   told = storage_request;
-  with_request = λ request value. StorageValue (record { request = request });
+  with_request = λ request value. StorageValue request;
   line = Stores;
 }
 
@@ -69,27 +69,19 @@ upcall_for Write = 1
 abbrev pub completing : StorageKind → ℕ → ℕ → Own → DriverStep
 completing kind count outcome own = scheduling storage (upcall_for kind) (count ∷ outcome ∷ 0 ∷ []) own
 
--- bytes of the slot's storage are copied to the start of the buffer that is held now, and no more than it has
-abbrev pub reading_store : List ℕ → StorageRequest → Own → StorageServed
-reading_store bytes request own =
+-- What serving a request moves and tells, by its kind. By a read bytes of the slot's storage are copied to the start of
+-- the buffer that is held now, and no more than it has; by a write bytes from the start of the buffer that is held now,
+-- and no more than it has, are to be written over the storage.
+abbrev pub moving : StorageKind → (ℕ → ℕ) → List ℕ → StorageRequest → Own → StorageServed
+moving Read flash bytes request own =
     let count = min request.length (held ReadWrite storage 0 own).1 in
     let copied = slice_range bytes request.offset (request.offset + count) in
     record { step = completing Read count 0 (with_written ReadWrite storage 0 0 copied own); written = None }
-
--- bytes from the start of the buffer that is held now, and no more than it has, are to be written over the storage
-abbrev pub writing_store : (ℕ → ℕ) → StorageRequest → Own → StorageServed
-writing_store flash request own =
+moving Write flash bytes request own =
     let buffer = held ReadOnly storage 0 own in
     let count = min request.length buffer.1 in
-    record {
-      step = completing Write count 0 own;
-      written = Some (request.offset, take count (bytes_at flash own buffer));
-    }
-
--- what serving a request moves and tells, by its kind
-abbrev pub moving : StorageKind → (ℕ → ℕ) → List ℕ → StorageRequest → Own → StorageServed
-moving Read flash bytes request own = reading_store bytes request own
-moving Write flash bytes request own = writing_store flash request own
+    let moved = take count (bytes_at flash own buffer) in
+    record { step = completing Write count 0 own; written = Some (request.offset, moved) }
 
 -- a request is served, with flash and the bytes of the slot's storage; on a fault it moves nothing
 abbrev pub storage_served : Bool → (ℕ → ℕ) → List ℕ → StorageRequest → Own → StorageServed

@@ -8,12 +8,14 @@ use Rattle.tk_base.specs.declared.process.ProcessId.{ProcessId}
 use Rattle.tk_base.specs.declared.upcall.Counts.{Counts}
 use Rattle.grant_values.specs.declared.drivers.Driver.{Driver}
 use Rattle.grant_values.specs.Drivers.{driver_of}
-use Rattle.grant_values.specs.Values.{KeptValue, fresh_by, fresh_value, value_or_none}
+use Rattle.grant_values.specs.Values.{KeptValue, fresh_by, fresh_value}
+use Rattle.grant_values.specs.ByNumber.{value_or_none}
 use Rattle.grant_model.specs.Grants.{Grant, entering, fresh, grant_of}
 use Rattle.process_model.specs.Own.{Own, kernel_break_of}
 use Rattle.process_model.specs.Handed.{own_entering}
 use Rattle.process_model.specs.Served.{kept, with_kept}
-use Rattle.driver_model.specs.Requests.{RequestKind, asking, asking_beside, request_in}
+use Rattle.driver_model.specs.Requests.{RequestKind, asking, request_in}
+use Rattle.driver_model.specs.Parts.{asking_beside}
 use Rattle.driver_model.specs.Steps.{own_after}
 use Rattle.grant_enter.specs.Homes.{ChangesOnly, Homes, IsInPlace, own_of}
 use Rattle.grant_enter.specs.Seen.{Seen}

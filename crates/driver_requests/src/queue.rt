@@ -52,6 +52,7 @@ impl<R> RequestQueue<R> {
     }
 
     /// Whether one waits, or that of the one slot which is served.
+    #[inline(always)]
     pub fn has_one(&self, only: Option<Slot>) -> bool
         ensures { result ≡ is_some (first_of only self.now) }
     {

@@ -101,7 +101,9 @@ impl WaitingList {
         Some(waiting.id)
     }
 
-    /// The process of a slot, where it waits.
+    /// The process of a slot, where it waits. It is not asked for without time partitions, and what
+    /// is asked for then is inlined.
+    #[inline(never)]
     fn of_slot(&self, slot: Slot) -> Option<ProcessId>
         ensures { result ≡ find (λ id. id.slot == slot) self.now }
     {
@@ -113,6 +115,7 @@ impl WaitingList {
 
     /// The process that waits longest, or that of the one slot that is served. None exactly where
     /// none waits that is served.
+    #[inline(always)]
     pub fn first(&self, only: Option<Slot>) -> Option<ProcessId>
         ensures { result ≡ first_of only self.now }
     {

@@ -2,7 +2,8 @@
 -- stands where its total size ends. What an application must have beside is the board's own rule, after the formats
 -- of "Main", "Program" and "Fixed Addresses". Places are counted from the start of flash.
 use Rattle.std.specs.Prelude.{◌≡◌, ◌≤◌, ℕ, zero, suc, ◌+◌, ◌-◌, ◌%◌, ◌==◌, Bool, false, not, ◌||◌, ◌&&◌, nat_lt, nat_le}
-use Rattle.std.specs.Prelude.{if◌then◌else◌, List, [], ◌∷◌, length, Option, Some, None, Result, Ok, Err}
+use Rattle.std.specs.Prelude.{if◌then◌else◌, List, [], ◌∷◌, length, Result, Ok, Err}
+use Rattle.std.specs.Option.{option_map_or}
 use Rattle.tk_base.specs.declared.access.TheConstants.{FLASH_START}
 use Rattle.tk_base.specs.declared.limits.TheConstants.{OBJECT_LIMIT}
 use Rattle.tbf_headers.specs.declared.fault.HeaderFault.{HeaderFault}
@@ -15,46 +16,30 @@ use Rattle.flash_walk.specs.declared.found.Found.{Found}
 use Rattle.flash_walk.specs.declared.found.Verdict.{Verdict}
 use Rattle.flash_walk.specs.declared.found.Verdict.TheVariants.{Bad, Padding, Disabled, BadEntry, WrongFlash, App}
 
--- the entry is outside accessible flash
-abbrev pub is_outside_flash : ℕ → Meaning → Main → Bool
-is_outside_flash start h m =
-    nat_lt (entry_of start h m) (accessible_start start h m)
-    || nat_le (accessible_end_of start h m) (entry_of start h m)
-
--- the binary's end passes the object, or stands before the end of the protected bytes
-abbrev pub is_bad_binary_end : ℕ → ℕ → Option ℕ → Bool
-is_bad_binary_end protected_end total None = false
-is_bad_binary_end protected_end total (Some binary_end) = nat_lt total binary_end || nat_lt binary_end protected_end
-
--- the header and the protected bytes pass the object, the binary's end is bad, or the entry is odd or outside
+-- the header and the protected bytes pass the object, the binary's end passes the object or stands before the end of
+-- the protected bytes, or the entry is odd or outside accessible flash
 abbrev pub has_bad_entry : ℕ → Meaning → Main → Bool
 has_bad_entry start h m =
     nat_lt h.total_size (h.header_size + m.protected)
-    || is_bad_binary_end (h.header_size + m.protected) h.total_size m.binary_end || entry_of start h m % 2 == 1
-    || is_outside_flash start h m
+    || option_map_or (λ e. nat_lt h.total_size e || nat_lt e (h.header_size + m.protected)) m.binary_end false
+    || entry_of start h m % 2 == 1
+    || (nat_lt (entry_of start h m) (accessible_start start h m)
+    || nat_le (accessible_end_of start h m) (entry_of start h m))
 
--- the flash start that the application is linked for, where there is one, is not where it stands
-abbrev pub is_wrong_flash : ℕ → Option (ℕ × ℕ) → Bool
-is_wrong_flash linked None = false
-is_wrong_flash linked (Some fixed) = not (fixed.1 == 4294967295) && not (fixed.1 == linked)
-
--- the first verdict that fits an object with a Program or a Main TLV
+-- the first verdict that fits an object with a Program or a Main TLV: it is disabled, its entry is bad, or the flash
+-- start that it is linked for, where there is one, is not where it stands
 abbrev pub app_verdict : ℕ → Meaning → Main → Verdict
 app_verdict start h m =
     if h.flags % 2 == 0 then Disabled
     else (if has_bad_entry start h m then BadEntry
-    else (if is_wrong_flash (after_protected start h m) h.fixed then WrongFlash
+    else (if option_map_or (λ fixed. not (fixed.1 == 4294967295) && not (fixed.1 == after_protected start h m))
+    h.fixed false then WrongFlash
     else App))
 
--- an object with neither is padding
-abbrev pub object_verdict : ℕ → Meaning → Option Main → Verdict
-object_verdict start h None = Padding
-object_verdict start h (Some m) = app_verdict start h m
-
--- the verdict on an object at an address, by what its bytes mean
+-- the verdict on an object at an address, by what its bytes mean: one with neither of these TLVs is padding
 abbrev pub verdict_of : ℕ → Result Meaning HeaderFault → Verdict
 verdict_of start (Err fault) = Bad fault
-verdict_of start (Ok h) = object_verdict start h h.main
+verdict_of start (Ok h) = option_map_or (app_verdict start h) h.main Padding
 
 -- the total size in the header at a place
 abbrev pub size_at : List ℕ → ℕ → ℕ

@@ -2,7 +2,8 @@
 ghost use Rattle.std.specs.Prelude.{◌≡◌};
 ghost use Rattle.tbf_headers.specs.Meaning.{header_reading};
 ghost use Rattle.tbf_headers.specs.Shown.{shown};
-ghost use Rattle.flash_walk.specs.Image.{is_bad_binary_end, is_outside_flash, has_bad_entry, is_wrong_flash, app_verdict, verdict_of};
+ghost use Rattle.flash_walk.specs.Image.{has_bad_entry, app_verdict, verdict_of};
+ghost use Rattle.flash_walk.specs.Parts.{is_bad_binary_end, is_outside_flash, is_wrong_flash};
 
 use crate::found::Verdict;
 use tbf_headers::{AppHeader, read_header};

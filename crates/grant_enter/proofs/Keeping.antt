@@ -8,7 +8,8 @@ use Rattle.tk_base.specs.declared.upcall.Counts.{Counts}
 use Rattle.grant_values.specs.declared.drivers.Driver.{Driver}
 use Rattle.grant_values.specs.Drivers.{driver_of}
 use Rattle.grant_values.specs.Words.{IsWord, words_of}
-use Rattle.grant_values.specs.Values.{KeptValue, value_by, value_or_none, value_told, value_words}
+use Rattle.grant_values.specs.Values.{KeptValue, value_by, value_told, value_words}
+use Rattle.grant_values.specs.ByNumber.{value_or_none}
 use Rattle.grant_model.specs.Grants.{Grant, grant_of, shape_of, with_grant, with_value}
 use Rattle.grant_model.specs.Encoding.{CanBeKept, Tells, decode_grants}
 use Rattle.grant_model.specs.Laws.{IsValue, value_bytes}

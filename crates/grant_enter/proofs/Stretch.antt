@@ -37,10 +37,13 @@ module _ (laws : InstructionLaws) (pmp : List Entry) (s : Seat) (p : Protect pmp
     its_own seen regs looks = same_turn m.flash m.ram pmp s seen t.settled p looks laws.sees regs
 
     -- where it does not go
-    pub is_stopped : (regs : Registers) → (turn_under pmp m.flash m.ram regs).end ≢ Went
-        → IsStopped m.flash (own_in m.ram s) regs
-    is_stopped regs stopped =
-        (own_in_place m s t, λ seen looks e. stopped (ap (λ (x : UserTurn). x.end) (its_own seen regs looks) ∙ e))
+    pub is_stopped : (regs : Registers) (end : TurnEnd) → end ≢ Went
+        → end ≡ (turn_under pmp m.flash m.ram regs).end → IsStopped m.flash (own_in m.ram s) regs end
+    is_stopped regs end stopped is = (
+      stopped,
+      own_in_place m s t,
+      λ seen looks. sym (is ∙ ap (λ (x : UserTurn). x.end) (its_own seen regs looks)),
+    )
 
     -- what it leaves
     left_by : (regs : Registers) → Writes m s (turn_under pmp m.flash m.ram regs).write
@@ -136,9 +139,9 @@ module _ {h : Inside} {old : Homes} {slot index : ℕ} {s : Seat} (r : Reads h o
   all_made = still_shows r m changed (λ flash own own_after. MakesAll k flash own regs own_after later) led.made
 
   pub stopped : (most : ℕ) (end : TurnEnd) → StopsUnder pmp h.memory.flash most k end later m.ram → k < most
-      → IsStopped old.flash (own_of (homes_of (record { memory = m; seats = h.seats })) slot) later
+      → IsStopped old.flash (own_of (homes_of (record { memory = m; seats = h.seats })) slot) later end
   stopped most end stops fewer =
       let why = stops.fewer fewer in
-      still_shows r m changed (λ flash own own_after. IsStopped flash own_after later)
-      (is_stopped laws pmp s (protects r pmp p) (record h.memory { ram = m.ram }) led.reseats.sits later
-      (λ e. why.0 (why.1 ∙ e)))
+      still_shows r m changed (λ flash own own_after. IsStopped flash own_after later end)
+      (is_stopped laws pmp s (protects r pmp p) (record h.memory { ram = m.ram }) led.reseats.sits later end why.0
+      why.1)

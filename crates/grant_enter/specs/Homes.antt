@@ -105,7 +105,9 @@ MakesAll (suc k) flash own regs own_after regs_after =
     let t = instruction_of own seen regs in
     (t.end ≡ Went) × MakesAll k flash (with_write own t) t.regs own_after regs_after)
 
--- the next instruction of a process does not go: it makes a system call or is denied
-abbrev pub IsStopped : List ℕ → Own → Registers → Type 0
-IsStopped flash own regs =
-    IsInPlace own × ((seen : ℕ → ℕ) → Sees flash own seen → (instruction_of own seen regs).end ≢ Went)
+-- the next instruction of a process does not go, and ends so: it makes a system call or is denied
+abbrev pub IsStopped : List ℕ → Own → Registers → TurnEnd → Type 0
+IsStopped flash own regs end =
+    (end ≢ Went)
+    × IsInPlace own
+    × ((seen : ℕ → ℕ) → Sees flash own seen → (instruction_of own seen regs).end ≡ end)

@@ -58,17 +58,25 @@ app_in ram e = ram_between ram e.start e.kernel_break
 abbrev pub kernel_in : List ℕ → LayoutView → List ℕ
 kernel_in ram e = ram_between ram e.kernel_break e.end
 
--- what is the own of a process whose block lies in RAM
+-- what is the own of a process whose block lies in RAM: its grants are in the bytes from the kernel break on
 abbrev pub own_in : List ℕ → Seat → Own
-own_in ram seat = owned seat (app_in ram seat.layout) (kernel_in ram seat.layout)
+own_in ram seat = record {
+  object = seat.object;
+  layout = bounds_of seat.layout;
+  ram = ram_between ram seat.layout.start seat.layout.kernel_break;
+  grants = decode_grants (ram_between ram seat.layout.kernel_break seat.layout.end);
+  inbox = seat.inbox;
+  life = seat.life;
+  lives = seat.lives;
+}
+
+-- what contracts see of the memory that a home keeps: flash, and what is the own of the process in each slot
+abbrev pub homes_of : Inside → Homes
+homes_of h = record { flash = h.memory.flash; owns = map (own_in h.memory.ram) h.seats.items }
 
 -- what is the own of the process in each slot
 abbrev pub owns_seated : List ℕ → List Seat → List Own
 owns_seated ram seats = map (own_in ram) seats
-
--- what contracts see of the memory that a home keeps
-abbrev pub homes_of : Inside → Homes
-homes_of h = record { flash = h.memory.flash; owns = owns_seated h.memory.ram h.seats.items }
 
 -- layouts by slot: each lies in memory of so many bytes, and they lie one after another
 pub record AreSettled (flash ram : ℕ) (layouts : List LayoutView) : Type 0 where

@@ -10,6 +10,7 @@ ghost use Rattle.process_model.specs.Own.{block_of, kernel_break_of, layout_of, 
 ghost use Rattle.process_model.specs.Own.{with_moved_break, own_restarted, own_ended};
 ghost use Rattle.process_model.specs.Own.{with_inbox};
 ghost use Rattle.tk_base.specs.declared.upcall.Wait.TheVariants.{For};
+ghost use Rattle.rv32_model.specs.declared.turn_end.TurnEnd.TheVariants.{Went};
 ghost use Rattle.upcall_queue.specs.Pending.{due, left_after, place_of, taken_at};
 ghost use Rattle.process_model.specs.Flag.{with_flag};
 ghost use Rattle.process_model.specs.Handed.{HoldsInPlace, own_entering, handing, has_place, held};
@@ -31,6 +32,7 @@ use pmp_regions::Pmp;
 use process_layout::Layout;
 use process_model::Footprint;
 use rv32_model::{TurnEnd, sees_only_permitted, writes_are_permitted};
+use rv32_step::Stretch;
 use std::alloc::Global;
 use std::marker::Model;
 use swap_tables::Handover;
@@ -367,19 +369,22 @@ impl Home {
     }
 
     /// As many instructions of the process in a slot as go, one after another, at most `most`,
-    /// while the registers protect it, and how many they were. It stops before one that makes a
-    /// system call or is denied. Each sees the process's own accessible bytes and no other, and
-    /// writes to its own accessible RAM alone: nothing of another slot changes.
-    pub fn instruct_quietly(&mut self, slot: Slot, pmp: &Pmp, regs: &mut Regs, most: u32) -> u32
+    /// while the registers protect it; how many they were, and how the next one ends, where it does
+    /// not go. It stops before one that makes a system call or is denied. Each sees the process's
+    /// own accessible bytes and no other, and writes to its own accessible RAM alone: nothing of
+    /// another slot changes.
+    pub fn instruct_quietly(&mut self, slot: Slot, pmp: &Pmp, regs: &mut Regs, most: u32) -> Stretch
         requires slot { slot < length self.old.owns }
         requires protect { Protect pmp.now (own_of self.old slot).layout }
-        ensures most { result ≤ most }
-        ensures made { MakesAll result self.old.flash (own_of self.old slot) regs.old
+        ensures most { result.went ≤ most }
+        ensures made { MakesAll result.went self.old.flash (own_of self.old slot) regs.old
             (own_of self.new slot) regs.new }
-        ensures stops { result < most → IsStopped self.old.flash (own_of self.new slot) regs.new }
+        ensures all { result.went ≡ most → result.end ≡ Went }
+        ensures stops { result.went < most
+            → IsStopped self.old.flash (own_of self.new slot) regs.new result.end }
         ensures rest { ChangesOnly slot self.old self.new }
     {
         instruction_laws();
-        turns_in(regs, &mut self.memory, pmp, most).went
+        turns_in(regs, &mut self.memory, pmp, most)
     }
 }

@@ -4,7 +4,8 @@ use Rattle.std.proofs.Common.{get_or, set, length-append, Some}
 use Rattle.grant_values.specs.Words.{WordsInBytes, bytes_of_words, words_of}
 use Rattle.tk_base.specs.declared.kinds.PairKind.{PairKind}
 use Rattle.grant_model.specs.declared.places.Area.{Area}
-use Rattle.tk_base.specs.Kinds.{count_of, pair_place}
+use Rattle.tk_base.specs.Kinds.{count_of}
+use Rattle.tk_base.specs.Places.{pair_place}
 use Rattle.grant_model.specs.Grants.{shape_of, grant_of, with_grant, pairs_of, pair_of, with_pair}
 use Rattle.grant_model.specs.Encoding.{body_words, areas, EncodesGrants, Tells, area_of, decode_grants}
 use Rattle.grant_model.specs.Laws.{ArePair, PairsAreFound, word_of_pair}

@@ -6,7 +6,8 @@ use Rattle.std.proofs.lemmas.List.{set-append_left, set-append_right, get_or_app
 use Rattle.std.proofs.lemmas.List.{length-set}
 use Rattle.grant_values.specs.Words.{IsWord}
 use Rattle.tk_base.specs.declared.kinds.PairKind.{PairKind}
-use Rattle.tk_base.specs.Kinds.{count_of, pair_count, pair_place, pairs_before}
+use Rattle.tk_base.specs.Kinds.{count_of, pair_count, pairs_before}
+use Rattle.tk_base.specs.Places.{pair_place}
 use Rattle.grant_model.specs.Grants.{Grant, shape_of, pairs_of, with_pair}
 use Rattle.grant_model.specs.Encoding.{pair_words, padded_words, body_words, IsSound}
 use Rattle.grant_model.proofs.Back.{length-pairs}

@@ -10,7 +10,8 @@ use Rattle.std.proofs.Math.Seq.{take-set-lt}
 use Rattle.tk_base.specs.declared.kinds.PairKind.{PairKind}
 use Rattle.tk_base.specs.declared.upcall.Counts.{Counts}
 use Rattle.tk_base.proofs.Ranks.{same_rank}
-use Rattle.tk_base.specs.Kinds.{count_of, pair_count, pair_counts, pair_place, pairs_before, rank_of}
+use Rattle.tk_base.specs.Kinds.{count_of, pair_count, pair_counts, pairs_before, rank_of}
+use Rattle.tk_base.specs.Places.{pair_place}
 use Rattle.grant_model.specs.Grants.{Grant, HasPairs, shape_of, pair_of, pairs_of, with_pair}
 use Rattle.grant_model.specs.Laws.{PairsStandByKind}
 

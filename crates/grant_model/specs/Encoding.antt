@@ -1,6 +1,6 @@
 -- The grants of a process as bytes of its own block (Levy et al., SOSP 2017, section 4; the form in words is this
 -- kernel's own): one area after another from the kernel break up to the block's end, the last entered lowest.
-use Rattle.std.specs.Prelude.{ℕ, zero, suc, ◌≡◌, ◌+◌, ◌-◌, ◌*◌, ◌/◌, ◌<◌, ◌^◌, ◌==◌, if◌then◌else◌, List, [], ◌∷◌, ◌++◌}
+use Rattle.std.specs.Prelude.{ℕ, suc, ◌≡◌, ◌+◌, ◌-◌, ◌*◌, ◌/◌, ◌<◌, ◌^◌, ◌==◌, if◌then◌else◌, List, [], ◌∷◌, ◌++◌}
 use Rattle.std.specs.Prelude.{length, take, drop, replicate, Option, None, Some, option_map}
 use Rattle.std.specs.List.{AllByRecursion}
 use Rattle.tk_base.specs.declared.upcall.Counts.{Counts}
@@ -59,10 +59,8 @@ pub record IsSound (g : Grant) : Type 0 where
 
 -- the pairs at the front of words
 abbrev pub pairs_at_front : ℕ → List ℕ → List (ℕ × ℕ)
-pairs_at_front zero words = []
 pairs_at_front (suc n) (a ∷ b ∷ words) = (a, b) ∷ pairs_at_front n words
-pairs_at_front (suc n) (a ∷ []) = []
-pairs_at_front (suc n) [] = []
+pairs_at_front n other = []
 
 -- the grant of a driver that words tell
 abbrev pub grant_in : ℕ → Counts → List ℕ → Grant
@@ -74,10 +72,8 @@ grant_in driver counts words = record {
 
 -- the grants that words tell, so many at most
 abbrev pub grants_in : ℕ → List ℕ → List Grant
-grants_in zero words = []
-grants_in (suc n) [] = []
-grants_in (suc n) (d ∷ []) = []
 grants_in (suc n) (d ∷ c ∷ words) = grant_in d (shape_of d) words ∷ grants_in n (drop (body_size (shape_of d)) words)
+grants_in n other = []
 
 -- the grants that the kernel's bytes of a block tell
 unfoldable pub decode_grants : List ℕ → List Grant

@@ -1,10 +1,10 @@
 -- What a process keeps for each driver that it has entered (Levy et al., SOSP 2017, section 4), and the pairs that it
 -- swaps (TRD 104, "Subscribe", "Read-Only Allow", "Read-Write Allow").
 use Rattle.std.specs.Prelude.{ℕ, ◌≡◌, ◌+◌, ◌==◌, if◌then◌else◌, List, [], ◌∷◌, length, take, drop, replicate}
-use Rattle.std.specs.Prelude.{slice_index_or, slice_set, Option, None, Some}
+use Rattle.std.specs.Prelude.{slice_index_or, slice_set, Option, None, Some, unwrap_or}
 use Rattle.tk_base.specs.declared.upcall.Counts.{Counts}
 use Rattle.tk_base.specs.declared.kinds.PairKind.{PairKind}
-use Rattle.tk_base.specs.Kinds.{count_of, pair_count, pair_place, pairs_before}
+use Rattle.tk_base.specs.Kinds.{count_of, pair_count, pairs_before}
 use Rattle.grant_values.specs.Drivers.{counting, counts_of, cost_of}
 use Rattle.grant_values.specs.Values.{KeptValue, fresh_value}
 
@@ -15,14 +15,9 @@ pub record Grant : Type 0 where
   pub pairs : List (ℕ × ℕ)
   pub value : KeptValue
 
--- the counts of a driver's grant; all 0 where there is no such driver
-abbrev pub counts_or_none : Option Counts → Counts
-counts_or_none None = counting 0 0 0 0 0
-counts_or_none (Some counts) = counts
-
 -- how many pairs and bytes the grant of a driver has; none of any where there is no such driver
 unfoldable pub shape_of : ℕ → Counts
-shape_of driver = counts_or_none (counts_of driver)
+shape_of driver = unwrap_or (counts_of driver) (counting 0 0 0 0 0)
 
 -- how many bytes grants take: what the driver of each costs
 abbrev pub costs : List Grant → ℕ
@@ -54,7 +49,7 @@ pair_of kind n (Some g) = slice_index_or (pairs_of kind g) n (0, 0)
 
 -- a grant with another pair n of a kind
 abbrev pub with_pair : PairKind → ℕ → ℕ × ℕ → Grant → Grant
-with_pair kind n pair g = record g { pairs = slice_set g.pairs (pair_place kind n (shape_of g.driver)) pair }
+with_pair kind n pair g = record g { pairs = slice_set g.pairs (pairs_before kind (shape_of g.driver) + n) pair }
 
 -- a grant with another value
 abbrev pub with_value : KeptValue → Grant → Grant
@@ -62,11 +57,8 @@ with_value value g = record g { value = value }
 
 -- the grant of a driver as it is made: all pairs are (0, 0), and nothing waits
 abbrev pub fresh : ℕ → Grant
-fresh driver = record {
-  driver = driver;
-  pairs = replicate (pair_count (shape_of driver)) (0, 0);
-  value = fresh_value driver;
-}
+fresh driver =
+    record { driver = driver; pairs = replicate (pair_count (shape_of driver)) (0, 0); value = fresh_value driver }
 
 -- the grants once a driver has been entered: its own is made, and is the first, where there is none
 abbrev pub entering : ℕ → List Grant → Option Grant → List Grant

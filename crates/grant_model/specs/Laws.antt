@@ -3,7 +3,8 @@ use Rattle.std.specs.Prelude.{ℕ, ◌≡◌, ◌≢◌, ◌⊎◌, ◌+◌, ◌
 use Rattle.std.specs.Prelude.{slice_index, slice_set, None, Some}
 use Rattle.std.specs.List.{AllByRecursion}
 use Rattle.tk_base.specs.declared.kinds.PairKind.{PairKind}
-use Rattle.tk_base.specs.Kinds.{count_of, pair_count, pair_place}
+use Rattle.tk_base.specs.Kinds.{count_of, pair_count}
+use Rattle.tk_base.specs.Places.{pair_place}
 use Rattle.grant_values.specs.Words.{bytes_of_words, words_of}
 use Rattle.grant_values.specs.Values.{KeptValue, value_words}
 use Rattle.grant_model.specs.declared.places.Area.{Area}

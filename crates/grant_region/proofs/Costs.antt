@@ -3,7 +3,8 @@ use Rattle.std.proofs.Common.{arith, refl, ap, sym, ◌∙◌, ◌≡◌, ◌*�
 use Rattle.std.specs.Prelude.{option_map}
 use Rattle.tk_base.specs.declared.upcall.Counts.{Counts}
 use Rattle.grant_values.specs.Drivers.{counts_of, cost_of}
-use Rattle.grant_model.specs.Grants.{shape_of, counts_or_none}
+use Rattle.grant_model.specs.Grants.{shape_of}
+use Rattle.grant_values.specs.ByNumber.{counts_or_none}
 use Rattle.grant_region.specs.Region.{Costs}
 
 pub record Known (driver cost : ℕ) : Type 0 where

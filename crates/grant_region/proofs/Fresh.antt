@@ -10,8 +10,9 @@ use Rattle.grant_values.specs.declared.drivers.Driver.{Driver}
 use Rattle.grant_values.specs.declared.drivers.Driver.TheVariants as of
 use Rattle.grant_values.specs.Words.{IsWord, bytes_of_words}
 use Rattle.grant_values.specs.Drivers.{cost_of, counts_by, counts_of, driver_of}
-use Rattle.grant_values.specs.Values.{KeptValue, fresh_by, fresh_value, value_by, value_or_none, value_words}
-use Rattle.grant_model.specs.Grants.{counts_or_none, shape_of, fresh}
+use Rattle.grant_values.specs.Values.{KeptValue, fresh_by, fresh_value, value_by, value_words}
+use Rattle.grant_model.specs.Grants.{shape_of, fresh}
+use Rattle.grant_values.specs.ByNumber.{counts_or_none, value_or_none}
 use Rattle.grant_model.specs.Encoding.{CanBeKept, body_size, padding_of, pair_words, padded_words, body_words, IsSound}
 use Rattle.grant_model.specs.Encoding.{Tells}
 use Rattle.grant_model.specs.Laws.{IsReadBack}

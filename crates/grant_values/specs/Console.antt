@@ -24,7 +24,3 @@ write_of words =
 -- the read that waits, by the words; none where they say that none does
 abbrev pub read_of : List ℕ → Option WaitingRead
 read_of words = waiting_request (slice_index words 3) (record { length = slice_index words 4 })
-
--- what the console keeps, by its words
-abbrev pub console_of : List ℕ → Console
-console_of words = record { write = write_of words; read = read_of words }

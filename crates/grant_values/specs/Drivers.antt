@@ -40,10 +40,7 @@ counts_by Storage = counting 2 1 1 0 24
 unfoldable pub counts_of : ℕ → Option Counts
 counts_of number = option_map counts_by (driver_of number)
 
--- a number of bytes rounded up to a multiple of 8
-abbrev pub rounded_to_8 : ℕ → ℕ
-rounded_to_8 bytes = (bytes + 7) / 8 * 8
-
--- how many bytes a grant takes: the driver's number and the cost, two words for each pair, the value
+-- how many bytes a grant takes: the driver's number and the cost, two words for each pair, the value; rounded up to a
+-- multiple of 8
 abbrev pub cost_of : Counts → ℕ
-cost_of counts = rounded_to_8 (8 + 8 * pair_count counts + counts.value)
+cost_of counts = (8 + 8 * pair_count counts + counts.value + 7) / 8 * 8

@@ -7,3 +7,4 @@ pub mod Random
 pub mod Storage
 pub mod Drivers
 pub mod Values
+pub mod ByNumber

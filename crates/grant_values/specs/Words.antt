@@ -14,10 +14,7 @@ bytes_of_words words = flat_map (to_le_bytes w32) words
 -- the words of bytes; up to three bytes at the end are in none
 unfoldable pub words_of : List ℕ → List ℕ
 words_of (a ∷ b ∷ c ∷ d ∷ rest) = from_le_bytes w32 (a ∷ b ∷ c ∷ d ∷ []) ∷ words_of rest
-words_of (a ∷ b ∷ c ∷ []) = []
-words_of (a ∷ b ∷ []) = []
-words_of (a ∷ []) = []
-words_of [] = []
+words_of other = []
 
 -- how words stand in bytes
 pub record WordsInBytes : Type 0 where

@@ -33,7 +33,7 @@ impl GrantValue for Alarm {
 
     ghost driver = { of.Alarm };
 
-    ghost kept = { AlarmValue };
+    ghost kept = { λ alarm. AlarmValue alarm.armed };
 
     #[tactic(auto, unfolding(crate::specs::Words::words_of))]
     fn fresh() -> Self {

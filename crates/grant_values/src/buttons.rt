@@ -23,7 +23,7 @@ impl GrantValue for Buttons {
 
     ghost driver = { of.Buttons };
 
-    ghost kept = { ButtonsValue };
+    ghost kept = { λ buttons. ButtonsValue buttons.enabled };
 
     #[tactic(auto, unfolding(crate::specs::Words::words_of))]
     fn fresh() -> Self {

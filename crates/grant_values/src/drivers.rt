@@ -2,12 +2,8 @@
 ghost use Rattle.std.specs.Prelude.{◌≡◌, ◌<◌, ◌^◌, IfSome, Some};
 ghost use Rattle.grant_values.specs.Drivers.{cost_of, counting, counts_by, counts_of, driver_of, number_of_driver};
 
-use crate::alarm::Alarm;
-use crate::buttons::Buttons;
-use crate::console::Console;
-use crate::random::Random;
-use crate::storage::Storage;
 use crate::value::GrantValue;
+use crate::{alarm, buttons, console, random, storage};
 use tk_base::Counts;
 
 /// The alarm's number.
@@ -84,12 +80,12 @@ impl Driver {
         ensures cost_fits { cost_of result < 2 ^ 32 }
     {
         match self {
-            Driver::Alarm => counting(1, 0, 0, 1, Alarm::SIZE),
-            Driver::Console => counting(3, 2, 2, 0, Console::SIZE),
+            Driver::Alarm => counting(1, 0, 0, 1, alarm::Alarm::SIZE),
+            Driver::Console => counting(3, 2, 2, 0, console::Console::SIZE),
             Driver::Leds => counting(0, 0, 0, 0, 0),
-            Driver::Buttons => counting(1, 0, 0, 0, Buttons::SIZE),
-            Driver::Random => counting(1, 0, 1, 0, Random::SIZE),
-            Driver::Storage => counting(2, 1, 1, 0, Storage::SIZE),
+            Driver::Buttons => counting(1, 0, 0, 0, buttons::Buttons::SIZE),
+            Driver::Random => counting(1, 0, 1, 0, random::Random::SIZE),
+            Driver::Storage => counting(2, 1, 1, 0, storage::Storage::SIZE),
         }
     }
 }

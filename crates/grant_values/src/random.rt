@@ -32,7 +32,7 @@ impl GrantValue for Random {
 
     ghost driver = { of.Random };
 
-    ghost kept = { RandomValue };
+    ghost kept = { λ random. RandomValue random.request };
 
     #[tactic(auto, unfolding(crate::specs::Words::words_of))]
     fn fresh() -> Self {

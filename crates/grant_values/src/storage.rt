@@ -66,7 +66,7 @@ impl GrantValue for Storage {
 
     ghost driver = { of.Storage };
 
-    ghost kept = { StorageValue };
+    ghost kept = { λ storage. StorageValue storage.request };
 
     #[tactic(auto, unfolding(crate::specs::Words::words_of))]
     fn fresh() -> Self {

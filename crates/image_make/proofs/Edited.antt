@@ -14,9 +14,12 @@ use Rattle.tbf_headers.specs.Tlv.{length_at}
 use Rattle.tbf_headers.specs.Meaning.{Meaning, header_reading, meaning_of, header_of}
 use Rattle.flash_walk.specs.declared.found.Found.{Found}
 use Rattle.flash_walk.specs.Image.{objects}
-use Rattle.image_make.specs.Edits.{with_enabled, with_flags, mended, replaced, padded, name_place, renamed}
-use Rattle.image_make.specs.Images.{object_found, with_reading}
-use Rattle.image_make.specs.Outcomes.{found_bytes, IsSoundObject, sound_found, enabled, if_as_long, with_name}
+use Rattle.image_make.specs.Edits.{with_enabled, with_flags, mended, replaced, padded, renamed}
+use Rattle.image_make.specs.Parts.{name_place}
+use Rattle.image_make.specs.Images.{with_reading}
+use Rattle.image_make.specs.Parts.{object_found}
+use Rattle.image_make.specs.Outcomes.{found_bytes, IsSoundObject, sound_found, enabled, with_name}
+use Rattle.image_make.specs.Parts.{if_as_long}
 use Rattle.image_make.specs.Laws.{AreBytes}
 use Rattle.image_make.specs.Edited.{EnabledIsWalked, GivenIsWalked}
 use Rattle.image_make.proofs.Likeness.{IsLike, half_below, word_below, like_join, like_wider, put_like}

@@ -5,8 +5,9 @@ use Rattle.std.proofs.Common.{refl, sym, ap, ◌∙◌, arith}
 use Rattle.std.specs.List.{find}
 use Rattle.std.proofs.lemmas.Bool.{cases_lt, cases_eq, eq-eqb, cond-true}
 use Rattle.tbf_headers.specs.Numbers.{word_at, xor_of_words, checksum}
-use Rattle.tbf_headers.specs.Tlv.{length_at, is_bad, is_of_type, first_bad, first_of, content, tlv_places_from}
-use Rattle.tbf_headers.specs.Tlv.{place_after}
+use Rattle.tbf_headers.specs.Tlv.{length_at, is_bad, first_of, content, tlv_places_from}
+use Rattle.tbf_headers.specs.Parts.{is_of_type, first_bad}
+use Rattle.tbf_headers.specs.Parts.{place_after}
 use Rattle.image_make.proofs.Likeness.{IsLike, half_above, word_above, word_below, range_above}
 
 pub place_after_like : (b : ℕ) (h g : List ℕ) (at : ℕ) → IsLike 0 b h g → b ≤ at → place_after g at ≡ place_after h at

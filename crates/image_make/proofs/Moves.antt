@@ -12,11 +12,14 @@ use Rattle.tbf_headers.specs.declared.program.Main.{Main}
 use Rattle.tbf_headers.specs.Numbers.{half, word_at}
 use Rattle.tbf_headers.specs.Meaning.{Meaning}
 use Rattle.tbf_headers.specs.Objects.{object_at}
-use Rattle.tbf_headers.specs.Addresses.{after_protected, entry_of, accessible_start, accessible_end, accessible_end_of}
+use Rattle.tbf_headers.specs.Addresses.{after_protected, entry_of, accessible_start, accessible_end_of}
+use Rattle.tbf_headers.specs.Parts.{accessible_end}
 use Rattle.flash_walk.specs.declared.found.Found.{Found}
 use Rattle.flash_walk.specs.declared.found.Verdict.TheVariants.{Disabled, BadEntry, WrongFlash, App}
-use Rattle.flash_walk.specs.Image.{size_at, object_bytes, ends_at, objects_from, objects, object_verdict, app_verdict}
-use Rattle.flash_walk.specs.Image.{has_bad_entry, is_bad_binary_end, is_outside_flash, is_wrong_flash}
+use Rattle.flash_walk.specs.Image.{size_at, object_bytes, ends_at, objects_from, objects, app_verdict}
+use Rattle.flash_walk.specs.Parts.{object_verdict}
+use Rattle.flash_walk.specs.Image.{has_bad_entry}
+use Rattle.flash_walk.specs.Parts.{is_bad_binary_end, is_outside_flash, is_wrong_flash}
 use Rattle.image_make.specs.Images.{covered, packed, moved, but_link}
 use Rattle.image_make.specs.Laws.{PackedIsWalked, MovedVerdict}
 use Rattle.image_make.proofs.Walked.{found_as, size_of, ends_of, ends_is, ends_from, Stands, stands, from_end}

@@ -1,6 +1,7 @@
 -- The objects of an image, one after another.
 use Rattle.std.proofs.Common.{◌≡◌, ℕ, suc, ◌+◌, List, ◌++◌, append_assoc, append-nil, ap, ◌∙◌}
-use Rattle.image_make.specs.Generator.{fourth, object_of, soak_objects}
+use Rattle.image_make.specs.Generator.{object_of, soak_objects}
+use Rattle.image_make.specs.Parts.{fourth}
 
 objects-suc : (n m k x : ℕ) → n ≡ suc m → soak_objects n k x ≡ object_of k x ++ soak_objects m (k + 1) (fourth x)
 unfolding soak_objects

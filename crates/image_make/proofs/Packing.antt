@@ -14,7 +14,8 @@ use Rattle.flash_walk.specs.Image.{objects, objects_from, ends_at, size_at, obje
 use Rattle.image_make.specs.declared.packs.PackFault.{PackFault}
 use Rattle.image_make.specs.declared.packs.PackFault.TheVariants.{Objects, Size}
 use Rattle.image_make.specs.Images.{covered, packed, moved, but_link}
-use Rattle.image_make.specs.Packs.{pack_refusal, pack_next, pack_from, one_after_another, PackIsWalked, KeepsVerdict}
+use Rattle.image_make.specs.Packs.{pack_refusal, pack_from, one_after_another, PackIsWalked, KeepsVerdict}
+use Rattle.image_make.specs.Parts.{pack_next}
 use Rattle.image_make.specs.Packs.{ObjectsMove}
 use Rattle.image_make.proofs.Walked.{stands, from_end, from_more, from_none}
 use Rattle.image_make.proofs.Moves.{packed_is_walked, length_packed, verdicts_move, covered_more}

@@ -13,9 +13,12 @@ use Rattle.tk_base.specs.Bus.{put}
 use Rattle.tk_base.specs.Laws.{AStoreIsPut}
 use Rattle.tbf_headers.specs.declared.fault.HeaderFault.{HeaderFault}
 use Rattle.tbf_headers.specs.Numbers.{half, word_at, xor_of_words, checksum}
-use Rattle.tbf_headers.specs.Tlv.{first_bad, content}
-use Rattle.tbf_headers.specs.Meaning.{Meaning, header_reading, meaning_of, unless_bad, header_of, has_bad_sizes}
-use Rattle.tbf_headers.specs.Meaning.{program_or_main, fixed_of}
+use Rattle.tbf_headers.specs.Tlv.{content}
+use Rattle.tbf_headers.specs.Parts.{first_bad}
+use Rattle.tbf_headers.specs.Meaning.{Meaning, header_reading, meaning_of, header_of, has_bad_sizes}
+use Rattle.tbf_headers.specs.Parts.{unless_bad}
+use Rattle.tbf_headers.specs.Meaning.{program_or_main}
+use Rattle.tbf_headers.specs.Parts.{fixed_of}
 use Rattle.image_make.specs.Edits.{mended, with_flags}
 use Rattle.image_make.specs.Laws.{AreBytes, FlagsAreRead}
 use Rattle.image_make.proofs.Likeness.{IsLike, half_below, word_below, take_like, like_wider, put_like, word_put}

@@ -14,11 +14,14 @@ use Rattle.tk_base.specs.Bus.{put}
 use Rattle.tk_base.specs.Numbers.{rounded_up}
 use Rattle.tk_base.specs.Laws.{AStoreIsPut}
 use Rattle.tbf_headers.specs.Numbers.{half}
-use Rattle.tbf_headers.specs.Tlv.{type_at, length_at, least_length, is_bad, is_of_type, first_bad, first_of, content}
-use Rattle.tbf_headers.specs.Tlv.{tlv_places, tlv_places_from, place_after}
+use Rattle.tbf_headers.specs.Tlv.{length_at, least_length, is_bad, first_of, content}
+use Rattle.tbf_headers.specs.Parts.{type_at, is_of_type, first_bad}
+use Rattle.tbf_headers.specs.Tlv.{tlv_places, tlv_places_from}
+use Rattle.tbf_headers.specs.Parts.{place_after}
 use Rattle.tbf_headers.specs.Meaning.{Meaning, header_reading, header_of}
 use Rattle.tbf_headers.proofs.Places.{places_from-suc, places_from-end, find_passes, find_fails}
-use Rattle.image_make.specs.Edits.{replaced, padded, name_place, renamed}
+use Rattle.image_make.specs.Edits.{replaced, padded, renamed}
+use Rattle.image_make.specs.Parts.{name_place}
 use Rattle.image_make.specs.Laws.{AreBytes, NamesAreRead}
 use Rattle.image_make.specs.Outcomes.{IsNamePlace}
 use Rattle.image_make.proofs.Likeness.{IsLike, half_above, half_below, word_below, range_above, range_below, take_like}

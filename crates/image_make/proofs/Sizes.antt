@@ -5,7 +5,8 @@ use Rattle.std.proofs.lemmas.List.{length-append}
 use Rattle.std.proofs.lemmas.Fmt.{length-decimal-le}
 use Rattle.tk_outside.specs.Text.{hex_digits}
 use Rattle.image_make.specs.Program.{program, header_words}
-use Rattle.image_make.specs.Generator.{next_draw, fourth, message, object_of, soak_objects, soak_flash, soak_script}
+use Rattle.image_make.specs.Generator.{next_draw, message, object_of, soak_objects, soak_flash, soak_script}
+use Rattle.image_make.specs.Parts.{fourth}
 
 length-object : (k x : ℕ) → length (object_of k x) ≡ 172
 unfolding object_of program header_words message hex_digits

@@ -14,8 +14,9 @@ use Rattle.tbf_headers.specs.Objects.{object_at}
 use Rattle.flash_walk.specs.declared.found.Found.{Found}
 use Rattle.flash_walk.specs.Image.{size_at, object_bytes, objects_from, objects, verdict_of}
 use Rattle.image_make.specs.Edits.{replaced}
-use Rattle.image_make.specs.Images.{object_found}
-use Rattle.image_make.specs.Outcomes.{has_fault, unless_faulty, sound_found, found_bytes, IsSoundObject}
+use Rattle.image_make.specs.Parts.{object_found}
+use Rattle.image_make.specs.Outcomes.{has_fault, sound_found, found_bytes, IsSoundObject}
+use Rattle.image_make.specs.Parts.{unless_faulty}
 use Rattle.image_make.proofs.Readings.{sized, sound_where_read, read_where_sound}
 use Rattle.image_make.proofs.Walked.{found_as, stands, found_within, first_or_behind, none_found}
 

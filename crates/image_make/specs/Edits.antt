@@ -1,11 +1,9 @@
 -- What the image tool writes in place of an object of a flash image (Tock Binary Format, "TBF Header Base").
 use Rattle.std.specs.Prelude.{ℕ, ◌+◌, ◌-◌, ◌*◌, ◌/◌, Bool, true, false, List, ◌++◌, length, take, drop, replicate}
-use Rattle.std.specs.Prelude.{Option}
 use Rattle.tk_base.specs.declared.access.Width.TheVariants.{Half, Word}
 use Rattle.tk_base.specs.Bus.{put}
 use Rattle.tk_base.specs.Numbers.{rounded_up}
 use Rattle.tbf_headers.specs.Numbers.{checksum}
-use Rattle.tbf_headers.specs.Tlv.{first_of}
 use Rattle.tbf_headers.specs.Meaning.{header_of}
 
 -- flags with bit 0 set or clear
@@ -28,10 +26,6 @@ replaced flash at object = take at flash ++ (object ++ drop (at + length object)
 -- a name with zeros up to a multiple of 4
 abbrev pub padded : List ℕ → List ℕ
 padded name = name ++ replicate (rounded_up (length name) - length name) 0
-
--- where the package name of an object stands: the place of its first element of that type
-abbrev pub name_place : List ℕ → Option ℕ
-name_place object = first_of 3 (header_of object)
 
 -- an object with another package name in place of the one whose element stands at a place
 unfoldable pub renamed : ℕ → List ℕ → List ℕ → List ℕ

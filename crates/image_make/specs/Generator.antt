@@ -29,23 +29,16 @@ object_of k x =
     assembled (header_words 172) ++ assembled (program (1 + d1 / 2 ^ 22) (1 + d2 / 2 ^ 22) (d3 / 2 ^ 24))
     ++ message k (next_draw d3)
 
--- the draw after four
-abbrev pub fourth : ℕ → ℕ
-fourth x = next_draw (next_draw (next_draw (next_draw x)))
-
--- so many objects from application k on, after a draw
+-- so many objects from application k on, after a draw: each takes four
 unfoldable pub soak_objects : ℕ → ℕ → ℕ → List ℕ
 soak_objects zero k x = []
-soak_objects (suc n) k x = object_of k x ++ soak_objects n (k + 1) (fourth x)
+soak_objects (suc n) k x =
+    object_of k x ++ soak_objects n (k + 1) (next_draw (next_draw (next_draw (next_draw x))))
 
 -- the flash image of a number
 abbrev pub soak_flash : ℕ → List ℕ
 soak_flash number = soak_objects 8 0 (next_draw number)
 
--- the script that a draw gives
-abbrev pub script_line : ℕ → List ℕ
-script_line d = codes "slice " ++ decimal (1 + d / 2 ^ 26) ++ codes "\n"
-
--- the script of a number
+-- the script of a number: the turns of a slice are drawn
 abbrev pub soak_script : ℕ → List ℕ
-soak_script number = script_line (next_draw number)
+soak_script number = codes "slice " ++ decimal (1 + next_draw number / 2 ^ 26) ++ codes "\n"

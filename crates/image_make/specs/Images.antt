@@ -1,6 +1,6 @@
 -- What the walk over an image finds after an edit of one object, and after another image is appended. The walk is that
 -- of the Tock Binary Format, "TBF Header Base"; the edits are this tool's own.
-use Rattle.std.specs.Prelude.{ℕ, ◌+◌, ◌==◌, if◌then◌else◌, List, take, find, Option, Result}
+use Rattle.std.specs.Prelude.{ℕ, ◌+◌, ◌==◌, if◌then◌else◌, List, take, Result}
 use Rattle.std.specs.List.{sum_by}
 use Rattle.tk_base.specs.declared.access.TheConstants.{FLASH_START}
 use Rattle.tbf_headers.specs.declared.fault.HeaderFault.{HeaderFault}
@@ -10,10 +10,6 @@ use Rattle.flash_walk.specs.declared.found.Found.{Found}
 use Rattle.flash_walk.specs.declared.found.Verdict.{Verdict}
 use Rattle.flash_walk.specs.declared.found.Verdict.TheVariants.{Bad, Padding, Disabled, BadEntry, WrongFlash, App}
 use Rattle.flash_walk.specs.Image.{verdict_of, objects}
-
--- the object at an offset
-abbrev pub object_found : ℕ → List Found → Option Found
-object_found offset found = find (λ f. f.offset == offset) found
 
 -- what is found where the object at an offset has these bytes
 abbrev pub found_with_bytes : ℕ → List ℕ → Found → Found

@@ -11,8 +11,10 @@ use Rattle.tbf_headers.specs.Tlv.{length_at}
 use Rattle.tbf_headers.specs.Meaning.{Meaning, header_reading, header_of}
 use Rattle.flash_walk.specs.declared.found.Found.{Found}
 use Rattle.flash_walk.specs.Image.{verdict_of, objects}
-use Rattle.image_make.specs.Edits.{with_flags, replaced, name_place, renamed}
-use Rattle.image_make.specs.Images.{object_found, found_with_bytes, covered, packed, moved, but_link}
+use Rattle.image_make.specs.Edits.{with_flags, replaced, renamed}
+use Rattle.image_make.specs.Parts.{name_place}
+use Rattle.image_make.specs.Images.{found_with_bytes, covered, packed, moved, but_link}
+use Rattle.image_make.specs.Parts.{object_found}
 
 -- the items of a list are bytes
 abbrev pub AreBytes : List ℕ → Type 0

@@ -9,3 +9,4 @@ pub mod Laws
 pub mod Outcomes
 pub mod Packs
 pub mod Edited
+pub mod Parts

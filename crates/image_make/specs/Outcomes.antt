@@ -1,12 +1,13 @@
 -- What the calls that edit an image leave of it, and where each refuses. Flags and names are those of the Tock Binary
 -- Format; the refusals are this tool's own.
 use Rattle.std.specs.Prelude.{◌≡◌, ℕ, ◌%◌, ◌==◌, ◌&&◌, nat_le, Bool, true, false, if◌then◌else◌, List, length, Option}
-use Rattle.std.specs.Prelude.{Some, None, Result, Ok, Err, option_and_then, MatchResult, ◌+◌, ◌≤◌}
+use Rattle.std.specs.Prelude.{find, Some, None, Result, Ok, Err, option_and_then, MatchResult, ◌+◌, ◌≤◌}
 use Rattle.std.specs.List.{list_all}
+use Rattle.std.specs.Option.{option_map_or}
 use Rattle.tk_base.specs.Numbers.{rounded_up}
 use Rattle.tbf_headers.specs.Numbers.{half, word_at}
 use Rattle.tbf_headers.specs.Objects.{object_at}
-use Rattle.tbf_headers.specs.Tlv.{length_at}
+use Rattle.tbf_headers.specs.Tlv.{first_of, length_at}
 use Rattle.tbf_headers.specs.Meaning.{header_of, meaning_of, header_reading}
 use Rattle.flash_walk.specs.declared.found.Found.{Found}
 use Rattle.flash_walk.specs.declared.found.Verdict.{Verdict}
@@ -14,26 +15,17 @@ use Rattle.flash_walk.specs.declared.found.Verdict.TheVariants.{Bad, Padding, Di
 use Rattle.flash_walk.specs.Image.{objects}
 use Rattle.image_make.specs.declared.edits.EditFault.{EditFault}
 use Rattle.image_make.specs.declared.edits.EditFault.TheVariants.{NoObject, Name, Length}
-use Rattle.image_make.specs.Edits.{with_enabled, with_flags, replaced, name_place, renamed}
-use Rattle.image_make.specs.Images.{object_found}
+use Rattle.image_make.specs.Edits.{with_enabled, with_flags, replaced, renamed}
 
 -- whether an object has a bad header
 abbrev pub has_fault : Verdict → Bool
 has_fault (Bad fault) = true
 has_fault other = false
 
--- the object at an offset, where one is found and its header has no fault
-abbrev pub unless_faulty : Found → Option Found
-unless_faulty f = if has_fault f.verdict then None else Some f
-
 -- the object at an offset, where there is one whose header has no fault
 abbrev pub sound_found : ℕ → List Found → Option Found
-sound_found offset found = option_and_then unless_faulty (object_found offset found)
-
--- an edit of the object at an offset
-abbrev pub edit_found : Option Found → (Found → Result (List ℕ) EditFault) → Result (List ℕ) EditFault
-edit_found None edit = Err NoObject
-edit_found (Some f) edit = edit f
+sound_found offset found =
+    option_and_then (λ f. if has_fault f.verdict then None else Some f) (find (λ f. f.offset == offset) found)
 
 -- the bytes of an object that was found
 abbrev pub found_bytes : Found → List ℕ → List ℕ
@@ -55,41 +47,33 @@ unfoldable pub enabled : Bool → List ℕ → Found → List ℕ
 enabled on flash f =
     replaced flash f.offset (with_flags (with_enabled on (word_at (found_bytes f flash) 8)) (found_bytes f flash))
 
--- what comes of enabling or disabling the object at an offset
+-- what comes of enabling or disabling the object at an offset, where there is one
 abbrev pub enabling : Bool → ℕ → List ℕ → Result (List ℕ) EditFault
-enabling on offset flash = edit_found (sound_found offset (objects flash)) (λ f. Ok (enabled on flash f))
+enabling on offset flash =
+    option_map_or (λ f. Ok (enabled on flash f)) (sound_found offset (objects flash)) (Err NoObject)
 
--- a package name that may be given: 1 to 32 bytes of visible ASCII
-abbrev pub is_visible : ℕ → Bool
-is_visible byte = nat_le 0x21 byte && nat_le byte 0x7E
-
--- whether a name may be given
+-- whether a package name may be given: 1 to 32 bytes of visible ASCII
 abbrev pub may_name : List ℕ → Bool
-may_name name = nat_le 1 (length name) && nat_le (length name) 32 && list_all is_visible name
-
--- where a name of this length stands, rounded up to 4
-abbrev pub if_as_long : List ℕ → List ℕ → ℕ → Option ℕ
-if_as_long name object at =
-    if rounded_up (length name) == rounded_up (length_at (header_of object) at) then Some at else None
+may_name name =
+    nat_le 1 (length name) && nat_le (length name) 32 && list_all (λ byte. nat_le 0x21 byte && nat_le byte 0x7E) name
 
 -- where the name of an object stands, if it is as long as this one; both lengths are rounded up to 4
 abbrev pub place_for : List ℕ → List ℕ → Option ℕ
-place_for name object = option_and_then (if_as_long name object) (name_place object)
+place_for name object =
+    option_and_then
+    (λ at. if rounded_up (length name) == rounded_up (length_at (header_of object) at) then Some at else None)
+    (first_of 3 (header_of object))
 
 -- an image in which an object that was found has another name
 unfoldable pub with_name : List ℕ → List ℕ → Found → ℕ → List ℕ
 with_name name flash f at = replaced flash f.offset (renamed at name (found_bytes f flash))
 
--- the object at its place gets the name, or is refused where its own has another length
-abbrev pub giving : List ℕ → List ℕ → Found → Option ℕ → Result (List ℕ) EditFault
-giving name flash f None = Err Length
-giving name flash f (Some at) = Ok (with_name name flash f at)
-
--- what comes of renaming the object at an offset
+-- what comes of renaming the object at an offset: it gets the name, or is refused where its own has another length
 abbrev pub renaming : List ℕ → ℕ → List ℕ → Result (List ℕ) EditFault
 renaming name offset flash =
-    edit_found (sound_found offset (objects flash))
-    (λ f. if may_name name then giving name flash f (place_for name (found_bytes f flash)) else Err Name)
+    option_map_or (λ f. if may_name name
+    then option_map_or (λ at. Ok (with_name name flash f at)) (place_for name (found_bytes f flash)) (Err Length)
+    else Err Name) (sound_found offset (objects flash)) (Err NoObject)
 
 -- what is known of the place of a name in an object
 pub record IsNamePlace (object name : List ℕ) (at : ℕ) : Type 0 where

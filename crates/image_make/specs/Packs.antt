@@ -2,6 +2,7 @@
 -- own.
 use Rattle.std.specs.Prelude.{◌≡◌, ◌≤◌, ℕ, ◌+◌, ◌%◌, nat_lt, All, if◌then◌else◌, List, [], ◌∷◌, ◌++◌, length, map}
 use Rattle.std.specs.Prelude.{Option, Some, None, unwrap_or, Result, Ok, Err}
+use Rattle.std.specs.Option.{option_map_or}
 use Rattle.tk_base.specs.declared.limits.TheConstants.{FLASH_LIMIT, OBJECT_LIMIT}
 use Rattle.flash_walk.specs.declared.found.Found.{Found}
 use Rattle.flash_walk.specs.Image.{objects}
@@ -27,16 +28,12 @@ pub record IsPackRefused (n : ℕ) (xs file : List ℕ) (m : ℕ) (ys : List ℕ
   pub image : ys ≡ xs
   pub count : m ≡ n
 
--- an image with files packed behind it, one after another; the first that is refused decides
-abbrev pub pack_next : Option PackFault → Result (List ℕ) PackFault → Result (List ℕ) PackFault
-pack_next None rest = rest
-pack_next (Some fault) rest = Err fault
-
 -- Files behind an image that has so many objects, one after another: the first one that is refused decides.
 unfoldable pub pack_from : ℕ → List ℕ → List (List ℕ) → Result (List ℕ) PackFault
 pack_from count image [] = Ok image
 pack_from count image (file ∷ files) =
-    pack_next (pack_refusal count image file) (pack_from (count + length (objects file)) (image ++ packed file) files)
+    option_map_or Err (pack_refusal count image file)
+    (pack_from (count + length (objects file)) (image ++ packed file) files)
 
 -- what packing files gives
 abbrev pub pack : List (List ℕ) → Result (List ℕ) PackFault

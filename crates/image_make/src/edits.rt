@@ -7,8 +7,9 @@ ghost use Rattle.tbf_headers.specs.Meaning.{header_reading, meaning_of};
 ghost use Rattle.tbf_headers.specs.Objects.{object_at};
 ghost use Rattle.flash_walk.specs.Image.{objects};
 ghost use Rattle.image_make.specs.Edits.{mended, with_flags, with_enabled, padded, renamed};
-ghost use Rattle.image_make.specs.Images.{object_found};
-ghost use Rattle.image_make.specs.Outcomes.{has_fault, sound_found, IsSoundObject, found_bytes, enabled, enabling, is_visible, may_name, place_for, IsNamePlace, with_name, renaming, Edits};
+ghost use Rattle.image_make.specs.Parts.{object_found};
+ghost use Rattle.image_make.specs.Outcomes.{has_fault, sound_found, IsSoundObject, found_bytes, enabled, enabling, may_name, place_for, IsNamePlace, with_name, renaming, Edits};
+ghost use Rattle.image_make.specs.Parts.{is_visible};
 
 use arrayvec::ArrayVec;
 use flash_walk::{Found, Verdict, walk};

@@ -1,7 +1,8 @@
 //! The two files.
 ghost use Rattle.std.specs.Prelude.{◌≡◌, ◌<◌, ◌≤◌, ◌++◌, IfOk, OnOk, length};
 ghost use Rattle.image_make.specs.Program.{header_words};
-ghost use Rattle.image_make.specs.Generator.{fourth, message, assembled, object_of, soak_objects, soak_flash, script_line, soak_script};
+ghost use Rattle.image_make.specs.Generator.{message, assembled, object_of, soak_objects, soak_flash, soak_script};
+ghost use Rattle.image_make.specs.Parts.{fourth, script_line};
 
 use crate::assembler::Instruction::{self, Word};
 use crate::draws::Draws;

@@ -20,7 +20,8 @@ use Rattle.driver_model.specs.Console.{command as console_command, commands as c
 use Rattle.driver_model.specs.Drivers.{CommandContext, CommandHandler, handler_by, handler_of}
 use Rattle.driver_model.specs.Leds.{switching, command as led_command, commands as led_commands}
 use Rattle.driver_model.specs.Random.{randoms, command as random_command, commands as random_commands}
-use Rattle.driver_model.specs.Requests.{RequestKind, asking, asking_beside, request_in}
+use Rattle.driver_model.specs.Requests.{RequestKind, asking, request_in}
+use Rattle.driver_model.specs.Parts.{asking_beside}
 use Rattle.driver_model.specs.Steps.{own_after}
 use Rattle.driver_model.specs.Storage.{requesting, storages, command as storage_command, commands as storage_commands}
 use Rattle.kernel_alarms.specs.Acting.{HasSameAlarm}

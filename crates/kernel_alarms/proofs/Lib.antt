@@ -1,3 +1,4 @@
 mod Kept
 mod Commands
 mod QuietTurns
+mod Answers

@@ -38,10 +38,13 @@ use Rattle.process_record.specs.declared.process.State.TheVariants.{Running, Yie
 use Rattle.kernel_model.specs.Record.{Record, instruction, record_with_step, with_effect}
 use Rattle.kernel_model.specs.declared.settings.Settings.{Settings}
 use Rattle.kernel_model.specs.Calls.{Served, by_form, driver_answered, exit, memop}
-use Rattle.kernel_model.specs.Calls.{object_permits, served, swap_by, swap_refusal, taken_by}
+use Rattle.kernel_model.specs.Calls.{served, swap_by, swap_refusal, taken_by}
+use Rattle.kernel_model.specs.Parts.{object_permits}
 use Rattle.kernel_model.specs.Calls.{yield_for, yield_now, yielding}
-use Rattle.kernel_model.specs.Turn.{Turned, at_turn_end, calls, delivery, faulted, instructed, made, surroundings}
-use Rattle.kernel_model.specs.Turn.{turn_counted, turn_in, turned, unknown_call}
+use Rattle.kernel_model.specs.Turn.{Turned, at_turn_end, faulted, made, surroundings}
+use Rattle.kernel_model.specs.Parts.{calls, delivery, instructed}
+use Rattle.kernel_model.specs.Turn.{turn_counted, turn_in, turned}
+use Rattle.kernel_model.specs.Parts.{unknown_call}
 use Rattle.kernel_model.proofs.Classes.{of_registers}
 use Rattle.kernel_model.proofs.Memops.{by_test, memop_gives}
 use Rattle.kernel_alarms.specs.Acting.{AlarmsChangeAtTheirCommands, HasSameAlarm, QuietTurnsLeaveAlarms}

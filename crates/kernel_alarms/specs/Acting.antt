@@ -8,7 +8,7 @@ use Rattle.driver_model.specs.Alarm.{alarm_driver, alarm_in}
 use Rattle.process_record.specs.declared.emit.CallMade.{CallMade}
 use Rattle.kernel_model.specs.Record.{Record}
 use Rattle.kernel_model.specs.declared.settings.Settings.{Settings}
-use Rattle.kernel_model.specs.Turn.{turned}
+use Rattle.kernel_model.specs.Turn.{Act, Alarmed, Event, Turn, apply, turned}
 
 -- whether a command of a number to a driver asks the alarm something, and has it do nothing: that it is there, how many
 -- ticks a second has, what the clock shows
@@ -52,3 +52,16 @@ abbrev pub QuietTurnsLeaveAlarms : Type 0
 QuietTurnsLeaveAlarms = (settings : Settings) (time : ℕ) (r : Record) →
     let t = turned settings time r in
     may_have_acted t.told.call t.told.denial ≡ false → HasSameAlarm r.own t.after.own × (t.acts ≡ [])
+
+-- whether what happens to a process can be nothing that changes its alarm: it is no turn, no act of an operator, and its
+-- alarm does not fire
+abbrev pub leaves_alarm : Event → Bool
+leaves_alarm (Turn time) = false
+leaves_alarm (Act verb) = false
+leaves_alarm (Alarmed now) = false
+leaves_alarm other = true
+
+-- so it is with everything else that a device tells a process
+abbrev pub AnswersLeaveAlarms : Type 0
+AnswersLeaveAlarms = (settings : Settings) (event : Event) (r : Record) →
+    leaves_alarm event ≡ true → HasSameAlarm r.own (apply settings event r).own

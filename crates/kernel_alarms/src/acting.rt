@@ -1,6 +1,7 @@
 //! Which calls may change an alarm or ask anything of the devices.
 ghost use Rattle.std.specs.Prelude.{◌≡◌};
-ghost use Rattle.kernel_alarms.specs.Acting.{AlarmsChangeAtTheirCommands, QuietTurnsLeaveAlarms};
+ghost use Rattle.kernel_alarms.specs.Acting.{AlarmsChangeAtTheirCommands, AnswersLeaveAlarms};
+ghost use Rattle.kernel_alarms.specs.Acting.{QuietTurnsLeaveAlarms};
 ghost use Rattle.kernel_alarms.specs.Acting.{may_act, may_arm, only_asks};
 
 use driver_model::a_driver_that_refuses_changes_nothing;
@@ -61,3 +62,9 @@ pub fn alarms_change_at_their_commands()
 {
     a_driver_that_refuses_changes_nothing();
 }
+
+/// What any device but the alarm tells a process leaves what it keeps for the alarm, and that it
+/// lives.
+pub fn answers_leave_alarms()
+    ensures { AnswersLeaveAlarms }
+{}

@@ -13,8 +13,10 @@ use Rattle.process_record.specs.declared.outcome.Outcome.TheVariants.{Ended, Aga
 use Rattle.process_record.specs.declared.process.Process.{Process}
 use Rattle.driver_model.specs.Drivers.{CommandContext, CommandHandler, handler_of}
 use Rattle.grant_enter.specs.Homes.{Homes, own_of}
-use Rattle.kernel_model.specs.Record.{Record, with_process}
-use Rattle.kernel_model.specs.Calls.{Served, by_form, failure_of, object_permits, refused, refused_with, served}
+use Rattle.kernel_model.specs.Record.{Record}
+use Rattle.kernel_model.specs.Parts.{with_process}
+use Rattle.kernel_model.specs.Calls.{Served, by_form, failure_of, refused, refused_with, served}
+use Rattle.kernel_model.specs.Parts.{object_permits}
 use Rattle.kernel_model.specs.Calls.{taken_by}
 use Rattle.kernel_model.specs.Laws.{NoneIsLeft}
 use Rattle.process_model.specs.Flash.{object_in}

@@ -14,9 +14,12 @@ use Rattle.driver_model.specs.Keeping.{HandsInPlace}
 use Rattle.grant_enter.specs.Homes.{ChangesOnly, Homes, own_of}
 use Rattle.process_record.specs.declared.outcome.Outcome.{Outcome}
 use Rattle.process_record.specs.declared.process.Process.{Process}
-use Rattle.kernel_model.specs.Record.{Record, record_with_own, with_process}
-use Rattle.kernel_model.specs.Calls.{failed_swap, former_pair, own_swapped, refused_with, replied, swap_by}
-use Rattle.kernel_model.specs.Calls.{swap_refusal, swapped}
+use Rattle.kernel_model.specs.Record.{Record}
+use Rattle.kernel_model.specs.Parts.{record_with_own, with_process}
+use Rattle.kernel_model.specs.Calls.{refused_with, replied, swap_by}
+use Rattle.kernel_model.specs.Parts.{failed_swap, former_pair, own_swapped}
+use Rattle.kernel_model.specs.Calls.{swap_refusal}
+use Rattle.kernel_model.specs.Parts.{swapped}
 use Rattle.process_record.specs.Process.{is_alive}
 use Rattle.process_model.specs.Flash.{object_in}
 use Rattle.kernel_calls.specs.Own.{Beside, record_in}

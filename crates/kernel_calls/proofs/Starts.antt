@@ -9,8 +9,10 @@ use Rattle.syscall_abi.specs.declared.reply.Reply.{Reply}
 use Rattle.process_model.specs.declared.place.Object.{Object}
 use Rattle.process_record.specs.declared.outcome.Outcome.{Outcome}
 use Rattle.process_record.specs.declared.process.Process.{Process}
-use Rattle.kernel_model.specs.Record.{Record, with_process}
-use Rattle.kernel_model.specs.Calls.{driver_answered, refused, exit, restart, restarted_by, restarted_main}
+use Rattle.kernel_model.specs.Record.{Record}
+use Rattle.kernel_model.specs.Parts.{with_process}
+use Rattle.kernel_model.specs.Calls.{driver_answered, refused, exit, restart}
+use Rattle.kernel_model.specs.Parts.{restarted_by, restarted_main}
 use Rattle.process_model.specs.Flash.{object_in}
 use Rattle.kernel_calls.specs.Own.{Beside, record_in}
 use Rattle.process_restart.specs.Restarts.{StartsAgain}

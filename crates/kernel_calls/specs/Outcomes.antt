@@ -1,5 +1,5 @@
 -- What serving a system call leaves, and what comes of it: TRD 104, "System Call API".
-use Rattle.std.specs.Prelude.{◌≡◌, ℕ, ◌+◌, ◌<◌, ◌≤◌, ◌^◌, nat_lt, Bool, true, false, ◌&&◌, if◌then◌else◌, List, []}
+use Rattle.std.specs.Prelude.{◌≡◌, ℕ, ◌<◌, ◌^◌, nat_lt, Bool, true, false, ◌&&◌, if◌then◌else◌, List, []}
 use Rattle.std.specs.Prelude.{length, Option, None, Some, Result, Ok, Err}
 use Rattle.tk_base.specs.declared.call.CallRule.{CallRule}
 use Rattle.syscall_abi.specs.declared.call.Call.{Call}
@@ -19,7 +19,8 @@ use Rattle.tk_base.specs.declared.upcall.Upcall.{Upcall}
 use Rattle.upcall_queue.specs.declared.inbox.Delivery.{Delivery}
 use Rattle.upcall_queue.specs.declared.inbox.Delivery.TheVariants.{Function}
 use Rattle.upcall_queue.specs.Pending.{due, left_by, taken_at}
-use Rattle.kernel_model.specs.Calls.{Served, deliver, object_permits, served}
+use Rattle.kernel_model.specs.Calls.{Served, deliver, served}
+use Rattle.kernel_model.specs.Parts.{object_permits}
 use Rattle.process_model.specs.Flash.{object_in}
 use Rattle.kernel_calls.specs.Own.{Beside, record_in}
 use Rattle.process_restart.specs.Own.{IsOwn, KeepsObject, LivesOn}

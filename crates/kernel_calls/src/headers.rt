@@ -1,6 +1,6 @@
 //! The writeable flash regions in the header of a process's own object, which has no fault.
 ghost use Rattle.std.specs.Prelude.{◌≡◌, option_and_then};
-ghost use Rattle.kernel_model.specs.Calls.{regions_named};
+ghost use Rattle.kernel_model.specs.Parts.{regions_named};
 ghost use Rattle.tbf_headers.specs.Meaning.{header_reading, region_count, region_in};
 ghost use Rattle.process_model.specs.Flash.{object_in};
 ghost use Rattle.process_restart.specs.Own.{HasHeader};

@@ -2,8 +2,10 @@
 ghost use Rattle.std.specs.Prelude.{◌≡◌, ◌+◌, ◌<◌, length};
 ghost use Rattle.process_model.specs.Own.{Own};
 ghost use Rattle.grant_enter.specs.Homes.{own_of, ChangesOnly};
-ghost use Rattle.kernel_model.specs.Record.{Record, record_with_own};
-ghost use Rattle.kernel_model.specs.Calls.{driver_answered, break_moved, moved_by, region};
+ghost use Rattle.kernel_model.specs.Record.{Record};
+ghost use Rattle.kernel_model.specs.Parts.{record_with_own};
+ghost use Rattle.kernel_model.specs.Calls.{driver_answered, break_moved, moved_by};
+ghost use Rattle.kernel_model.specs.Parts.{region};
 ghost use Rattle.kernel_model.specs.Calls.{region_end, memop};
 ghost use Rattle.kernel_calls.specs.Own.{Beside, record_in};
 ghost use Rattle.process_restart.specs.Own.{HasHeader, IsOwn};

@@ -1,6 +1,6 @@
 //! Whether the object of a process permits a call (Tock Binary Format, "Permissions").
 ghost use Rattle.std.specs.Prelude.{◌≡◌};
-ghost use Rattle.kernel_model.specs.Calls.{object_permits};
+ghost use Rattle.kernel_model.specs.Parts.{object_permits};
 ghost use Rattle.process_model.specs.Flash.{object_in};
 ghost use Rattle.process_restart.specs.Own.{HasHeader};
 

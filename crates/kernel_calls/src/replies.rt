@@ -1,7 +1,9 @@
 //! What a process gets back for a system call.
 ghost use Rattle.std.specs.Prelude.{◌≡◌, []};
-ghost use Rattle.kernel_model.specs.Record.{Record, with_process};
-ghost use Rattle.kernel_model.specs.Calls.{driver_answered, failed_swap, failure_of, refused_with};
+ghost use Rattle.kernel_model.specs.Record.{Record};
+ghost use Rattle.kernel_model.specs.Parts.{with_process};
+ghost use Rattle.kernel_model.specs.Calls.{driver_answered, failure_of, refused_with};
+ghost use Rattle.kernel_model.specs.Parts.{failed_swap};
 ghost use Rattle.kernel_calls.specs.Given.{given};
 ghost use Rattle.kernel_calls.specs.Outcomes.{acts_for, ServingComesTo};
 

@@ -4,7 +4,8 @@ ghost use Rattle.std.specs.Prelude.{◌≡◌, ◌<◌, length, IfOk, OnOk, OnEr
 ghost use Rattle.process_layout.specs.Bounds.{bounds_of};
 ghost use Rattle.process_model.specs.Handed.{may_share};
 ghost use Rattle.grant_enter.specs.Homes.{own_of, ChangesOnly};
-ghost use Rattle.kernel_model.specs.Calls.{former_pair, own_swapped, swap_refusal, swapped};
+ghost use Rattle.kernel_model.specs.Calls.{swap_refusal};
+ghost use Rattle.kernel_model.specs.Parts.{former_pair, own_swapped, swapped};
 ghost use Rattle.kernel_calls.specs.Outcomes.{broken_by, ComesAt, IsOfSlot, KeepsSlot};
 
 use crate::replies::{failed_swap, give, refuse};

@@ -11,7 +11,8 @@ use Rattle.upcall_queue.specs.Pending.{place_of}
 use Rattle.process_record.specs.Process.{after_call, after_turn, delivered}
 use Rattle.kernel_model.specs.Record.{Record}
 use Rattle.kernel_model.specs.Calls.{yield_for, yield_now}
-use Rattle.kernel_model.specs.Turn.{delivery, turn_counted}
+use Rattle.kernel_model.specs.Turn.{turn_counted}
+use Rattle.kernel_model.specs.Parts.{delivery}
 use Rattle.kernel_model.specs.World.{World, after}
 use Rattle.kernel_histories.specs.Deliveries.{Takes, before_delivery, delivery_of, is_yielded, place_taken, takes, told_in}
 use Rattle.kernel_histories.specs.Deliveries.{wait_of}

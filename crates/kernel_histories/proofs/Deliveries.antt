@@ -53,15 +53,21 @@ use Rattle.process_record.specs.declared.outcome.Outcome.TheVariants.{GoesOn, Re
 use Rattle.process_record.specs.declared.process.Process.{Process}
 use Rattle.process_record.specs.declared.process.State.{State}
 use Rattle.process_record.specs.declared.process.State.TheVariants.{Running, Yielded, Faulted, Terminated}
-use Rattle.process_record.specs.Process.{after_call, after_fault, waiting}
-use Rattle.kernel_model.specs.Record.{Record, instruction, with_effect, with_process, record_with_step}
+use Rattle.process_record.specs.Process.{after_call, waiting}
+use Rattle.process_record.specs.Parts.{after_fault}
+use Rattle.kernel_model.specs.Record.{Record, instruction, with_effect, record_with_step}
+use Rattle.kernel_model.specs.Parts.{with_process}
 use Rattle.kernel_model.specs.declared.settings.Settings.{Settings}
-use Rattle.kernel_model.specs.Calls.{failed_swap, Served, driver_answered, by_form, exit, failure_of, memop}
-use Rattle.kernel_model.specs.Calls.{object_permits, own_swapped}
-use Rattle.kernel_model.specs.Calls.{refused_with, restart, restarted_with, served, swap_by, swap_refusal, swapped}
+use Rattle.kernel_model.specs.Calls.{Served, driver_answered, by_form, exit, failure_of, memop}
+use Rattle.kernel_model.specs.Parts.{failed_swap}
+use Rattle.kernel_model.specs.Parts.{object_permits, own_swapped}
+use Rattle.kernel_model.specs.Calls.{refused_with, restart, restarted_with, served, swap_by, swap_refusal}
+use Rattle.kernel_model.specs.Parts.{swapped}
 use Rattle.kernel_model.specs.Calls.{comes_to, taken_by, yield_for, yield_now, yielding}
-use Rattle.kernel_model.specs.Turn.{TurnTrace, Turned, calls, turn_counted, delivery, at_turn_end, faulted, idle}
-use Rattle.kernel_model.specs.Turn.{instructed, made, settled, surroundings, turned, turn_in, unknown_call}
+use Rattle.kernel_model.specs.Turn.{TurnTrace, Turned, turn_counted, at_turn_end, faulted, idle}
+use Rattle.kernel_model.specs.Parts.{calls, delivery}
+use Rattle.kernel_model.specs.Turn.{made, settled, surroundings, turned, turn_in}
+use Rattle.kernel_model.specs.Parts.{instructed, unknown_call}
 use Rattle.kernel_model.specs.Laws.{CanStartAgain}
 use Rattle.kernel_histories.specs.Deliveries.{First, FirstOf, IsSubscribed, Nothing, Scheduling, left_by_turn, place_taken}
 use Rattle.kernel_histories.specs.Deliveries.{removed, subscription_key, taken_by_yield, takes_away, upcalls, wait_in}

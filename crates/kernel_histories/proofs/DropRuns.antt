@@ -17,7 +17,8 @@ use Rattle.kernel_model.specs.Edges.{IsThenScheduled}
 use Rattle.kernel_model.specs.Laws.{OnlyItsOwnEvents}
 use Rattle.kernel_model.specs.Turn.{Event, Turn, Alarmed, Edge, Taken, WriteDone, Input, Word, NoWord, Stored, Act}
 use Rattle.kernel_model.specs.Turn.{apply}
-use Rattle.kernel_model.specs.World.{Answer, World, after, happens}
+use Rattle.kernel_model.specs.World.{Answer, World, after}
+use Rattle.kernel_model.specs.Parts.{happens}
 use Rattle.kernel_model.specs.Replay.{after_all}
 use Rattle.kernel_model.proofs.Steps.{IsAnswer}
 use Rattle.kernel_laws.specs.Scheduled.{answer_schedules, answer_step, event_schedules, step_schedules}

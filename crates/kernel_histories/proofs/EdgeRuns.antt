@@ -11,10 +11,14 @@ use Rattle.rv32_model.specs.Laws.{CallsAreOfEcall}
 use Rattle.driver_model.specs.Laws.{RefusedByAnyDriver}
 use Rattle.driver_model.specs.Upcalls.{DriversScheduleTheirOwn}
 use Rattle.kernel_model.specs.Record.{Record}
-use Rattle.kernel_model.specs.Edges.{IsThenScheduled, arrival_in, arrivals_in, edge_in, is_of_edge, pressed_after_all}
-use Rattle.kernel_model.specs.Edges.{edge_upcall, pressed_by, told_edge_in}
+use Rattle.kernel_model.specs.Edges.{IsThenScheduled, arrival_in, arrivals_in, edge_in, pressed_after_all}
+use Rattle.kernel_model.specs.Named.{is_of_edge}
+use Rattle.kernel_model.specs.Edges.{told_edge_in}
+use Rattle.kernel_model.specs.Named.{pressed_by}
+use Rattle.kernel_model.specs.Named.{edge_upcall}
 use Rattle.kernel_model.specs.Laws.{OnlyItsOwnEvents, answer_by}
-use Rattle.kernel_model.specs.World.{Answer, World, after, happens, is_ready}
+use Rattle.kernel_model.specs.World.{Answer, World, after, is_ready}
+use Rattle.kernel_model.specs.Parts.{happens}
 use Rattle.kernel_model.specs.Replay.{after_all}
 use Rattle.kernel_laws.specs.Scheduled.{answer_schedules, step_schedules}
 use Rattle.kernel_laws.proofs.Arrivals.{arrives_in_order}

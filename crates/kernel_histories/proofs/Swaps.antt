@@ -44,20 +44,28 @@ use Rattle.process_record.specs.declared.outcome.Outcome.{Outcome}
 use Rattle.process_record.specs.declared.outcome.Outcome.TheVariants.{GoesOn, Replied, Waits, Ended, Again}
 use Rattle.process_record.specs.declared.process.State.{State}
 use Rattle.process_record.specs.declared.process.State.TheVariants.{Running, Yielded, Faulted, Terminated}
-use Rattle.process_record.specs.Process.{after_call, after_exit, after_fault, waiting}
-use Rattle.kernel_model.specs.Record.{Record, instruction, with_effect, with_process, record_with_step}
+use Rattle.process_record.specs.Process.{after_call, waiting}
+use Rattle.process_record.specs.Parts.{after_exit, after_fault}
+use Rattle.kernel_model.specs.Record.{Record, instruction, with_effect, record_with_step}
+use Rattle.kernel_model.specs.Parts.{with_process}
 use Rattle.kernel_model.specs.declared.settings.Settings.{Settings}
-use Rattle.kernel_model.specs.Calls.{Served, driver_answered, by_form, exit, failure_of, memop, object_permits}
-use Rattle.kernel_model.specs.Calls.{refused_with, restart, served, swap_by, swap_refusal, swapped, taken_by}
+use Rattle.kernel_model.specs.Calls.{Served, driver_answered, by_form, exit, failure_of, memop}
+use Rattle.kernel_model.specs.Parts.{object_permits}
+use Rattle.kernel_model.specs.Calls.{refused_with, restart, served, swap_by, swap_refusal, taken_by}
+use Rattle.kernel_model.specs.Parts.{swapped}
 use Rattle.kernel_model.specs.Calls.{comes_to, yield_for, yield_now, yielding}
 use Rattle.upcall_queue.specs.declared.inbox.Delivery.{Delivery}
 use Rattle.upcall_queue.specs.Pending.{due, place_of}
-use Rattle.kernel_model.specs.Turn.{TurnTrace, Turned, arguments, called, calls, turn_counted, delivery, at_turn_end}
-use Rattle.kernel_model.specs.Turn.{faulted, yield_flag_of, idle, instructed, made, settled, surroundings, turned}
-use Rattle.kernel_model.specs.Turn.{turn_in, unknown_call}
+use Rattle.kernel_model.specs.Turn.{TurnTrace, Turned, arguments, called, turn_counted, at_turn_end}
+use Rattle.kernel_model.specs.Parts.{calls, delivery}
+use Rattle.kernel_model.specs.Turn.{faulted, yield_flag_of, idle, made, settled, surroundings, turned}
+use Rattle.kernel_model.specs.Parts.{instructed}
+use Rattle.kernel_model.specs.Turn.{turn_in}
+use Rattle.kernel_model.specs.Parts.{unknown_call}
 use Rattle.kernel_model.specs.Laws.{CanStartAgain}
 use Rattle.tbf_headers.specs.Meaning.{main_by}
-use Rattle.kernel_model.specs.Histories.{PairKey, class_of, handed_by, is_exit, is_swap, last_pair, swap_reply}
+use Rattle.kernel_model.specs.Histories.{PairKey, class_of, handed_by, is_swap, last_pair, swap_reply}
+use Rattle.kernel_model.specs.Parts.{is_exit}
 use Rattle.kernel_model.proofs.Classes.{command_in, exit_in, memop_in, of_registers, swap_in, yield_in}
 use Rattle.kernel_model.proofs.Handed.{is_handed}
 use Rattle.kernel_model.proofs.Memops.{by_test, memop_gives}

@@ -26,11 +26,14 @@ use Rattle.process_record.specs.declared.outcome.Outcome.TheVariants.{GoesOn, Re
 use Rattle.process_record.specs.declared.process.State.{State}
 use Rattle.process_record.specs.declared.process.State.TheVariants.{Running, Yielded, Faulted, Terminated}
 use Rattle.process_record.specs.Process.{after_call, waiting}
-use Rattle.kernel_model.specs.Record.{Record, byte_at, instruction, with_effect, with_process}
+use Rattle.kernel_model.specs.Record.{Record, byte_at, instruction, with_effect}
+use Rattle.kernel_model.specs.Parts.{with_process}
 use Rattle.kernel_model.specs.declared.settings.Settings.{Settings}
-use Rattle.kernel_model.specs.Calls.{Served, by_form, comes_to, failure_of, object_permits, served}
+use Rattle.kernel_model.specs.Calls.{Served, by_form, comes_to, failure_of, served}
+use Rattle.kernel_model.specs.Parts.{object_permits}
 use Rattle.kernel_model.specs.Calls.{yield_for, yield_now, yielding}
-use Rattle.kernel_model.specs.Turn.{TurnTrace, Turned, calls, turn_counted, delivery, at_turn_end, made, surroundings}
+use Rattle.kernel_model.specs.Turn.{TurnTrace, Turned, turn_counted, at_turn_end, made, surroundings}
+use Rattle.kernel_model.specs.Parts.{calls, delivery}
 use Rattle.kernel_model.specs.Turn.{rule_shown, turn_in, turned}
 use Rattle.kernel_model.specs.World.{World, after}
 use Rattle.kernel_histories.specs.Deliveries.{First, FirstOf, Nothing, Takes, is_yielded}

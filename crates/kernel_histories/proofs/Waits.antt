@@ -24,13 +24,16 @@ use Rattle.process_record.specs.Process.{after_turn, delivered}
 use Rattle.kernel_model.specs.Record.{Record}
 use Rattle.kernel_model.specs.declared.settings.Settings.{Settings}
 use Rattle.kernel_model.specs.Calls.{yield_for}
-use Rattle.kernel_model.specs.Turn.{Act, Event, Turn, TurnTrace, apply, delivery, is_turn, turn_counted, turn_in}
+use Rattle.kernel_model.specs.Turn.{Act, Event, Turn, TurnTrace, apply, is_turn, turn_counted, turn_in}
+use Rattle.kernel_model.specs.Parts.{delivery}
 use Rattle.kernel_model.specs.Turn.{turned}
 use Rattle.kernel_model.specs.World.{Answer, DeviceStep, Label, Stepped, World, after, carried_out, device_step_of}
 use Rattle.kernel_model.specs.World.{done}
-use Rattle.kernel_model.specs.World.{happens, labels_of, labels_told, ran}
+use Rattle.kernel_model.specs.World.{labels_told, ran}
+use Rattle.kernel_model.specs.Parts.{happens, labels_of}
 use Rattle.process_record.specs.Operator.{ends_by}
-use Rattle.kernel_model.specs.Replay.{after_all, happened}
+use Rattle.kernel_model.specs.Replay.{after_all}
+use Rattle.kernel_model.specs.Parts.{happened}
 use Rattle.kernel_model.specs.Histories.{is_end, is_ended_in, turns_in}
 use Rattle.kernel_laws.specs.Scheduled.{answer_step, upcall_told}
 use Rattle.kernel_histories.specs.Deliveries.{FirstOf, Takes, takes, told_in, wait_in, wait_in_slot}

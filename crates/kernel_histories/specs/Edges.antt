@@ -8,7 +8,9 @@ use Rattle.tk_base.specs.declared.upcall.Upcall.{Upcall as Scheduled}
 use Rattle.kernel_model.specs.Record.{Record}
 use Rattle.kernel_model.specs.World.{World, after}
 use Rattle.kernel_model.specs.Replay.{after_all}
-use Rattle.kernel_model.specs.Edges.{IsThenScheduled, arrivals_in, edge_upcall, is_of_edge, pressed_after_all}
+use Rattle.kernel_model.specs.Edges.{IsThenScheduled, arrivals_in, pressed_after_all}
+use Rattle.kernel_model.specs.Named.{is_of_edge}
+use Rattle.kernel_model.specs.Named.{edge_upcall}
 use Rattle.kernel_model.specs.Edges.{told_edge_in}
 use Rattle.kernel_laws.specs.Scheduled.{step_schedules}
 

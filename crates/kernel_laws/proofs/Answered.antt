@@ -1,6 +1,7 @@
 -- What an answer of a device changes of a process's bytes.
 use Rattle.std.proofs.Common.{◌≡◌, ◌≢◌, ◌⊎◌, inl, inr, ◌<◌, ◌≤◌, ℕ, ◌+◌, Bool, true, false, cond, List, length}
 use Rattle.std.proofs.Common.{slice_index, Option, None, Some, Result, Ok, Err, refl, ap, arith}
+use Rattle.std.specs.Prelude.{IsSomeAnd}
 use Rattle.std.proofs.Math.Logic.{⊎_map}
 use Rattle.std.proofs.lemmas.Bool.{cases_lt}
 use Rattle.std.proofs.lemmas.List.{places}
@@ -14,13 +15,17 @@ use Rattle.process_model.specs.Own.{own_ended}
 use Rattle.process_record.specs.Process.{after_end, is_alive}
 use Rattle.board_devices.specs.Storage.{overwritten}
 use Rattle.driver_model.specs.Bytes.{AnswersWriteInBuffers}
+use Rattle.driver_model.specs.Storage as storage
 use Rattle.kernel_model.specs.Record.{Record}
 use Rattle.kernel_model.specs.declared.settings.Settings.{Settings}
-use Rattle.kernel_model.specs.Calls.{restart, restarted_by, restarted_main}
+use Rattle.kernel_model.specs.Calls.{restart}
+use Rattle.kernel_model.specs.Parts.{restarted_by, restarted_main}
 use Rattle.kernel_model.specs.Turn.{Act, Event, Turn, Alarmed, Edge, Taken, WriteDone, Input, Word, NoWord, Stored}
-use Rattle.kernel_model.specs.Turn.{apply, flash_of, is_turn, operated, written_over}
-use Rattle.kernel_model.specs.Causes.{AnswerHasCauses, AnswersHaveCauses, Covers, Overwrites, StorageChangesAt}
-use Rattle.kernel_model.specs.Causes.{buffer_for, served_write}
+use Rattle.kernel_model.specs.Turn.{apply, is_turn, operated}
+use Rattle.kernel_model.specs.Record.{flash_of}
+use Rattle.kernel_model.specs.Parts.{written_over}
+use Rattle.kernel_model.specs.Causes.{AnswerHasCauses, AnswersHaveCauses, Overwrites, StorageChangesAt}
+use Rattle.kernel_model.specs.Causes.{buffer_for}
 use Rattle.kernel_model.proofs.Steps.{IsAnswer, of_told}
 
 -- what is written over bytes changes its own places alone
@@ -29,6 +34,10 @@ overwritten_other : (bytes written : List ℕ) (offset k : ℕ) → k < length b
     → slice_index (overwritten bytes offset written) k ≡ slice_index bytes k
 overwritten_other bytes written offset k within (inl below) = grind (arith, places)
 overwritten_other bytes written offset k within (inr above) = grind (arith, places)
+
+-- a place that a write covers, if there is one
+abbrev Covers : Option (ℕ × List ℕ) → ℕ → Type 0
+Covers o k = IsSomeAnd o (λ written. (written.0 ≤ k) × (k < written.0 + length written.1))
 
 overwrites : (bytes : List ℕ) (o : Option (ℕ × List ℕ)) → StorageChangesAt (Covers o) bytes (written_over bytes o)
 overwrites bytes None k within = inl refl
@@ -79,7 +88,7 @@ answer_in_buffer law settings NoWord r is whole =
     }
 answer_in_buffer law settings (Stored true) r is whole = record {
   own = law.stored false (flash_of r) r.storage r.own whole;
-  storage = overwrites r.storage (served_write r);
+  storage = overwrites r.storage (storage.answered false (flash_of r) r.storage r.own).written;
 }
 answer_in_buffer law settings (Stored false) r is whole = record {
   own = law.stored true (flash_of r) r.storage r.own whole;

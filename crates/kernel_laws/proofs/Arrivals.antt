@@ -14,11 +14,15 @@ use Rattle.script_text.specs.Settings as script
 use Rattle.driver_model.specs.Commands.{BoardRequest, QueueName, Waits, Leaves, Lights, Writes, Reads, Randoms, Stores}
 use Rattle.kernel_model.specs.Record.{Record}
 use Rattle.kernel_model.specs.Turn.{turned}
-use Rattle.kernel_model.specs.World.{DeviceAnswer, Devices, Stepped, World, acted, after, alarmed, answering, arrived}
+use Rattle.kernel_model.specs.World.{DeviceAnswer, Devices, Stepped, World, acted, after, answering, arrived}
+use Rattle.kernel_model.specs.Parts.{alarmed}
 use Rattle.kernel_model.specs.World.{carried_out}
 use Rattle.kernel_model.specs.World.{coming_in, device_step_of, done, is_ready, queue_without, ran, random_step}
-use Rattle.kernel_model.specs.World.{acting_on, acts_of, operating, receive_step, routed, served_by, serving}
-use Rattle.kernel_model.specs.World.{lane_in, slot_of_name, storing, telling_nobody, transmitting, with_queue}
+use Rattle.kernel_model.specs.World.{operating, receive_step, routed, serving}
+use Rattle.kernel_model.specs.Parts.{served_by}
+use Rattle.kernel_model.specs.Parts.{acting_on, acts_of}
+use Rattle.kernel_model.specs.World.{lane_in, storing, telling_nobody, transmitting, with_queue}
+use Rattle.kernel_model.specs.Parts.{slot_of_name}
 use Rattle.kernel_model.specs.Edges.{arrival_in, first_for}
 use Rattle.kernel_model.proofs.Places.{stepped_else, stepped_ready}
 
@@ -54,7 +58,7 @@ acting_arrivals verb rs d (Some slot) = by_record (slice_get rs slot)
 module _ (w : World) where
   serving_arrivals : (make : ℕ → Record → DeviceAnswer)
       → ((slot : ℕ) (r : Record) → (make slot r).devices.arrivals ≡ w.devices.arrivals) → (served : Option ℕ)
-      → w.devices.arrivals ≡ (done w (serving w make served)).after.devices.arrivals
+      → w.devices.arrivals ≡ (done w (serving w.records make served)).after.devices.arrivals
   serving_arrivals make each None = refl
   serving_arrivals make each (Some slot) = by_record (slice_get w.records slot)
     where

@@ -18,14 +18,16 @@ use Rattle.process_record.specs.declared.emit.CallMade.{CallMade}
 use Rattle.kernel_model.specs.Record.{Record}
 use Rattle.kernel_model.specs.Turn.{Event, Turned, apply, is_turn, turned}
 use Rattle.kernel_model.specs.World.{Answer, DeviceStep, Label, Stepped, World, after, answer_label, carried_out}
-use Rattle.kernel_model.specs.World.{device_step_of, done, happens, labels, labels_of, labels_told, ran, records_told}
+use Rattle.kernel_model.specs.World.{device_step_of, done, labels, labels_told, ran, records_told}
+use Rattle.kernel_model.specs.Parts.{happens, labels_of}
 use Rattle.kernel_model.specs.World.{stepped, turn_label, unmade}
-use Rattle.kernel_model.specs.Run.{next, on_choice, round, stays as stays_at, runs_on}
+use Rattle.kernel_model.specs.Run.{next, round, stays as stays_at, runs_on}
+use Rattle.kernel_model.specs.Parts.{on_choice}
 use Rattle.kernel_model.specs.Stretch.{IsQuietTurn}
 use Rattle.kernel_model.specs.Replay.{chosen, events, replay}
 use Rattle.kernel_laws.specs.Clock.{AsksNoClock, StepsWithoutClockHaveCauses, TurnsWithoutClockHaveCauses}
 use Rattle.kernel_model.specs.Causes.{AllHaveCauses, AnswerHasCauses, EachChangeHasACause, IsCause, IsDoneByTurn}
-use Rattle.kernel_model.specs.Causes.{IsStorageCause, StepsHaveCauses, StorageChangesAt, TurnHasCauses, TurnsHaveCauses}
+use Rattle.kernel_model.specs.Causes.{Overwrites, StepsHaveCauses, StorageChangesAt, TurnHasCauses, TurnsHaveCauses}
 use Rattle.kernel_laws.proofs.Answered.{told_has_causes}
 use Rattle.kernel_model.proofs.Places.{of_stepped, ran-other, ran-own}
 use Rattle.kernel_model.proofs.Replays.{one_step}
@@ -143,6 +145,10 @@ module _ (w : World) (slot : ℕ) (r : Record) (is : slice_get w.records slot �
 -- the first of some labels has the cause
 first : (P : Label → Type 0) (label : Label) (rest : List Label) → P label → Any P (label ∷ rest)
 first P label rest holds = (0, label, omega arith, refl, holds)
+
+-- a label with the cause of a change of a byte of the storage
+abbrev IsStorageCause : ℕ → Record → ℕ → Label → Type 0
+IsStorageCause slot r k label = (label.slot ≡ slot) × Overwrites label.event r k
 
 -- what is to be shown of the labels, and of the record after the step
 record Caused (slot : ℕ) (r : Record) (labels : List Label) (s : Record) : Type 0 where

@@ -36,15 +36,22 @@ use Rattle.process_record.specs.declared.outcome.Outcome.TheVariants.{GoesOn, Re
 use Rattle.process_record.specs.declared.process.Process.{Process}
 use Rattle.process_record.specs.declared.process.State.{State}
 use Rattle.process_record.specs.declared.process.State.TheVariants.{Running, Yielded, Faulted, Terminated}
-use Rattle.process_record.specs.Process.{after_call, after_fault, waiting}
-use Rattle.kernel_model.specs.Record.{Record, byte_at, instruction, with_effect, with_process, record_with_step}
+use Rattle.process_record.specs.Process.{after_call, waiting}
+use Rattle.process_record.specs.Parts.{after_fault}
+use Rattle.kernel_model.specs.Record.{Record, byte_at, instruction, with_effect, record_with_step}
+use Rattle.kernel_model.specs.Parts.{with_process}
 use Rattle.kernel_model.specs.declared.settings.Settings.{Settings}
-use Rattle.kernel_model.specs.Calls.{Served, driver_answered, by_form, exit, memop, object_permits, restart}
-use Rattle.kernel_model.specs.Calls.{restarted_by, restarted_main, served, swap_by, swap_refusal, taken_by, yield_now}
+use Rattle.kernel_model.specs.Calls.{Served, driver_answered, by_form, exit, memop, restart}
+use Rattle.kernel_model.specs.Parts.{object_permits}
+use Rattle.kernel_model.specs.Calls.{served, swap_by, swap_refusal, taken_by, yield_now}
+use Rattle.kernel_model.specs.Parts.{restarted_by, restarted_main}
 use Rattle.kernel_model.specs.Calls.{comes_to, yield_for, yielding}
-use Rattle.kernel_model.specs.Turn.{Turned, calls, turn_counted, delivery, at_turn_end, faulted, yield_flag_of, idle}
-use Rattle.kernel_model.specs.Turn.{instructed, made, settled, surroundings, turned, turn_in, unknown_call}
-use Rattle.kernel_model.specs.Histories.{ends_life, is_exit}
+use Rattle.kernel_model.specs.Turn.{Turned, turn_counted, at_turn_end, faulted, yield_flag_of, idle}
+use Rattle.kernel_model.specs.Parts.{calls, delivery}
+use Rattle.kernel_model.specs.Turn.{made, settled, surroundings, turned, turn_in}
+use Rattle.kernel_model.specs.Parts.{instructed, unknown_call}
+use Rattle.kernel_model.specs.Histories.{ends_life}
+use Rattle.kernel_model.specs.Parts.{is_exit}
 use Rattle.kernel_model.specs.Causes.{IsDoneByTurn, TurnHasCauses, TurnsHaveCauses, showed_clock}
 use Rattle.process_model.specs.Permission.{denied}
 use Rattle.std.proofs.lemmas.Bool.{false≢true}

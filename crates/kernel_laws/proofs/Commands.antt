@@ -19,7 +19,8 @@ use Rattle.driver_model.specs.Console as console
 use Rattle.driver_model.specs.Drivers.{CommandContext, CommandHandler, handler_by, handler_of}
 use Rattle.driver_model.specs.Leds as leds
 use Rattle.driver_model.specs.Random as random
-use Rattle.driver_model.specs.Requests.{RequestKind, asking, asking_beside, request_in}
+use Rattle.driver_model.specs.Requests.{RequestKind, asking, request_in}
+use Rattle.driver_model.specs.Parts.{asking_beside}
 use Rattle.driver_model.specs.Storage as storage
 
 -- what is scheduled for a process is as it was

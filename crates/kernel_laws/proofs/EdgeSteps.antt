@@ -37,15 +37,24 @@ use Rattle.driver_model.specs.Upcalls.{DriversScheduleTheirOwn, IsOfDriver}
 use Rattle.kernel_model.specs.Record.{Record}
 use Rattle.kernel_model.specs.declared.settings.Settings.{Settings}
 use Rattle.kernel_model.specs.Edges.{EachIsScheduledOnce, IsScheduledOnce, IsThenScheduled, SchedulesEdge}
-use Rattle.kernel_model.specs.Edges.{StepsServeEdges, arrival_in, edge_in, edge_upcall, first_for, if_told, is_of_edge}
-use Rattle.kernel_model.specs.Edges.{pressed_after_all, pressed_by, told_edge_in}
+use Rattle.kernel_model.specs.Edges.{StepsServeEdges, arrival_in, edge_in, first_for}
+use Rattle.kernel_model.specs.Named.{is_of_edge}
+use Rattle.kernel_model.specs.Parts.{if_told}
+use Rattle.kernel_model.specs.Named.{edge_upcall}
+use Rattle.kernel_model.specs.Edges.{pressed_after_all, told_edge_in}
+use Rattle.kernel_model.specs.Named.{pressed_by}
 use Rattle.kernel_model.specs.Laws.{OnlyItsOwnEvents, answer_by}
 use Rattle.kernel_model.specs.Turn.{Event, Turn, Alarmed, Edge, Taken, WriteDone, Input, Word, NoWord, Stored}
 use Rattle.kernel_model.specs.Turn.{Act, apply, surroundings, turned}
-use Rattle.kernel_model.specs.World.{Answer, DeviceAnswer, DeviceStep, Devices, World, acting_on, after, alarmed}
-use Rattle.kernel_model.specs.World.{answering, arrived, drawn_event}
-use Rattle.kernel_model.specs.World.{coming_in, edge_told, happens, is_ready, operating, random_step, receive_step}
-use Rattle.kernel_model.specs.World.{lane_in, served_by, serving, slot_of_name, storing, telling_nobody, transmitting}
+use Rattle.kernel_model.specs.World.{Answer, DeviceAnswer, DeviceStep, Devices, World, after}
+use Rattle.kernel_model.specs.Parts.{acting_on, alarmed}
+use Rattle.kernel_model.specs.World.{answering, arrived}
+use Rattle.kernel_model.specs.Parts.{drawn_event}
+use Rattle.kernel_model.specs.World.{coming_in, edge_told, is_ready, operating, random_step, receive_step}
+use Rattle.kernel_model.specs.Parts.{happens}
+use Rattle.kernel_model.specs.World.{lane_in, serving, storing, telling_nobody, transmitting}
+use Rattle.kernel_model.specs.Parts.{served_by}
+use Rattle.kernel_model.specs.Parts.{slot_of_name}
 use Rattle.kernel_laws.specs.Scheduled.{answer_schedules, answer_step, call_schedules, command_schedules}
 use Rattle.kernel_laws.specs.Scheduled.{event_schedules, scheduled_by}
 use Rattle.kernel_laws.specs.Scheduled.{upcall_told}
@@ -181,7 +190,7 @@ NoEdge told = IfSome told (λ a. is_edge a.event ≡ false)
 
 serving_no_edge : (w : World) (slot : ℕ) (answer : ℕ → Record → DeviceAnswer)
     → ((at : ℕ) (r : Record) → is_edge (answer at r).answer.event ≡ false) → (served : Option ℕ)
-    → NoEdge (option_and_then (λ (deed : DeviceStep). deed.told slot) (serving w answer served))
+    → NoEdge (option_and_then (λ (deed : DeviceStep). deed.told slot) (serving w.records answer served))
 serving_no_edge w slot answer each None = tt
 serving_no_edge w slot answer each (Some at) = by_record (slice_get w.records at)
   where
@@ -259,11 +268,7 @@ serves_by settings arrival r told edge is s =
 
 -- no upcall is scheduled
 stays : (own : Own) → SchedulesEdge None own own
-stays own = record {
-  upcall = None;
-  other = tt;
-  leaves = record { left = own.inbox; remains = all_remain own.inbox; is = refl };
-}
+stays own = (None, tt, record { left = own.inbox; remains = all_remain own.inbox; is = refl })
 
 serves_none : (settings : Settings) (r : Record) → ServesFor settings None r None
 serves_none settings r = record { schedules = stays r.own; knows = refl; filters = λ us. refl }
@@ -317,11 +322,7 @@ module _ (law : DriversScheduleTheirOwn) (refuse : RefusedByAnyDriver) (of_ecall
   serves_event settings (Some a) r none =
       let other = others law settings a.event r none in
       record {
-        schedules = record {
-          upcall = event_schedules settings a.event r;
-          other = other;
-          leaves = event_then refuse of_ecall settings a.event r;
-        };
+        schedules = (event_schedules settings a.event r, other, event_then refuse of_ecall settings a.event r);
         knows = event_pressed refuse of_ecall settings a.event r none;
         filters = filters_another (event_schedules settings a.event r) other;
       }

@@ -22,12 +22,15 @@ use Rattle.process_record.specs.declared.emit.CallMade.{CallMade}
 use Rattle.process_record.specs.declared.process.State.{State}
 use Rattle.process_record.specs.declared.process.State.TheVariants.{Running, Yielded, Faulted, Terminated}
 use Rattle.process_model.specs.Own.{Own}
-use Rattle.process_record.specs.Process.{after_fault}
-use Rattle.kernel_model.specs.Record.{Record, instruction, with_effect, with_process}
+use Rattle.process_record.specs.Parts.{after_fault}
+use Rattle.kernel_model.specs.Record.{Record, instruction, with_effect}
+use Rattle.kernel_model.specs.Parts.{with_process}
 use Rattle.kernel_model.specs.declared.settings.Settings.{Settings}
 use Rattle.kernel_model.specs.Calls.{failure_of, refused_with, served}
-use Rattle.kernel_model.specs.Turn.{Turned, apply, called, calls, turn_counted, delivery, at_turn_end, faulted, idle}
-use Rattle.kernel_model.specs.Turn.{instructed, made, operated, settled, surroundings, turned, turn_in, unknown_call}
+use Rattle.kernel_model.specs.Turn.{Turned, apply, called, turn_counted, at_turn_end, faulted, idle}
+use Rattle.kernel_model.specs.Parts.{calls, delivery}
+use Rattle.kernel_model.specs.Turn.{made, operated, settled, surroundings, turned, turn_in}
+use Rattle.kernel_model.specs.Parts.{instructed, unknown_call}
 use Rattle.kernel_model.specs.Laws.{CanStartAgain, DriversPromise, DropsAtMostOne, GrantsChangeAtCalls, KeepsLines}
 use Rattle.kernel_model.specs.Laws.{TurnsActAtCalls, TurnsKeepLines}
 use Rattle.driver_model.specs.Keeping.{KeepsLimit}

@@ -14,9 +14,12 @@ use Rattle.tk_base.specs.declared.process.Choice.{Choice}
 use Rattle.tk_base.specs.declared.process.Choice.TheVariants.{Run, Device, Pass}
 use Rattle.tk_base.specs.declared.process.Dev.{Dev}
 use Rattle.tk_base.specs.declared.process.Dev.TheVariants as dev
-use Rattle.turn_scheduler.specs.RoundRobin.{choice, device_order, goes_on as slice_lasts, place_is_ready as is_ready_at}
+use Rattle.turn_scheduler.specs.RoundRobin.{choice, device_order}
+use Rattle.turn_scheduler.specs.Parts.{place_is_ready as is_ready_at}
+use Rattle.turn_scheduler.specs.Parts.{goes_on as slice_lasts}
 use Rattle.turn_scheduler.specs.RoundRobin.{next_slot, device_place, ready_device, slots_after}
-use Rattle.driver_model.specs.Alarm.{alarm_in, ticks_left, ticks_left_in, ticks_left_of, nearer, nearer_with, next_left}
+use Rattle.driver_model.specs.Alarm.{alarm_in, ticks_left, ticks_left_in, ticks_left_of, nearer, next_left}
+use Rattle.driver_model.specs.Parts.{nearer_with}
 use Rattle.driver_model.specs.Laws.{IsDueWhereNoneAreLeft}
 use Rattle.script_text.specs.Settings.{ScriptEvent as Arrival}
 use Rattle.board_devices.specs.Arriving.{first_arrival_time as arrival_time}
@@ -24,10 +27,17 @@ use Rattle.process_model.specs.Own.{Own}
 use Rattle.driver_model.specs.Commands.{Writes}
 use Rattle.kernel_model.specs.Record.{Record}
 use Rattle.kernel_model.specs.Turn.{may_turn}
-use Rattle.kernel_model.specs.World.{World, after, can_run, is_ready, is_waited_for, line_in, may_serve, now_in}
-use Rattle.kernel_model.specs.World.{only_in, owns_in, sending_time, slots_in, stepped, work_of}
-use Rattle.kernel_model.specs.Run.{is_left, is_left_for, next, next_time, on_choice, ready_devices, ready_slots, round}
-use Rattle.kernel_model.specs.Run.{runs_on, stays, work_for}
+use Rattle.kernel_model.specs.World.{World, after, is_ready, may_serve, now_in}
+use Rattle.kernel_model.specs.Parts.{line_in}
+use Rattle.kernel_model.specs.Parts.{is_waited_for}
+use Rattle.kernel_model.specs.Named.{can_run}
+use Rattle.kernel_model.specs.World.{only_in, owns_in, sending_time, stepped}
+use Rattle.kernel_model.specs.Named.{slots_in}
+use Rattle.kernel_model.specs.Parts.{work_of}
+use Rattle.kernel_model.specs.Run.{is_left, is_left_for, next, next_time, ready_devices, ready_slots, round}
+use Rattle.kernel_model.specs.Parts.{on_choice}
+use Rattle.kernel_model.specs.Run.{runs_on, stays}
+use Rattle.kernel_model.specs.Parts.{work_for}
 use Rattle.kernel_model.proofs.Runs.{alarm_time, going_is_ready}
 use Rattle.partition_turns.specs.Windows.{window_end, window_slot}
 use Rattle.kernel_model.specs.Choices.{are_ready, labels_of_all}

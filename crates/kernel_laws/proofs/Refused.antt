@@ -22,10 +22,13 @@ use Rattle.process_record.specs.declared.process.State.TheVariants.{Running, Yie
 use Rattle.kernel_model.specs.Record.{Record, byte_at, instruction, with_effect}
 use Rattle.kernel_model.specs.declared.settings.Settings.{Settings}
 use Rattle.kernel_model.specs.Calls.{Served, failure_of, refused_with, served}
-use Rattle.kernel_model.specs.Turn.{Turned, calls, turn_counted, delivery, at_turn_end, surroundings, turn_in, turned}
+use Rattle.kernel_model.specs.Turn.{Turned, turn_counted, at_turn_end, surroundings, turn_in, turned}
+use Rattle.kernel_model.specs.Parts.{calls, delivery}
 use Rattle.kernel_model.specs.World.{Stepped, World, after_turn_of, carried_out, ran, routed}
 use Rattle.kernel_model.specs.Laws.{RefusedChangesNothingElse}
-use Rattle.kernel_model.specs.Refused.{IfRefused, CallIsRefused, LeavesRefused, RefusalsChangeLittle, refusal_in}
+use Rattle.kernel_model.specs.Refused.{IfRefused, LeavesRefused, RefusalsChangeLittle}
+use Rattle.kernel_model.specs.Parts.{CallIsRefused}
+use Rattle.kernel_model.specs.Parts.{refusal_in}
 use Rattle.kernel_model.proofs.Labels.{device_labels}
 use Rattle.kernel_model.proofs.Places.{of_stepped}
 
@@ -101,7 +104,9 @@ module _ (law : RefusedChangesNothingElse) (of_ecall : CallsAreOfEcall) (w : Wor
             before = r;
             after = t.after;
             is_there = is;
-            refused = is_so.0;
+            call = is_so.0.0;
+            is_made = is_so.0.1;
+            refused = is_so.0.2;
             world = ap (λ (acts : List BoardRequest). record (after_turn_of w slot t)
                 { devices = routed slot acts w.devices }) is_so.1;
           }

@@ -49,14 +49,15 @@ use Rattle.process_model.specs.Flag.{with_flag}
 use Rattle.process_model.specs.Handed.{lies_in_ram}
 use Rattle.process_model.specs.Permission.{denied}
 use Rattle.process_model.specs.Served.{ScheduledUpcall, own_scheduling, upcall_of}
-use Rattle.driver_model.specs.Alarm.{answered as alarm_answered, due_alarm, fired_if}
+use Rattle.driver_model.specs.Alarm.{answered as alarm_answered, due_alarm}
+use Rattle.driver_model.specs.Parts.{fired_if, with_word}
 use Rattle.driver_model.specs.Buttons.{buttons, edged, is_told}
 use Rattle.driver_model.specs.Commands.{Commanded}
 use Rattle.driver_model.specs.Console.{console_reads, console_writes, reading_in, taking, write_completing}
 use Rattle.driver_model.specs.Drivers.{CommandContext, CommandHandler, handler_of}
 use Rattle.driver_model.specs.Laws.{RefusedByAnyDriver}
 use Rattle.driver_model.specs.Random.{advanced, answered as random_answered, completing, drawing, progress, randoms}
-use Rattle.driver_model.specs.Random.{unanswered as random_unanswered, wanted, with_word}
+use Rattle.driver_model.specs.Random.{unanswered as random_unanswered, wanted}
 use Rattle.driver_model.specs.Requests.{waiting_in}
 use Rattle.driver_model.specs.Steps.{DriverStep, own_after, scheduling, silently}
 use Rattle.driver_model.specs.Storage.{answered as storage_answered, moving, storage_answer_of, storage_served}
@@ -66,18 +67,24 @@ use Rattle.driver_model.specs.Upcalls.{scheduled_if}
 use Rattle.process_record.specs.declared.outcome.Outcome.TheVariants.{GoesOn, Waits}
 use Rattle.process_record.specs.declared.process.State.{State}
 use Rattle.process_record.specs.declared.process.State.TheVariants.{Running, Yielded, Faulted, Terminated}
-use Rattle.process_record.specs.Process.{after_call, after_fault, waiting}
-use Rattle.kernel_model.specs.Record.{Record, byte_at, instruction, record_with_step, with_effect, with_process}
+use Rattle.process_record.specs.Process.{after_call, waiting}
+use Rattle.process_record.specs.Parts.{after_fault}
+use Rattle.kernel_model.specs.Record.{Record, byte_at, instruction, record_with_step, with_effect}
+use Rattle.kernel_model.specs.Parts.{with_process}
 use Rattle.kernel_model.specs.declared.settings.Settings.{Settings}
 use Rattle.kernel_model.specs.Calls.{Served, by_form, comes_to, driver_answered, exit, failure_of, memop}
-use Rattle.kernel_model.specs.Calls.{object_permits}
-use Rattle.kernel_model.specs.Calls.{refused, refused_with, replied, restart, restarted_by, restarted_main, served}
+use Rattle.kernel_model.specs.Parts.{object_permits}
+use Rattle.kernel_model.specs.Calls.{refused, refused_with, replied, restart, served}
+use Rattle.kernel_model.specs.Parts.{restarted_by, restarted_main}
 use Rattle.kernel_model.specs.Calls.{swap_by, swap_refusal}
-use Rattle.kernel_model.specs.Calls.{swapped, taken_by, yield_for, yield_now, yielding}
-use Rattle.kernel_model.specs.Edges.{IsRemainder, IsThenScheduled, is_of_edge}
+use Rattle.kernel_model.specs.Calls.{taken_by, yield_for, yield_now, yielding}
+use Rattle.kernel_model.specs.Parts.{swapped}
+use Rattle.kernel_model.specs.Edges.{IsRemainder, IsThenScheduled}
+use Rattle.kernel_model.specs.Named.{is_of_edge}
 use Rattle.kernel_model.specs.Histories.{class_of}
 use Rattle.kernel_model.specs.Turn.{Event, Turn, Alarmed, Edge, Taken, WriteDone, Input, Word, NoWord, Stored, Turned}
-use Rattle.kernel_model.specs.Turn.{apply, at_turn_end, calls, delivery, faulted, made, rule_shown, settled}
+use Rattle.kernel_model.specs.Turn.{apply, at_turn_end, faulted, made, rule_shown, settled}
+use Rattle.kernel_model.specs.Parts.{calls, delivery}
 use Rattle.kernel_model.specs.Turn.{Act, operated, surroundings}
 use Rattle.kernel_model.specs.Turn.{turn_counted, turn_in, turned}
 use Rattle.kernel_model.proofs.Classes.{command_in, exit_in, memop_in, of_registers, swap_in, yield_in}

@@ -15,18 +15,22 @@ use Rattle.tk_base.specs.declared.process.Choice.TheVariants.{Run, Device, Pass}
 use Rattle.tk_base.specs.declared.process.Dev.{Dev}
 use Rattle.process_record.specs.declared.process.State.{State}
 use Rattle.process_record.specs.declared.process.State.TheVariants.{Running}
-use Rattle.turn_scheduler.specs.RoundRobin.{choice, place_is_ready as is_ready_at, next_slot, ready_device, slots_after}
+use Rattle.turn_scheduler.specs.RoundRobin.{choice, next_slot, ready_device, slots_after}
+use Rattle.turn_scheduler.specs.Parts.{place_is_ready as is_ready_at}
 use Rattle.turn_scheduler.specs.RoundRobin.{used_after}
 use Rattle.kernel_model.specs.declared.settings.Settings.{Settings}
 use Rattle.kernel_model.specs.Record.{Record, instruction}
 use Rattle.kernel_model.specs.Turn.{TurnTrace, Turned, at_turn_end, has_turn, may_turn, turn_in, turned}
 use Rattle.upcall_queue.specs.Pending.{due}
-use Rattle.kernel_model.specs.World.{World, Label, Stepped, after_turn_of, can_run, carried_out, is_let, is_ready}
+use Rattle.kernel_model.specs.World.{World, Label, Stepped, after_turn_of, carried_out, is_let, is_ready}
+use Rattle.kernel_model.specs.Named.{can_run}
 use Rattle.kernel_model.specs.World.{only_in, ran}
 use Rattle.kernel_model.proofs.Runs.{ready_goes}
 use Rattle.kernel_model.specs.World.{stepped, turn_label}
-use Rattle.kernel_model.specs.Run.{Ran, next, next_time, on_choice, printed, ready_devices, ready_slots, round, stays}
-use Rattle.kernel_model.specs.Run.{runs_on, told_first}
+use Rattle.kernel_model.specs.Run.{Ran, next, next_time, printed, ready_devices, ready_slots, round, stays}
+use Rattle.kernel_model.specs.Parts.{on_choice}
+use Rattle.kernel_model.specs.Run.{runs_on}
+use Rattle.kernel_model.specs.Parts.{told_first}
 use Rattle.kernel_model.specs.Stretch.{AllGo, IsQuietTurn, IsNextOnTheWay, IsStretch, NoneIsStretch}
 use Rattle.kernel_model.specs.Stretch.{PresentIsNextOnTheWay, PresentStaysOn}
 use Rattle.kernel_model.specs.Stretch.{RoundIsStretch, RoundsJoin, StretchesJoin, after_instructions, after_stretch}

@@ -14,13 +14,16 @@ use Rattle.tk_base.specs.declared.process.Choice.TheVariants.{Run, Device, Pass}
 use Rattle.tk_base.specs.declared.process.Dev.{Dev}
 use Rattle.upcall_queue.specs.Pending.{due}
 use Rattle.turn_scheduler.specs.Situation.{Situation}
-use Rattle.turn_scheduler.specs.RoundRobin.{choice, place_is_ready as is_ready_at, next_slot, ready_device, used_after}
+use Rattle.turn_scheduler.specs.RoundRobin.{choice, next_slot, ready_device, used_after}
+use Rattle.turn_scheduler.specs.Parts.{place_is_ready as is_ready_at}
 use Rattle.turn_scheduler.specs.Turns.{AreTurns, GivesTurn, ReadyHasTurn}
 use Rattle.kernel_model.specs.Record.{Record}
 use Rattle.kernel_model.specs.Turn.{has_turn, may_turn}
-use Rattle.kernel_model.specs.World.{Pace, Present, Stepped, World, after, can_run, carried_out, is_ready}
+use Rattle.kernel_model.specs.World.{Pace, Present, Stepped, World, after, carried_out, is_ready}
+use Rattle.kernel_model.specs.Named.{can_run}
 use Rattle.kernel_model.specs.World.{is_let, may_be_made, only_at, only_in, ran}
-use Rattle.kernel_model.specs.Run.{may_go, next, on_choice, ready_slots, situation_of}
+use Rattle.kernel_model.specs.Run.{may_go, next, ready_slots, situation_of}
+use Rattle.kernel_model.specs.Parts.{on_choice}
 use Rattle.kernel_model.specs.Replay.{chosen}
 use Rattle.kernel_laws.specs.Fairness.{HasTurn, IsReadyIn, ReadyProcessesHaveTurns, is_turn, makes_turn, turn_worlds}
 use Rattle.kernel_laws.specs.Fairness.{worlds}

@@ -10,7 +10,8 @@ use Rattle.tk_base.specs.declared.limits.TheConstants.{SLOT_COUNT}
 use Rattle.tk_base.specs.declared.process.Choice.TheVariants.{Run, Device, Pass}
 use Rattle.tk_base.specs.declared.process.Dev.{Dev}
 use Rattle.tk_base.specs.declared.process.Dev.TheVariants.{Event, Alarm, Uart, Receive, Random, Store}
-use Rattle.turn_scheduler.specs.RoundRobin.{choice, device_order, device_place, next_slot, place_is_ready, ready_device}
+use Rattle.turn_scheduler.specs.RoundRobin.{choice, device_order, device_place, next_slot, ready_device}
+use Rattle.turn_scheduler.specs.Parts.{place_is_ready}
 use Rattle.partition_turns.specs.LanesView.{LanesView, alarm_time, lane_of, slot_is_ready, uart_time}
 use Rattle.partition_turns.specs.Windows.{device_in_window, device_is_ready, earlier, is_left as is_left_in_lanes}
 use Rattle.partition_turns.specs.Windows.{is_left_in, passes_to as passes_to_in, slot_choice, window_end}
@@ -23,9 +24,14 @@ use Rattle.driver_model.specs.Commands.{Writes}
 use Rattle.driver_model.specs.Laws.{IsDueWhereNoneAreLeft}
 use Rattle.kernel_model.specs.Record.{Record}
 use Rattle.kernel_model.specs.Turn.{may_turn}
-use Rattle.kernel_model.specs.World.{Work, World, can_run, is_let, only_at, only_in, sending_time, work_at, work_of}
-use Rattle.kernel_model.specs.World.{line_in, now_in, owns_in, waits_in}
-use Rattle.kernel_model.specs.Run.{is_left, is_left_for, may_go, next, passes_to, work_for}
+use Rattle.kernel_model.specs.World.{Work, World, is_let, only_at, only_in, sending_time, work_at}
+use Rattle.kernel_model.specs.Parts.{work_of}
+use Rattle.kernel_model.specs.Named.{can_run}
+use Rattle.kernel_model.specs.World.{now_in, owns_in}
+use Rattle.kernel_model.specs.Parts.{line_in}
+use Rattle.kernel_model.specs.Named.{waits_in}
+use Rattle.kernel_model.specs.Run.{is_left, is_left_for, may_go, next, passes_to}
+use Rattle.kernel_model.specs.Parts.{work_for}
 use Rattle.kernel_model.proofs.Runs.{going_is_let, going_is_ready, next_slot_ready, ready_goes}
 use Rattle.kernel_laws.specs.Windows.{LanesAreAhead, NextIsOfTheWindow, due_time, lane_order, lanes_in}
 use Rattle.kernel_laws.proofs.OneRun.{no_turn}

@@ -16,12 +16,19 @@ use Rattle.driver_model.specs.Commands.{BoardRequest, Waits, Leaves, Lights, Que
 use Rattle.driver_model.specs.Console as console
 use Rattle.driver_model.specs.Random as random
 use Rattle.kernel_model.specs.Record.{Record}
-use Rattle.kernel_model.specs.Turn.{WriteDone, Taken, flash_of, turned}
-use Rattle.kernel_model.specs.World.{drawn_event, Answer, Devices, Label, Stepped, World, acted, after, carried_out}
+use Rattle.kernel_model.specs.Turn.{WriteDone, Taken, turned}
+use Rattle.kernel_model.specs.Record.{flash_of}
+use Rattle.kernel_model.specs.World.{Answer, Devices, Label, Stepped, World, acted, after, carried_out}
+use Rattle.kernel_model.specs.Parts.{drawn_event}
 use Rattle.kernel_model.specs.World.{device_step_of, done, labels, ran, random_step, routed, stepped}
-use Rattle.kernel_model.specs.World.{DeviceAnswer, Pace, acts_of, alarmed, answer_label, lane_by, lane_in}
-use Rattle.kernel_model.specs.World.{may_serve, only_at, only_for, operating, queue_without, receive_step, served_by}
-use Rattle.kernel_model.specs.World.{slots_in, storing, telling_edge, transmitting, turn_label, with_queue, words_in}
+use Rattle.kernel_model.specs.World.{DeviceAnswer, Pace, answer_label, lane_in}
+use Rattle.kernel_model.specs.Named.{lane_by}
+use Rattle.kernel_model.specs.Parts.{acts_of, alarmed}
+use Rattle.kernel_model.specs.World.{may_serve, only_at, only_for, operating, queue_without, receive_step}
+use Rattle.kernel_model.specs.Parts.{served_by}
+use Rattle.kernel_model.specs.World.{storing, telling_edge, transmitting, turn_label, with_queue}
+use Rattle.kernel_model.specs.Named.{words_in}
+use Rattle.kernel_model.specs.Named.{slots_in}
 use Rattle.kernel_model.specs.Laws.{edge_done, edge_labels, one_answered}
 use Rattle.kernel_model.proofs.Told.{edge_answer, of_device, told_labels, with_rest}
 use Rattle.kernel_model.specs.Choices.{labels_of_all}

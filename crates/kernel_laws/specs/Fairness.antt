@@ -5,7 +5,8 @@ use Rattle.std.specs.Prelude.{slice_get, Option, Some, All, Any}
 use Rattle.tk_base.specs.declared.limits.TheConstants.{SLOT_COUNT, STEP_LIMIT}
 use Rattle.tk_base.specs.declared.process.Choice.{Choice}
 use Rattle.tk_base.specs.declared.process.Choice.TheVariants.{Run}
-use Rattle.kernel_model.specs.World.{World, after, can_run}
+use Rattle.kernel_model.specs.World.{World, after}
+use Rattle.kernel_model.specs.Named.{can_run}
 use Rattle.kernel_model.specs.Run.{next}
 use Rattle.kernel_model.specs.Replay.{chosen}
 

@@ -7,7 +7,9 @@ use Rattle.tk_base.specs.declared.process.Dev.{Dev}
 use Rattle.driver_model.specs.Alarm.{alarm_in}
 use Rattle.driver_model.specs.Commands.{Writes}
 use Rattle.kernel_model.specs.Record.{Record}
-use Rattle.kernel_model.specs.World.{Work, World, can_run, may_serve, now_in, only_for, owns_in, slots_in, work_at}
+use Rattle.kernel_model.specs.World.{Work, World, may_serve, now_in, only_for, owns_in, work_at}
+use Rattle.kernel_model.specs.Named.{slots_in}
+use Rattle.kernel_model.specs.Named.{can_run}
 use Rattle.kernel_model.specs.Run.{next, round}
 use Rattle.kernel_model.specs.Choices.{are_ready, labels_of_all}
 use Rattle.kernel_model.specs.Replay.{after_all, chosen}

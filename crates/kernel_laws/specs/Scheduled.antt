@@ -18,7 +18,7 @@ use Rattle.driver_model.specs.Steps.{DriverStep, silently}
 use Rattle.kernel_model.specs.Record.{Record}
 use Rattle.kernel_model.specs.declared.settings.Settings.{Settings}
 use Rattle.kernel_model.specs.Turn.{Act, Event, Turn, Alarmed, Edge, Taken, WriteDone, Input, Word, NoWord, Stored}
-use Rattle.kernel_model.specs.Turn.{flash_of}
+use Rattle.kernel_model.specs.Record.{flash_of}
 use Rattle.kernel_model.specs.Turn.{surroundings, turned}
 use Rattle.kernel_model.specs.World.{Answer, World, is_ready}
 use Rattle.kernel_model.specs.Laws.{answer_by}

@@ -11,7 +11,8 @@ use Rattle.board_devices.specs.Arriving.{first_arrival_time, is_time}
 use Rattle.driver_model.specs.Alarm.{left_for}
 use Rattle.kernel_model.specs.Turn.{may_turn}
 use Rattle.kernel_model.specs.World.{World, now_in, owns_in, sending_time}
-use Rattle.kernel_model.specs.Run.{next, work_for}
+use Rattle.kernel_model.specs.Run.{next}
+use Rattle.kernel_model.specs.Parts.{work_for}
 
 -- the device steps that serve one slot, in their order
 abbrev pub lane_order : List Dev

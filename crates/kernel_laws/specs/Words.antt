@@ -4,7 +4,9 @@ use Rattle.std.specs.Prelude.{◌≡◌, ℕ, ◌==◌, List, [], ◌∷◌, ◌
 use Rattle.std.specs.List.{flat_map}
 use Rattle.tk_base.specs.declared.process.Choice.{Choice}
 use Rattle.kernel_model.specs.Turn.{Event, Word}
-use Rattle.kernel_model.specs.World.{World, Label, lane_by, only_for, words_in}
+use Rattle.kernel_model.specs.World.{World, Label, only_for}
+use Rattle.kernel_model.specs.Named.{words_in}
+use Rattle.kernel_model.specs.Named.{lane_by}
 use Rattle.kernel_model.specs.Choices.{labels_of_all}
 use Rattle.kernel_model.specs.Replay.{after_all}
 

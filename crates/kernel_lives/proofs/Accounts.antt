@@ -64,7 +64,8 @@ steps_are_accounted_for causes guarded refused prints edges operates = record {
     with_causes : (w : World) (choice : Choice) → EachChangeHasACause w choice → IsAccountedFor w choice
     with_causes w choice one = record {
       causes = one;
-      guarded = guarded w choice;
+      accesses = (guarded w choice).accesses;
+      denials = (guarded w choice).denials;
       shown = step_shown w choice;
       refused = refused w choice;
       prints = prints w [] choice;

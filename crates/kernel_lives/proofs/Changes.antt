@@ -43,21 +43,30 @@ use Rattle.syscall_abi.specs.Call.{call_of, form_of}
 use Rattle.process_record.specs.declared.process.RecordedRefusal.{RecordedRefusal}
 use Rattle.process_record.specs.declared.process.State.{State}
 use Rattle.process_record.specs.declared.process.State.TheVariants.{Running, Yielded, Faulted, Terminated}
-use Rattle.process_record.specs.Process.{after_call as after_call_of, after_exit, after_fault, after_refusal}
-use Rattle.process_record.specs.Process.{after_reply, delivered, past_call, waiting}
-use Rattle.kernel_model.specs.Record.{Record, instruction, with_effect, record_with_own, record_with_step, with_process}
+use Rattle.process_record.specs.Process.{after_call as after_call_of, after_refusal}
+use Rattle.process_record.specs.Parts.{after_exit, after_fault}
+use Rattle.process_record.specs.Process.{after_reply, delivered, waiting}
+use Rattle.process_record.specs.Parts.{past_call}
+use Rattle.kernel_model.specs.Record.{Record, instruction, with_effect, record_with_step}
+use Rattle.kernel_model.specs.Parts.{record_with_own, with_process}
 use Rattle.kernel_model.specs.declared.settings.Settings.{Settings}
 use Rattle.kernel_model.proofs.Memops.{or_refused}
 use Rattle.kernel_model.specs.Calls.{Served, driver_answered, break_moved, by_form, deliver, exit, failure_of}
-use Rattle.kernel_model.specs.Calls.{flag_written, former_pair, memop, memops, moved_by, object_permits}
-use Rattle.kernel_model.specs.Calls.{own_swapped, refused, refused_with, region, region_end, regions_named, replied}
+use Rattle.kernel_model.specs.Calls.{flag_written, memop, memops, moved_by}
+use Rattle.kernel_model.specs.Parts.{former_pair, object_permits}
+use Rattle.kernel_model.specs.Calls.{refused, refused_with, region_end, replied}
+use Rattle.kernel_model.specs.Parts.{region, regions_named}
+use Rattle.kernel_model.specs.Parts.{own_swapped}
 use Rattle.kernel_model.specs.Calls.{restart, served, swap_by, swap_refusal}
-use Rattle.kernel_model.specs.Calls.{taken_by, with_break_at, yield_for, yield_now, yielding}
-use Rattle.kernel_model.specs.Turn.{Event, apply, calls, turn_counted, delivery, at_turn_end, faulted, has_turn}
+use Rattle.kernel_model.specs.Calls.{taken_by, yield_for, yield_now, yielding}
+use Rattle.kernel_model.specs.Parts.{with_break_at}
+use Rattle.kernel_model.specs.Turn.{Event, apply, turn_counted, at_turn_end, faulted, has_turn}
+use Rattle.kernel_model.specs.Parts.{calls, delivery}
 use Rattle.kernel_model.specs.Turn.{operated, settled, surroundings, turned, turn_in}
 use Rattle.kernel_model.specs.World.{World, after}
 use Rattle.kernel_model.specs.Replay.{after_all}
-use Rattle.process_record.specs.Process.{after_end, is_alive, with_held}
+use Rattle.process_record.specs.Process.{after_end, is_alive}
+use Rattle.process_record.specs.Parts.{with_held}
 use Rattle.kernel_model.proofs.Steps.{IsAnswer, answer_changes, of_answer, of_operated, of_step}
 
 -- other registers, and another recorded refusal

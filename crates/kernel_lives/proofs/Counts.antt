@@ -28,16 +28,22 @@ use Rattle.driver_model.specs.Services.{OfEachService}
 use Rattle.kernel_model.specs.Record.{Record}
 use Rattle.kernel_model.specs.declared.settings.Settings.{Settings}
 use Rattle.kernel_model.specs.Calls.{restart}
-use Rattle.kernel_model.specs.Turn.{Event, apply, edge_known, has_turn, may_turn, operated, turned}
+use Rattle.kernel_model.specs.Turn.{Event, apply, has_turn, may_turn, operated, turned}
+use Rattle.kernel_model.specs.Parts.{edge_known}
 use Rattle.upcall_queue.specs.Pending.{due}
 use Rattle.kernel_model.specs.Laws.{edge_heard, queue_after_answer}
-use Rattle.kernel_model.specs.World.{DeviceAnswer, DeviceStep, Devices, Stepped, World, acted, after, alarmed}
-use Rattle.kernel_model.specs.World.{acting_on, acts_of, answering, coming_in, operating, slot_of_name}
+use Rattle.kernel_model.specs.World.{DeviceAnswer, DeviceStep, Devices, Stepped, World, acted, after}
+use Rattle.kernel_model.specs.Parts.{alarmed}
+use Rattle.kernel_model.specs.World.{answering, coming_in, operating}
+use Rattle.kernel_model.specs.Parts.{acting_on, acts_of, slot_of_name}
 use Rattle.kernel_model.specs.World.{telling_nobody}
-use Rattle.kernel_model.specs.World.{arrived, can_act, can_run, carried_out, device_step_of, done, is_ready}
-use Rattle.kernel_model.specs.World.{is_waited_for, may_be_made, now_in, owns_in, queue_without}
+use Rattle.kernel_model.specs.World.{arrived, can_act, carried_out, device_step_of, done, is_ready}
+use Rattle.kernel_model.specs.Named.{can_run}
+use Rattle.kernel_model.specs.World.{may_be_made, now_in, owns_in, queue_without}
+use Rattle.kernel_model.specs.Parts.{is_waited_for}
 use Rattle.kernel_model.specs.World.{ran}
-use Rattle.kernel_model.specs.World.{random_step, receive_step, routed, serving, slots_in, storing, transmitting}
+use Rattle.kernel_model.specs.World.{random_step, receive_step, routed, serving, storing, transmitting}
+use Rattle.kernel_model.specs.Named.{slots_in}
 use Rattle.kernel_model.specs.World.{lane_in, may_serve, only_in, with_queue}
 use Rattle.kernel_model.specs.Choices.{are_ready}
 use Rattle.kernel_model.specs.Replay.{after_all}
@@ -180,7 +186,7 @@ module _ (law : DueSlotIsThere) (w : World) (h : AreThere (length w.records) w.d
 
   made_there : (make : ℕ → Record → DeviceAnswer) (slot : ℕ) → slot < length w.records
       → ((slot : ℕ) (r : Record) → AreThere (length w.records) (make slot r).devices)
-      → IsMade (length w.records) (serving w make (Some slot))
+      → IsMade (length w.records) (serving w.records make (Some slot))
   unfolding IsMade
   made_there make slot there each = by_record (slice_get w.records slot) refl
     where
@@ -191,7 +197,7 @@ module _ (law : DueSlotIsThere) (w : World) (h : AreThere (length w.records) w.d
 
   first_made : (make : ℕ → Record → DeviceAnswer) (line : List ℕ) → All (λ s. s < length w.records) line
       → is_waited_for line ≡ true → ((slot : ℕ) (r : Record) → AreThere (length w.records) (make slot r).devices)
-      → IsMade (length w.records) (serving w make (slice_get line 0))
+      → IsMade (length w.records) (serving w.records make (slice_get line 0))
   unfolding IsMade
   first_made make [] all waits each = false≢true waits
   first_made make (slot ∷ rest) all waits each =
@@ -229,7 +235,7 @@ module _ (law : DueSlotIsThere) (w : World) (h : AreThere (length w.records) w.d
       by_kind (script.Act verb name) = by_slot verb (slot_of_name name w.records)
 
   alarm_made : (due : Option ℕ) → ((slot : ℕ) → due ≡ Some slot → slot < length w.records) → is_some due ≡ true
-      → IsMade (length w.records) (serving w (λ slot r. alarmed w.settings w.clock.time w.devices) due)
+      → IsMade (length w.records) (serving w.records (λ slot r. alarmed w.settings w.clock.time w.devices) due)
   unfolding IsMade
   alarm_made None there e = false≢true e
   alarm_made (Some slot) there e =

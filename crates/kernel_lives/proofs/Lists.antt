@@ -26,13 +26,21 @@ use Rattle.process_record.specs.declared.process.State.{State}
 use Rattle.process_record.specs.declared.process.State.TheVariants.{Running, Yielded, Faulted, Terminated}
 use Rattle.kernel_model.specs.Record.{Record}
 use Rattle.kernel_model.specs.declared.settings.Settings.{Settings}
-use Rattle.kernel_model.specs.Turn.{Event, Turned, Alarmed, Taken, WriteDone, Input, Stored, apply, flash_of}
-use Rattle.kernel_model.specs.Turn.{edge_known, operated, turned, turn_in, untraced}
+use Rattle.kernel_model.specs.Turn.{Event, Turned, Alarmed, Taken, WriteDone, Input, Stored, apply}
+use Rattle.kernel_model.specs.Record.{flash_of}
+use Rattle.kernel_model.specs.Turn.{operated, turned, turn_in, untraced}
+use Rattle.kernel_model.specs.Parts.{edge_known}
 use Rattle.driver_model.specs.Steps.{DriverStep, own_after}
-use Rattle.kernel_model.specs.World.{DeviceAnswer, Devices, Stepped, World, acted, after, alarmed}
-use Rattle.kernel_model.specs.World.{acts_of, carried_out, device_step_of, done, drawn_event, now_in, operating}
-use Rattle.kernel_model.specs.World.{lane_in, line_in, queue_without, served_in, words_in}
-use Rattle.kernel_model.specs.World.{ran, random_step, receive_step, routed, slots_in, storing, transmitting}
+use Rattle.kernel_model.specs.World.{DeviceAnswer, Devices, Stepped, World, acted, after}
+use Rattle.kernel_model.specs.Parts.{alarmed}
+use Rattle.kernel_model.specs.World.{carried_out, device_step_of, done, now_in, operating}
+use Rattle.kernel_model.specs.Parts.{acts_of, drawn_event}
+use Rattle.kernel_model.specs.World.{lane_in, queue_without}
+use Rattle.kernel_model.specs.Parts.{line_in}
+use Rattle.kernel_model.specs.Named.{words_in}
+use Rattle.kernel_model.specs.Parts.{served_in}
+use Rattle.kernel_model.specs.World.{ran, random_step, receive_step, routed, storing, transmitting}
+use Rattle.kernel_model.specs.Named.{slots_in}
 use Rattle.kernel_model.specs.Laws.{CanStartAgain, KeepsLines, queue_after_answer, TurnsKeepLines}
 use Rattle.kernel_model.proofs.Lines.{keeps_ended, keeps_restarted}
 use Rattle.kernel_model.proofs.Steps.{of_operated}

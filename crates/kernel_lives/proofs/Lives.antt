@@ -23,6 +23,7 @@ use Rattle.upcall_queue.specs.Pending.{is_of, without_key}
 use Rattle.process_model.specs.Own.{Own, kernel_break_of, own_ended as ended_own}
 use Rattle.process_model.specs.Flag.{with_flag}
 use Rattle.process_model.specs.Handed.{lies_in_ram, still_pending}
+use Rattle.driver_model.specs.Parts.{fired_if}
 use Rattle.driver_model.specs.Alarm as alarm
 use Rattle.driver_model.specs.Buttons as buttons
 use Rattle.driver_model.specs.Console as console
@@ -40,9 +41,12 @@ use Rattle.process_record.specs.declared.process.State.{State}
 use Rattle.process_record.specs.declared.process.State.TheVariants.{Running, Yielded, Faulted, Terminated}
 use Rattle.kernel_model.specs.Record.{Record, record_with_step}
 use Rattle.kernel_model.specs.declared.settings.Settings.{Settings}
-use Rattle.kernel_model.specs.Calls.{restart, restarted_by, restarted_main, restarted_with, own_swapped}
+use Rattle.kernel_model.specs.Calls.{restart, restarted_with}
+use Rattle.kernel_model.specs.Parts.{restarted_by, restarted_main, own_swapped}
 use Rattle.kernel_model.specs.Turn.{Act, Event, Turn, Alarmed, Edge, Taken, WriteDone, Input, Word, NoWord, Stored}
-use Rattle.kernel_model.specs.Turn.{apply, flash_of, is_turn, operated, turned, turn_in, written_over}
+use Rattle.kernel_model.specs.Turn.{apply, is_turn, operated, turned, turn_in}
+use Rattle.kernel_model.specs.Record.{flash_of}
+use Rattle.kernel_model.specs.Parts.{written_over}
 use Rattle.kernel_model.specs.World.{World, after}
 use Rattle.kernel_model.specs.Replay.{after_all, history, replay}
 use Rattle.tbf_headers.specs.Meaning.{main_by}
@@ -50,7 +54,8 @@ use Rattle.kernel_model.specs.Lives.{AsManyStay, BlocksStayApart, EndedStays, Ha
 use Rattle.kernel_model.specs.Lives.{LivesAsItRuns, PlacesStay, HoldsThroughout}
 use Rattle.tk_base.specs.declared.process.Verb.{Verb}
 use Rattle.tk_base.specs.declared.process.Verb.TheVariants as verbs
-use Rattle.process_record.specs.Process.{after_end, is_alive, with_held}
+use Rattle.process_record.specs.Process.{after_end, is_alive}
+use Rattle.process_record.specs.Parts.{with_held}
 use Rattle.kernel_lives.proofs.Changes.{IsActed, IsKept, after_act, after_answer, after_turn, over_choices}
 use Rattle.kernel_model.proofs.Restarts.{restarts}
 use Rattle.kernel_model.proofs.Handed.{is_handed}
@@ -167,7 +172,7 @@ over_answer : (settings : Settings) (event : Event) (r : Record) → r.own.lives
 unfolding apply alarm.answered buttons.edged random.answered storage.answered
 over_answer settings (Turn time) r over is = absurd (cc)
 over_answer settings (Alarmed now) r over is =
-    ap (λ (b : Bool). record_with_step r (alarm.fired_if now r.own
+    ap (λ (b : Bool). record_with_step r (fired_if now r.own
     (cond b (alarm.if_due now (alarm.alarm_in r.own)) None))) over
 over_answer settings (Edge button pressed) r over is =
     ap (λ (b : Bool). record (record_with_step r (cond (b && has_bit (buttons.enabled r.own) button)

@@ -23,7 +23,8 @@ use Rattle.kernel_model.specs.Causes.{AreWhole}
 use Rattle.kernel_model.specs.Prints.{AreOfItsBuffer, CouldLoad, IsPrintedBy, PrintsCouldBeLoaded, PrintsItsBuffer}
 use Rattle.kernel_model.specs.Turn.{Act, Alarmed, Edge, Event, Input, NoWord, Stored, Taken, Turn, Word, WriteDone}
 use Rattle.kernel_model.specs.Turn.{is_act}
-use Rattle.kernel_model.specs.Prints.{PrintsWhatItCouldLoad, console_buffer}
+use Rattle.kernel_model.specs.Prints.{PrintsWhatItCouldLoad}
+use Rattle.kernel_model.specs.Parts.{console_buffer}
 use Rattle.kernel_model.specs.Wholes.{OwnsStayWhole}
 use Rattle.kernel_lives.proofs.Prints.{prints_are_of_buffers}
 

@@ -15,14 +15,16 @@ use Rattle.driver_model.specs.Console.{Sent, console_writes}
 use Rattle.driver_model.specs.Requests.{request_in, waiting_in}
 use Rattle.kernel_model.specs.Record.{Record}
 use Rattle.tk_base.specs.declared.process.Verb.{Verb}
-use Rattle.kernel_model.specs.Turn.{Act, Event, Taken, WriteDone, flash_of, turned}
+use Rattle.kernel_model.specs.Turn.{Act, Event, Taken, WriteDone, turned}
+use Rattle.kernel_model.specs.Record.{flash_of}
 use Rattle.kernel_model.specs.World.{Label, Stepped, World, answer_label, carried_out, device_step_of, done, labels}
 use Rattle.kernel_model.specs.World.{Answer, lane_in, listed, ran, telling_edge, transmitting, turn_label}
 use Rattle.kernel_model.specs.Laws.{edge_labels, one_answered}
 use Rattle.kernel_model.proofs.Told.{edge_answer, of_device, told_labels}
 use Rattle.kernel_model.specs.Replay.{after_all}
-use Rattle.kernel_model.specs.Prints.{AreOfItsBuffer, IsPrintedBy, PrintsAreOfBuffers, PrintsItsBuffer, buffer_bytes}
-use Rattle.kernel_model.specs.Prints.{console_buffer}
+use Rattle.kernel_model.specs.Prints.{AreOfItsBuffer, IsPrintedBy, PrintsAreOfBuffers, PrintsItsBuffer}
+use Rattle.kernel_model.specs.Parts.{buffer_bytes}
+use Rattle.kernel_model.specs.Parts.{console_buffer}
 use Rattle.kernel_model.proofs.Places.{of_stepped}
 
 -- the bytes that come next are those of the buffer

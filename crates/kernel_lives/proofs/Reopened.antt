@@ -10,7 +10,8 @@ use Rattle.driver_model.specs.Keeping.{DriversKeep}
 use Rattle.process_record.specs.Process.{start_regs}
 use Rattle.process_record.specs.declared.process.State.TheVariants.{Running}
 use Rattle.kernel_model.specs.Record.{Record}
-use Rattle.kernel_model.specs.Calls.{restart, restarted_by, restarted_main, restarted_with}
+use Rattle.kernel_model.specs.Calls.{restart, restarted_with}
+use Rattle.kernel_model.specs.Parts.{restarted_by, restarted_main}
 use Rattle.kernel_model.specs.Turn.{apply, operated, turned}
 use Rattle.kernel_model.specs.World.{World, after}
 use Rattle.kernel_model.specs.Replay.{after_all}

@@ -4,7 +4,8 @@ use Rattle.tk_base.specs.declared.process.Choice.{Choice}
 use Rattle.tk_base.specs.declared.process.Choice.TheVariants.{Run, Pass}
 use Rattle.driver_model.specs.Commands.{QueueName}
 use Rattle.kernel_model.specs.Record.{Record}
-use Rattle.kernel_model.specs.World.{World, slots_in}
+use Rattle.kernel_model.specs.World.{World}
+use Rattle.kernel_model.specs.Named.{slots_in}
 use Rattle.kernel_model.specs.Choices.{are_ready}
 use Rattle.kernel_model.specs.Replay.{after_all}
 

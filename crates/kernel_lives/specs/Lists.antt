@@ -6,7 +6,8 @@ use Rattle.tk_base.specs.declared.process.Choice.{Choice}
 use Rattle.driver_model.specs.Commands.{QueueName}
 use Rattle.driver_model.specs.Lines.{has_waiting}
 use Rattle.kernel_model.specs.Record.{Record}
-use Rattle.kernel_model.specs.World.{World, slots_in}
+use Rattle.kernel_model.specs.World.{World}
+use Rattle.kernel_model.specs.Named.{slots_in}
 use Rattle.kernel_model.specs.Replay.{after_all}
 use Rattle.kernel_model.specs.Lives.{LivesAsItRuns}
 

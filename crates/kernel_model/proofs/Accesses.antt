@@ -24,7 +24,8 @@ use Rattle.process_record.specs.declared.process.State.{State}
 use Rattle.process_record.specs.declared.process.State.TheVariants.{Running, Yielded, Faulted, Terminated}
 use Rattle.kernel_model.specs.Record.{Record, byte_at, instruction, with_effect}
 use Rattle.kernel_model.specs.declared.settings.Settings.{Settings}
-use Rattle.kernel_model.specs.Turn.{TurnTrace, calls, turn_counted, delivery, at_turn_end, turn_in, turned, untraced}
+use Rattle.kernel_model.specs.Turn.{TurnTrace, turn_counted, at_turn_end, turn_in, turned, untraced}
+use Rattle.kernel_model.specs.Parts.{calls, delivery}
 use Rattle.kernel_model.specs.World.{Stepped, World, carried_out, labels, ran}
 use Rattle.kernel_model.specs.Accesses.{EachAccessIsPermitted, EachDenialIsDue, DenialIsDue, IsPermitted, OfTurn}
 use Rattle.kernel_model.specs.Accesses.{StepsAreGuarded}

@@ -30,11 +30,14 @@ use Rattle.syscall_abi.specs.declared.reply.Reply.TheVariants.{Failure}
 use Rattle.process_record.specs.declared.outcome.Outcome.TheVariants as outcomes
 use Rattle.process_record.specs.declared.outcome.Outcome.TheVariants.{ToDriver}
 use Rattle.process_record.specs.Process.{after_call, waiting}
-use Rattle.kernel_model.specs.Record.{Record, record_with_step, with_process}
+use Rattle.kernel_model.specs.Record.{Record, record_with_step}
+use Rattle.kernel_model.specs.Parts.{with_process}
 use Rattle.kernel_model.specs.Turn.{rule_shown}
-use Rattle.kernel_model.specs.Calls.{Served, comes_to, driver_answered, by_form, commanded, exit, failed_swap, failure_of}
+use Rattle.kernel_model.specs.Calls.{Served, comes_to, driver_answered, by_form, exit, failure_of}
+use Rattle.kernel_model.specs.Parts.{commanded, failed_swap}
 use Rattle.kernel_model.specs.Calls.{memop}
-use Rattle.kernel_model.specs.Calls.{object_permits, refused_with, replied, restart, restarted_by, restarted_main}
+use Rattle.kernel_model.specs.Calls.{refused_with, replied, restart}
+use Rattle.kernel_model.specs.Parts.{object_permits, restarted_by, restarted_main}
 use Rattle.kernel_model.specs.Calls.{served, swap_by, swap_refusal, taken_by, yield_for, yield_now, yielding}
 use Rattle.kernel_model.specs.Laws.{CanStartAgain, DriversPromise, KeepsLines}
 use Rattle.kernel_model.proofs.Lines.{SameKept, keeps_commanded, keeps_ended, keeps_handed, keeps_restarted, keeps_same}

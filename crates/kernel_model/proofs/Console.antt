@@ -14,8 +14,10 @@ use Rattle.process_record.specs.Operator.{ends_by}
 use Rattle.driver_model.specs.Commands.{leaving_all}
 use Rattle.kernel_model.specs.Record.{Record}
 use Rattle.kernel_model.specs.Turn.{Act, apply, operated}
-use Rattle.kernel_model.specs.World.{Devices, Label, Stepped, World, acting_on, answer_label, answering, arrived}
-use Rattle.kernel_model.specs.World.{carried_out, coming_in, done, is_ready, listed, operating, routed, slot_of_name}
+use Rattle.kernel_model.specs.World.{Devices, Label, Stepped, World, answer_label, answering, arrived}
+use Rattle.kernel_model.specs.Parts.{acting_on}
+use Rattle.kernel_model.specs.World.{carried_out, coming_in, done, is_ready, listed, operating, routed}
+use Rattle.kernel_model.specs.Parts.{slot_of_name}
 use Rattle.kernel_model.specs.World.{telling_nobody}
 use Rattle.kernel_model.specs.Edges.{first_for}
 use Rattle.kernel_model.specs.Console.{ActsOnOne, StepsOperateOne, on_process, waiting_after, without_slot}

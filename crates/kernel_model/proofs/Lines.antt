@@ -16,7 +16,8 @@ use Rattle.driver_model.specs.Lines.{FollowsCommand, IsWithin, OnlyDriversMoveLi
 use Rattle.driver_model.specs.Requests.{request_in}
 use Rattle.driver_model.specs.Storage.{storages}
 use Rattle.kernel_model.specs.Record.{Record}
-use Rattle.kernel_model.specs.Calls.{own_swapped, restart}
+use Rattle.kernel_model.specs.Calls.{restart}
+use Rattle.kernel_model.specs.Parts.{own_swapped}
 use Rattle.kernel_model.specs.Laws.{CanStartAgain, KeepsLines}
 use Rattle.kernel_model.proofs.Restarts.{restarts}
 

@@ -9,8 +9,10 @@ use Rattle.process_model.specs.Own.{kernel_break_of}
 use Rattle.syscall_abi.specs.declared.reply.Reply.{Reply}
 use Rattle.syscall_abi.specs.declared.reply.Reply.TheVariants.{Success, SuccessU32}
 use Rattle.kernel_model.specs.Record.{Record}
-use Rattle.kernel_model.specs.Calls.{Served, break_moved, memop, memops, moved_by, refused, region}
-use Rattle.kernel_model.specs.Calls.{region_end, replied, with_break_at}
+use Rattle.kernel_model.specs.Calls.{Served, break_moved, memop, memops, moved_by, refused}
+use Rattle.kernel_model.specs.Parts.{region}
+use Rattle.kernel_model.specs.Calls.{region_end, replied}
+use Rattle.kernel_model.specs.Parts.{with_break_at}
 
 -- of both ways of a test
 pub by_test : (P : Served → Type 0) (b : Bool) (x y : Served) → P x → P y → P (cond b x y)

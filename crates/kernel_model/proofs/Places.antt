@@ -7,8 +7,10 @@ use Rattle.std.proofs.lemmas.List.{get_or-set_same, length-set}
 use Rattle.kernel_model.specs.Record.{Record}
 use Rattle.kernel_model.specs.Turn.{Turn, Turned, apply, turned}
 use Rattle.kernel_model.specs.World.{DeviceStep, Stepped, World, after, after_deed, after_turn_of, carried_out}
-use Rattle.kernel_model.specs.World.{device_step_of, done, is_ready, passed, ran, stepped}
-use Rattle.kernel_model.specs.World.{Devices, slots_in, unmade, with_queue}
+use Rattle.kernel_model.specs.World.{device_step_of, done, is_ready, ran, stepped}
+use Rattle.kernel_model.specs.Parts.{passed}
+use Rattle.kernel_model.specs.World.{Devices, unmade, with_queue}
+use Rattle.kernel_model.specs.Named.{slots_in}
 use Rattle.driver_model.specs.Commands.{QueueName, Writes, Reads, Randoms, Stores, is_same}
 use Rattle.tk_base.specs.declared.process.Choice.{Choice}
 use Rattle.tk_base.specs.declared.process.Choice.TheVariants.{Run, Device, Pass}

@@ -10,9 +10,12 @@ use Rattle.kernel_model.specs.Record.{Record}
 use Rattle.kernel_model.specs.declared.settings.Settings.{Settings}
 use Rattle.kernel_model.specs.Turn.{Event, Turn, apply}
 use Rattle.kernel_model.specs.World.{Answer, DeviceStep, Label, Stepped, World, after, carried_out, device_step_of}
-use Rattle.kernel_model.specs.World.{done, happens, labels_of, labels_told, ran, stepped}
-use Rattle.kernel_model.specs.Run.{next, on_choice, round, stays, runs_on}
-use Rattle.kernel_model.specs.Replay.{after_all, chosen, events, happened, history, replay, RecordIsReplay}
+use Rattle.kernel_model.specs.World.{done, labels_told, ran, stepped}
+use Rattle.kernel_model.specs.Parts.{happens, labels_of}
+use Rattle.kernel_model.specs.Run.{next, round, stays, runs_on}
+use Rattle.kernel_model.specs.Parts.{on_choice}
+use Rattle.kernel_model.specs.Replay.{after_all, chosen, events, history, replay, RecordIsReplay}
+use Rattle.kernel_model.specs.Parts.{happened}
 use Rattle.kernel_model.specs.Replay.{RoundFollowsChoices, SameHistorySameRecord}
 use Rattle.kernel_model.proofs.Places.{of_stepped, of_world, ran-other, ran-own}
 use Rattle.kernel_model.proofs.Told.{labels_at, told_at, told_there}

@@ -4,7 +4,8 @@ use Rattle.tbf_headers.specs.declared.fault.HeaderFault.{HeaderFault}
 use Rattle.tbf_headers.specs.declared.program.Main.{Main}
 use Rattle.tbf_headers.specs.Meaning.{Meaning, header_reading}
 use Rattle.kernel_model.specs.Record.{Record}
-use Rattle.kernel_model.specs.Calls.{restart, restarted_by, restarted_main, restarted_with}
+use Rattle.kernel_model.specs.Calls.{restart, restarted_with}
+use Rattle.kernel_model.specs.Parts.{restarted_by, restarted_main}
 use Rattle.kernel_model.specs.Laws.{CanStartAgain}
 use Rattle.tbf_headers.specs.Meaning.{main_by}
 

@@ -13,7 +13,8 @@ use Rattle.tk_base.specs.declared.process.Choice.TheVariants.{Run, Device, Pass}
 use Rattle.tk_base.specs.declared.process.Dev.{Dev}
 use Rattle.tk_base.specs.declared.process.Dev.TheVariants.{Event, Alarm, Uart, Receive, Random, Store}
 use Rattle.partition_turns.specs.Windows.{window_end}
-use Rattle.turn_scheduler.specs.RoundRobin.{choice, device_order, place_is_ready as is_ready_at, next_slot}
+use Rattle.turn_scheduler.specs.RoundRobin.{choice, device_order, next_slot}
+use Rattle.turn_scheduler.specs.Parts.{place_is_ready as is_ready_at}
 use Rattle.turn_scheduler.specs.RoundRobin.{device_place, ready_device, slots_after}
 use Rattle.process_model.specs.Own.{Own}
 use Rattle.driver_model.specs.Alarm.{due_for, left_for, nearer}
@@ -23,8 +24,13 @@ use Rattle.board_devices.specs.Arriving.{is_time, first_arrival_time as arrival_
 use Rattle.driver_model.specs.Commands.{Writes}
 use Rattle.kernel_model.specs.Record.{Record}
 use Rattle.kernel_model.specs.Turn.{may_turn}
-use Rattle.kernel_model.specs.World.{Devices, World, can_act, can_run, is_ready, lane_by, line_in, may_be_made, now_in}
-use Rattle.kernel_model.specs.World.{is_let, only_in, owns_in, waits_in, work_of}
+use Rattle.kernel_model.specs.World.{Devices, World, can_act, is_ready, may_be_made, now_in}
+use Rattle.kernel_model.specs.Parts.{line_in}
+use Rattle.kernel_model.specs.Named.{lane_by}
+use Rattle.kernel_model.specs.Named.{can_run}
+use Rattle.kernel_model.specs.World.{is_let, only_in, owns_in}
+use Rattle.kernel_model.specs.Named.{waits_in}
+use Rattle.kernel_model.specs.Parts.{work_of}
 use Rattle.kernel_model.specs.Run.{is_left, may_go, next, next_time, passes_to, ready_devices, ready_slots}
 use Rattle.kernel_model.specs.World.{sending_time}
 

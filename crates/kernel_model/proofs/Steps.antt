@@ -11,7 +11,8 @@ use Rattle.tk_base.specs.declared.process.Dev.{Dev}
 use Rattle.tk_base.specs.declared.process.Verb.{Verb}
 use Rattle.tk_base.specs.declared.process.Verb.TheVariants as verbs
 use Rattle.process_record.specs.Operator.{ends_by}
-use Rattle.process_record.specs.Process.{after_end, is_alive, with_held}
+use Rattle.process_record.specs.Process.{after_end, is_alive}
+use Rattle.process_record.specs.Parts.{with_held}
 use Rattle.tk_base.specs.declared.process.Dev.TheVariants as dev
 use Rattle.script_text.specs.Settings.{ScriptEvent as Arrival, EventKind}
 use Rattle.script_text.specs.Settings as script
@@ -22,13 +23,18 @@ use Rattle.kernel_model.specs.Record.{Record}
 use Rattle.kernel_model.specs.Turn.{Act, Event, Turn, Alarmed, Edge, Taken, WriteDone, Input, Word, NoWord, Stored}
 use Rattle.kernel_model.specs.Turn.{TurnTrace, Turned, apply, is_act, is_turn, operated, turned, untraced}
 use Rattle.kernel_model.specs.Calls.{restart}
-use Rattle.kernel_model.specs.World.{Answer, DeviceAnswer, DeviceStep, Devices, Label, Stepped, World, after, alarmed}
-use Rattle.kernel_model.specs.World.{answering, arrived, carried_out, coming_in, device_step_of, done, drawn_event}
-use Rattle.kernel_model.specs.World.{happens, labels, lane_in, labels_of, labels_told, ran, random_step, receive_step, served_by}
-use Rattle.kernel_model.specs.World.{acting_on, operating, serving, slot_of_name, storing, telling_edge}
+use Rattle.kernel_model.specs.World.{Answer, DeviceAnswer, DeviceStep, Devices, Label, Stepped, World, after}
+use Rattle.kernel_model.specs.Parts.{alarmed}
+use Rattle.kernel_model.specs.World.{answering, arrived, carried_out, coming_in, device_step_of, done}
+use Rattle.kernel_model.specs.Parts.{drawn_event}
+use Rattle.kernel_model.specs.World.{labels, lane_in, labels_told, ran, random_step, receive_step}
+use Rattle.kernel_model.specs.Parts.{served_by}
+use Rattle.kernel_model.specs.Parts.{happens, labels_of}
+use Rattle.kernel_model.specs.World.{operating, serving, storing, telling_edge}
+use Rattle.kernel_model.specs.Parts.{acting_on, slot_of_name}
 use Rattle.kernel_model.specs.World.{telling_nobody, transmitting, unmade}
 use Rattle.kernel_model.specs.Histories.{is_end, is_ended_in, turns_in}
-use Rattle.kernel_model.specs.Replay.{happened}
+use Rattle.kernel_model.specs.Parts.{happened}
 use Rattle.kernel_model.proofs.Places.{of_stepped, ran-other, ran-own}
 use Rattle.kernel_model.specs.Laws.{edge_done, one_answered, quiet}
 use Rattle.kernel_model.proofs.Told.{edge_answer, labels_at, of_device, told_at, told_there, with_arrived, with_rest}
@@ -180,7 +186,7 @@ one_no_turn slot a is other b told = by_test (other == slot) told
 
 serving_answers : (w : World) (answer : ℕ → Record → DeviceAnswer)
     → ((slot : ℕ) (r : Record) → is_turn (answer slot r).answer.event ≡ false) → (served : Option ℕ)
-    → IfSome (serving w answer served) (λ deed. TellsNoTurn deed.told)
+    → IfSome (serving w.records answer served) (λ deed. TellsNoTurn deed.told)
 serving_answers w answer each None = tt
 serving_answers w answer each (Some slot) = by_record (slice_get w.records slot)
   where
@@ -236,7 +242,7 @@ AnswersOnly told = (slot : ℕ) (a : Answer) → told slot ≡ Some a → IsAnsw
 
 serving_only : (w : World) (answer : ℕ → Record → DeviceAnswer)
     → ((slot : ℕ) (r : Record) → IsAnswer (answer slot r).answer.event) → (served : Option ℕ)
-    → IfSome (serving w answer served) (λ deed. AnswersOnly deed.told)
+    → IfSome (serving w.records answer served) (λ deed. AnswersOnly deed.told)
 serving_only w answer each None = tt
 serving_only w answer each (Some slot) = by_record (slice_get w.records slot)
   where

@@ -20,15 +20,20 @@ use Rattle.process_record.specs.declared.emit.Emit.{Emit}
 use Rattle.process_record.specs.Emit.{nothing}
 use Rattle.kernel_model.specs.Record.{Record}
 use Rattle.kernel_model.specs.declared.settings.Settings.{Settings}
-use Rattle.kernel_model.specs.Turn.{Edge, apply, edge_known, is_act, is_turn}
+use Rattle.kernel_model.specs.Turn.{Edge, apply, is_act, is_turn}
+use Rattle.kernel_model.specs.Parts.{edge_known}
 use Rattle.kernel_model.specs.Shown.{shown_by}
 use Rattle.kernel_model.specs.Laws.{ComesTo, DevicesAnswerOne, IsSilent, edge_done, edge_heard, edge_labels}
 use Rattle.kernel_model.specs.Laws.{one_answered, quiet}
-use Rattle.kernel_model.specs.World.{Answer, DeviceAnswer, Devices, Label, Stepped, World, alarmed, answer_label}
-use Rattle.kernel_model.specs.World.{acting_on, answering, arrived, coming_in, device_step_of, done, edge_told, happens}
-use Rattle.kernel_model.specs.World.{labels_of}
-use Rattle.kernel_model.specs.World.{labels_told, lane_in, random_step, receive_step, records_told, served_by, serving, storing}
-use Rattle.kernel_model.specs.World.{operating, slot_of_name, telling_edge, telling_nobody, transmitting, unmade}
+use Rattle.kernel_model.specs.World.{Answer, DeviceAnswer, Devices, Label, Stepped, World, answer_label}
+use Rattle.kernel_model.specs.Parts.{alarmed}
+use Rattle.kernel_model.specs.World.{answering, arrived, coming_in, device_step_of, done, edge_told}
+use Rattle.kernel_model.specs.Parts.{acting_on, happens}
+use Rattle.kernel_model.specs.Parts.{labels_of}
+use Rattle.kernel_model.specs.World.{labels_told, lane_in, random_step, receive_step, records_told, serving, storing}
+use Rattle.kernel_model.specs.Parts.{served_by}
+use Rattle.kernel_model.specs.World.{operating, telling_edge, telling_nobody, transmitting, unmade}
+use Rattle.kernel_model.specs.Parts.{slot_of_name}
 
 -- there are as many records
 pub told_length : (settings : Settings) (told : ℕ → Option Answer) (rs : List Record)
@@ -283,7 +288,7 @@ pub record OfEachDevice (w : World) (P : Stepped → Type 0) : Type 0 where
 module _ (w : World) (P : Stepped → Type 0) (none : P (unmade w)) where
   of_serving : (answer : ℕ → Record → DeviceAnswer) (served : Option ℕ)
       → ((slot : ℕ) (r : Record) → served ≡ Some slot → slice_get w.records slot ≡ Some r
-      → P (one_answered w slot r (answer slot r))) → P (done w (serving w answer served))
+      → P (one_answered w slot r (answer slot r))) → P (done w (serving w.records answer served))
   of_serving answer None each = none
   of_serving answer (Some slot) each = by_record (slice_get w.records slot) refl
     where

@@ -4,14 +4,14 @@ use Rattle.std.specs.Prelude.{ℕ, List, All, slice_get, IfSome}
 use Rattle.tk_base.specs.declared.process.Choice.{Choice}
 use Rattle.tk_base.specs.declared.process.Choice.TheVariants.{Run}
 use Rattle.process_model.specs.Changes.{IsWhole}
-use Rattle.kernel_model.specs.World.{World, labels}
-use Rattle.kernel_model.specs.Accesses.{IsGuarded}
-use Rattle.kernel_model.specs.Causes.{AllHaveCauses, AreWhole, EachChangeHasACause}
-use Rattle.kernel_model.specs.Choices.{Throughout}
+use Rattle.kernel_model.specs.World.{World, after, labels}
+use Rattle.kernel_model.specs.Accesses.{DenialIsDue, IsPermitted, OfTurn}
+use Rattle.kernel_model.specs.Causes.{AllHaveCauses, AreWhole, ChangeHasACause}
+use Rattle.kernel_model.specs.Choices.{OfEachProcess, Throughout}
 use Rattle.kernel_model.specs.Console.{OperatesOne}
-use Rattle.kernel_model.specs.Edges.{ServesEdges}
+use Rattle.kernel_model.specs.Edges.{ServesEdge}
 use Rattle.kernel_model.specs.Prints.{PrintsItsBuffer}
-use Rattle.kernel_model.specs.Refused.{RefusedChangesLittle}
+use Rattle.kernel_model.specs.Refused.{IfRefused}
 use Rattle.kernel_model.specs.Replay.{chosen}
 use Rattle.kernel_model.specs.Shown.{IsShownIn, shown_by}
 use Rattle.kernel_model.specs.Stretch.{IsStretch}
@@ -22,12 +22,13 @@ use Rattle.kernel_model.specs.Stretch.{IsStretch}
 -- schedules one upcall for each process that is told of it, and nothing else schedules any; an operator's act changes
 -- the process that it names and its requests, and nothing else of the board.
 pub record IsAccountedFor (w : World) (choice : Choice) : Type 0 where
-  pub causes : EachChangeHasACause w choice
-  pub guarded : IsGuarded w choice
+  pub causes : OfEachProcess w choice (ChangeHasACause w choice)
+  pub accesses : All (OfTurn (λ r told. All (IsPermitted r.own) told.accesses) w) (labels w choice)
+  pub denials : All (OfTurn (λ r told. IfSome told.denial (DenialIsDue r)) w) (labels w choice)
   pub shown : All (IsShownIn (shown_by (labels w choice))) (labels w choice)
-  pub refused : RefusedChangesLittle w choice
+  pub refused : All (IfRefused w (after w choice)) (labels w choice)
   pub prints : All (PrintsItsBuffer w) (labels w choice)
-  pub edges : ServesEdges w choice
+  pub edges : OfEachProcess w choice (λ slot. ServesEdge w choice)
   pub operated : OperatesOne w choice
 
 -- So it is with every step of a world in which the owns are whole; in any world with every turn of a process whose own

@@ -8,7 +8,6 @@ use Rattle.tk_base.specs.declared.call.CallRule.{CallRule}
 use Rattle.tk_base.specs.declared.call.CallRule.TheVariants.{Break, Index, NoDriver, NoNumber, NoOperation, NoRoom}
 use Rattle.tk_base.specs.declared.call.CallRule.TheVariants.{Outside, Permission}
 use Rattle.tk_base.specs.Call.{error_of}
-use Rattle.tbf_headers.specs.declared.fault.HeaderFault.{HeaderFault}
 use Rattle.tbf_headers.specs.declared.program.Main.{Main}
 use Rattle.tbf_headers.specs.Meaning.{Meaning, header_reading, region_in, region_count}
 use Rattle.syscall_filter.specs.Permission.{permitted}
@@ -24,10 +23,10 @@ use Rattle.grant_values.specs.Drivers.{counts_of}
 use Rattle.tk_base.specs.Kinds.{count_of}
 use Rattle.grant_model.specs.Grants.{shape_of}
 use Rattle.process_model.specs.Own as own
-use Rattle.process_model.specs.Own.{Own}
+use Rattle.process_model.specs.Own.{Own, own_ended}
 use Rattle.process_model.specs.Handed.{handing, has_place, held, may_share}
 use Rattle.process_model.specs.Flag.{with_flag}
-use Rattle.driver_model.specs.Commands.{BoardRequest, Commanded, leaving_all}
+use Rattle.driver_model.specs.Commands.{BoardRequest, leaving_all}
 use Rattle.driver_model.specs.Drivers.{CommandContext, CommandHandler, handler_of}
 use Rattle.syscall_abi.specs.declared.call.Call.{Call as SystemCall}
 use Rattle.syscall_abi.specs.declared.form.CallForm.{CallForm}
@@ -39,9 +38,10 @@ use Rattle.syscall_abi.specs.declared.reply.Reply.TheVariants.{Failure, FailureU
 use Rattle.syscall_abi.specs.declared.reply.Reply.TheVariants.{SuccessU32U32}
 use Rattle.process_record.specs.declared.outcome.Outcome.{Outcome}
 use Rattle.process_record.specs.declared.outcome.Outcome.TheVariants.{Replied, Waits, Delivered, GoesOn, Ended, Again}
-use Rattle.process_record.specs.Process.{after_call, after_exit, after_reply, after_refusal, delivered, restarted}
+use Rattle.process_record.specs.Process.{after_end}
+use Rattle.process_record.specs.Process.{after_call, after_reply, after_refusal, delivered, restarted_with_regs, start_regs}
 use Rattle.process_record.specs.Process.{waiting}
-use Rattle.kernel_model.specs.Record.{Record, with_process, record_with_own, record_with_step}
+use Rattle.kernel_model.specs.Record.{Record, record_with_step}
 
 -- what a call leaves, what comes of it, and what the board is to do for it
 pub record Served : Type 0 where
@@ -55,11 +55,12 @@ comes_to r outcome = record { after = r; outcome = outcome; acts = [] }
 
 -- a call that is answered
 abbrev pub replied : Record → Reply → Served
-replied r reply = comes_to (with_process r (after_reply r.process reply)) (Replied reply None)
+replied r reply = comes_to (record r { process = after_reply r.process reply }) (Replied reply None)
 
 -- a refused call changes the reply registers, pc and the recorded refusal alone
 abbrev pub refused_with : Record → CallRule → Reply → Served
-refused_with r rule reply = comes_to (with_process r (after_refusal r.process rule reply)) (Replied reply (Some rule))
+refused_with r rule reply =
+    comes_to (record r { process = after_refusal r.process rule reply }) (Replied reply (Some rule))
 
 -- a call that is refused by a rule, with the rule's error as its reply
 abbrev pub refused : Record → CallRule → Served
@@ -75,28 +76,18 @@ swap_refusal swap o =
     else (if not (may_share swap.kind o.layout swap.pair) then Some Outside
     else (if not (has_place swap.driver o) then Some NoRoom else None)))
 
--- a swap that is refused hands back the passed pair
-abbrev pub failed_swap : ℕ × ℕ → CallRule → Reply
-failed_swap pair rule = FailureU32U32 (error_of rule) pair.0 pair.1
+-- the failure with which a form of calls is refused that breaks a rule: a swap hands back the passed pair
+abbrev pub failure_of : CallForm → CallRule → Reply
+failure_of (forms.Swap swap) rule = FailureU32U32 (error_of rule) swap.pair.0 swap.pair.1
+failure_of form rule = Failure (error_of rule)
 
--- what a swap leaves of its process
-abbrev pub own_swapped : Swap → Own → Own
-own_swapped swap o = handing swap.kind swap.driver swap.number swap.pair o
-
--- the pair that a swap gives back
-abbrev pub former_pair : Swap → Own → ℕ × ℕ
-former_pair swap o = held swap.kind swap.driver swap.number o
-
--- subscribe and the allows give the former pair back; a refusal hands back the passed one
+-- a subscribe or an allow: the pair is handed, and the former one given back; or it is refused for a cause
 abbrev pub swap_by : Record → Swap → Option CallRule → Served
 swap_by r swap None =
-    let former = former_pair swap r.own in
-    replied (record_with_own r (own_swapped swap r.own)) (SuccessU32U32 former.0 former.1)
-swap_by r swap (Some rule) = refused_with r rule (failed_swap swap.pair rule)
-
--- a subscribe or an allow: the pair is handed, or refused for the first cause
-abbrev pub swapped : Record → Swap → Served
-swapped r swap = swap_by r swap (swap_refusal swap r.own)
+    let former = held swap.kind swap.driver swap.number r.own in
+    let own = handing swap.kind swap.driver swap.number swap.pair r.own in
+    replied (record r { own = own }) (SuccessU32U32 former.0 former.1)
+swap_by r swap (Some rule) = refused_with r rule (failure_of (forms.Swap swap) rule)
 
 -- a process goes on with what is delivered to it, and what is scheduled for it changes
 abbrev pub deliver : Record → Delivery → (Inbox → Inbox) → Record
@@ -120,16 +111,16 @@ yield_for r driver number None =
     comes_to (record r { process = waiting r.process; own = own }) Waits
 yield_for r driver number (Some upcall) =
     let place = place_of driver number r.own.inbox.pending in
-    comes_to (deliver (with_process r (after_call r.process)) (Arguments upcall.args) (taken_at place)) Delivered
+    comes_to (deliver (record r { process = after_call r.process }) (Arguments upcall.args) (taken_at place)) Delivered
 
 -- yield with 0 does not wait, with 1 waits for an upcall, with 2 for one alone; another number goes on
 unfoldable pub yielding : Record → ℕ → ℕ → ℕ → Served
 yielding r number a1 a2 =
     let pending = r.own.inbox.pending in
     if number == 0 then yield_now r a1 (slice_get pending 0)
-    else (if number == 1 then comes_to (with_process r (waiting r.process)) Waits
+    else (if number == 1 then comes_to (record r { process = waiting r.process }) Waits
     else (if number == 2 then yield_for r a1 a2 (slice_get pending (place_of a1 a2 pending))
-    else comes_to (with_process r (after_call r.process)) GoesOn))
+    else comes_to (record r { process = after_call r.process }) GoesOn))
 
 -- sbrk moves the break by a signed number; none is below 0
 abbrev pub moved_by : ℕ → ℕ → Option ℕ
@@ -137,34 +128,23 @@ moved_by brk by =
     if nat_lt by (2 ^ 31) then Some (brk + by)
     else (if nat_le (2 ^ 32) (brk + by) then Some (brk + by - 2 ^ 32) else None)
 
--- the break moved to an address, rounded up to a multiple of 4
-abbrev pub with_break_at : Record → ℕ → Record
-with_break_at r new = record r { own = own.with_moved_break new r.own }
-
--- a break that may be moved is moved, and answered so
+-- a break that may be moved is moved, rounded up to a multiple of 4, and answered so
 abbrev pub break_moved : Record → Option ℕ → Reply → Served
 break_moved r None reply = refused r Break
 break_moved r (Some new) reply =
-    if permits_break r.own.layout (own.kernel_break_of r.own) new then replied (with_break_at r new) reply
-    else refused r Break
-
--- the writeable flash regions that the header of an object names
-abbrev pub regions_named : Result Meaning HeaderFault → Option (List ℕ)
-regions_named header = option_and_then (λ h. h.regions) (result_ok header)
+    if permits_break r.own.layout (own.kernel_break_of r.own) new
+    then replied (record r { own = own.with_moved_break new r.own }) reply else refused r Break
 
 -- an end of a region, mod 2^32; a region that the header does not name has none
 abbrev pub region_end : Record → (ℕ × ℕ → ℕ) → Option (ℕ × ℕ) → Served
 region_end r offset None = refused r Index
 region_end r offset (Some region) = replied r (SuccessU32 ((r.process.object.address + offset region) % 2 ^ 32))
 
--- the writeable flash region of a number, as the object's header gives it
-abbrev pub region : Record → ℕ → Option (ℕ × ℕ)
-region r n = option_and_then (region_in n) (regions_named (header_reading r.object))
-
 -- each operation of memop: brk and sbrk; start and end of RAM, start and end of flash, the lowest address of a
 -- grant; the number of regions, start and end of one; two hints, which are ignored
 unfoldable pub memops : Record → ℕ → List (ℕ × Served)
 memops r argument =
+    let regions = option_and_then (λ h. h.regions) (result_ok (header_reading r.object)) in
     (0, break_moved r (Some argument) Success)
     ∷ (1, break_moved r (moved_by r.own.layout.brk argument) (SuccessU32 r.own.layout.brk))
     ∷ (2, replied r (SuccessU32 r.own.layout.start))
@@ -172,9 +152,9 @@ memops r argument =
     ∷ (4, replied r (SuccessU32 r.process.object.address))
     ∷ (5, replied r (SuccessU32 (r.process.object.address + r.process.object.size)))
     ∷ (6, replied r (SuccessU32 (own.kernel_break_of r.own)))
-    ∷ (7, replied r (SuccessU32 (region_count (regions_named (header_reading r.object)))))
-    ∷ (8, region_end r (λ region. region.0) (region r argument))
-    ∷ (9, region_end r (λ region. region.0 + region.1) (region r argument))
+    ∷ (7, replied r (SuccessU32 (region_count regions)))
+    ∷ (8, region_end r (λ region. region.0) (option_and_then (region_in argument) regions))
+    ∷ (9, region_end r (λ region. region.0 + region.1) (option_and_then (region_in argument) regions))
     ∷ (10, replied r Success)
     ∷ (11, replied r Success)
     ∷ []
@@ -191,29 +171,24 @@ abbrev pub restarted_with : Record → Meaning → Main → Record
 restarted_with r h m =
     let e = r.own.layout in
     let brk = first_break e.start m.minimum_ram in
-    record r { process = restarted r.process h m e.start (e.end - e.start) brk; own = own.own_restarted brk r.own }
+    let regs = start_regs r.process.object.address h m e.start (e.end - e.start) brk in
+    record r { process = restarted_with_regs r.process regs; own = own.own_restarted brk r.own }
 
--- a process that starts again by what its header says of its entry; as it was where it says nothing
-abbrev pub restarted_main : Record → Meaning → Option Main → Record
-restarted_main r h main = unwrap_or (option_map (restarted_with r h) main) r
-
--- the same by what the header means; as it was where it has a fault
-abbrev pub restarted_by : Record → Result Meaning HeaderFault → Record
-restarted_by r (Ok h) = restarted_main r h h.main
-restarted_by r (Err fault) = r
-
--- a process that starts again, by the header of its own object (TRD 104, "Exit")
+-- a process that starts again, by the header of its own object (TRD 104, "Exit"); as it was where that has a fault, or
+-- says nothing of its entry
 unfoldable pub restart : Record → Record
-restart r = restarted_by r (header_reading r.object)
+restart r =
+    unwrap_or (option_and_then (λ h. option_map (restarted_with r h) h.main) (result_ok (header_reading r.object))) r
 
 -- a call that ends a life of its process, which leaves all queues then
 abbrev pub ended : Record → Outcome → Served
 ended r outcome = record { after = r; outcome = outcome; acts = leaving_all }
 
--- exit with 0 ends the process with its completion code, with 1 it starts again; another number is refused
+-- exit with 0 ends the process with its completion code, and pc past its `ecall`; with 1 it starts again; another
+-- number is refused
 unfoldable pub exit : Record → ℕ → ℕ → Served
 exit r kind code =
-    if kind == 0 then ended (record r { process = after_exit r.process code; own = own.own_ended r.own }) Ended
+    if kind == 0 then ended (record r { process = after_end (after_call r.process) code; own = own_ended r.own }) Ended
     else (if kind == 1 then ended (restart r) Again else refused r NoOperation)
 
 -- a driver replies to a command, or refuses it
@@ -221,41 +196,28 @@ abbrev pub driver_answered : Record → Result Reply CallRule → Served
 driver_answered r (Ok reply) = replied r reply
 driver_answered r (Err rule) = refused r rule
 
--- what comes of a command leaves of its process, and asks of the board
-abbrev pub commanded : Record → Commanded → Served
-commanded r c = record (driver_answered (record_with_step r c.step) c.answer) { acts = c.acts }
-
--- the driver takes a command; it is refused where there is no such driver
+-- the driver takes a command: what comes of it leaves of the process, and asks of the board; it is refused where there
+-- is no such driver
 abbrev pub taken_by : CommandContext → ℕ → ℕ → ℕ → Record → Option CommandHandler → Served
 taken_by around number a2 a3 r None = refused r NoDriver
-taken_by around number a2 a3 r (Some taker) = commanded r (taker around number a2 a3 r.own)
+taken_by around number a2 a3 r (Some taker) =
+    let c = taker around number a2 a3 r.own in
+    record (driver_answered (record_with_step r c.step) c.answer) { acts = c.acts }
 
 -- the calls, by form
 unfoldable pub by_form : CommandContext → Record → CallForm → Served
 by_form around r (forms.Yield number a1 a2) = yielding r number a1 a2
-by_form around r (forms.Swap swap) = swapped r swap
+by_form around r (forms.Swap swap) = swap_by r swap (swap_refusal swap r.own)
 by_form around r (forms.Command driver number a2 a3) = taken_by around number a2 a3 r (handler_of driver)
 by_form around r (forms.Memop operation argument) = memop r operation argument
 by_form around r (forms.Exit kind code) = exit r kind code
 
--- the failure with which a form of calls is refused that breaks a rule
-abbrev pub failure_of : CallForm → CallRule → Reply
-failure_of (forms.Swap swap) rule = failed_swap swap.pair rule
-failure_of form rule = Failure (error_of rule)
-
--- the permissions that the header of an object lists (Tock Binary Format, "Permissions"); one that cannot be read has
--- no such list
-abbrev pub permissions_listed : Result Meaning HeaderFault → Option (List ℕ)
-permissions_listed header = option_and_then (λ h. h.permissions) (result_ok header)
-
--- whether an object permits a call to its process, under a strict filter or an open one
-abbrev pub object_permits : Bool → List ℕ → SystemCall → Bool
-object_permits strict object call = permitted strict (permissions_listed (header_reading object)) (form_of call)
-
--- A call is served where the object of its process permits it. Permission comes before all else: a call that is not
--- permitted is refused so whatever else would refuse it, and though there is no such driver. Whether the filter is
+-- A call is served where the object of its process permits it, by the permissions that its header lists (Tock Binary
+-- Format, "Permissions"); one that cannot be read has no such list. Permission comes before all else: a call that is
+-- not permitted is refused so whatever else would refuse it, and though there is no such driver. Whether the filter is
 -- strict is no part of what a command sees of the board.
 unfoldable pub served : Bool → CommandContext → Record → SystemCall → Served
 served strict around r call =
-    if object_permits strict r.object call then by_form around r (form_of call)
+    let permissions = option_and_then (λ h. h.permissions) (result_ok (header_reading r.object)) in
+    if permitted strict permissions (form_of call) then by_form around r (form_of call)
     else refused_with r Permission (failure_of (form_of call) Permission)

@@ -2,7 +2,7 @@
 -- 104, "Yield", "Exit", "Read-Write Allow"; the userspace-readable allow of Tock's kernel).
 use Rattle.std.specs.Prelude.{◌≡◌, ◌≢◌, ◌⊎◌, ◌≤◌, ◌<◌, ℕ, ◌+◌, ◌==◌, ◌&&◌, Bool, true, false, IsTrue, List, [], length}
 use Rattle.std.specs.Prelude.{slice_get}
-use Rattle.std.specs.Prelude.{slice_index, Option, None, Some, is_none, is_some, IfSome, option_map, unwrap_or}
+use Rattle.std.specs.Prelude.{slice_index, Option, Some, is_none, is_some, IfSome, IsSomeAnd, option_map, unwrap_or}
 use Rattle.std.specs.List.{Any, list_any}
 use Rattle.tk_base.specs.declared.process.Choice.{Choice}
 use Rattle.tk_base.specs.declared.process.Choice.TheVariants.{Run}
@@ -16,10 +16,11 @@ use Rattle.process_record.specs.declared.emit.CallMade.{CallMade}
 use Rattle.kernel_model.specs.Record.{Record}
 use Rattle.kernel_model.specs.declared.settings.Settings.{Settings}
 use Rattle.kernel_model.specs.Turn.{Act, Event, Turn, Alarmed, Input, Word, Stored, TurnTrace}
-use Rattle.kernel_model.specs.Turn.{apply, flash_of, turned}
+use Rattle.kernel_model.specs.Turn.{apply, turned}
+use Rattle.kernel_model.specs.Record.{flash_of}
 use Rattle.kernel_model.specs.World.{World, Label, after, labels}
 use Rattle.kernel_model.specs.Histories.{ends_life}
-use Rattle.kernel_model.specs.Choices.{Throughout}
+use Rattle.kernel_model.specs.Choices.{OfEachProcess, Throughout}
 use Rattle.kernel_model.specs.Replay.{chosen, events}
 use Rattle.kernel_model.specs.Stretch.{IsStretch}
 
@@ -47,38 +48,25 @@ buffer_for (Word word) own = word_buffer own
 buffer_for (Stored moved) own = stored_buffer own
 buffer_for other own = (0, 0)
 
--- what is written over a slot's storage where a request is served: from an offset on, these bytes, if any
-abbrev pub served_write : Record → Option (ℕ × List ℕ)
-served_write r = (storage.answered false (flash_of r) r.storage r.own).written
-
--- a place that a write covers
-abbrev pub Covers : Option (ℕ × List ℕ) → ℕ → Type 0
-Covers None k = ⊥
-Covers (Some written) k = (written.0 ≤ k) × (k < written.0 + length written.1)
-
--- an answer that writes over a place of the storage: a request that was served, not one that failed
+-- an answer that writes over a place of the storage: a request that was served, not one that failed, and that writes
+-- bytes from an offset on which cover it
 abbrev pub Overwrites : Event → Record → ℕ → Type 0
-Overwrites (Stored true) r k = Covers (served_write r) k
+Overwrites (Stored true) r k =
+    let written = (storage.answered false (flash_of r) r.storage r.own).written in
+    IsSomeAnd written (λ w. (w.0 ≤ k) × (k < w.0 + length w.1))
 Overwrites other r k = ⊥
-
--- that an operator had the process start again
-abbrev pub IsRestartedBy : Event → Record → Record → Type 0
-IsRestartedBy event r s = (event ≡ Act Restart) × (s.process.restarts ≡ r.process.restarts + 1)
 
 -- A cause in what a process is told, or in what an operator does to it, by its record before that and after it: the
 -- address lies inside the buffer that it held for the device; or an operator had it start again.
 abbrev pub IsDoneByAnswer : Event → Record → Record → ℕ → Type 0
-IsDoneByAnswer event r s at = IsInside (buffer_for event r.own) at ⊎ IsRestartedBy event r s
+IsDoneByAnswer event r s at =
+    IsInside (buffer_for event r.own) at ⊎ ((event ≡ Act Restart) × (s.process.restarts ≡ r.process.restarts + 1))
 
 -- A label with a cause of a change of a byte of the process in a slot, of which this is the record before and after the
 -- step: its own turn with such a cause; or an answer to it, or an operator's act on it, with one.
 abbrev pub IsCause : ℕ → Record → Record → ℕ → Label → Type 0
 IsCause slot r s at label =
     (label.slot ≡ slot) × (IsDoneByTurn r s label.trace at ⊎ IsDoneByAnswer label.event r s at)
-
--- a label with the cause of a change of a byte of its storage
-abbrev pub IsStorageCause : ℕ → Record → ℕ → Label → Type 0
-IsStorageCause slot r k label = (label.slot ≡ slot) × Overwrites label.event r k
 
 -- a byte of the storage is as it was, or there is a cause
 abbrev pub StorageChangesAt : (ℕ → Type 0) → List ℕ → List ℕ → Type 0
@@ -89,17 +77,16 @@ StorageChangesAt Cause bytes after =
 pub record ChangeHasACause (w : World) (choice : Choice) (slot : ℕ) (r s : Record) : Type 0 where
   -- each byte that lies below the kernel break before and after it is as it was, or a label of the step has the cause
   pub own : ChangesAt (λ at. Any (IsCause slot r s at) (labels w choice)) r.own s.own
-  -- so it is with its storage
-  pub storage : StorageChangesAt (λ k. Any (IsStorageCause slot r k) (labels w choice)) r.storage s.storage
+  -- so it is with its storage, where the cause is an answer that writes over it
+  pub storage : (k : ℕ) → k < length r.storage → (slice_index s.storage k ≡ slice_index r.storage k)
+      ⊎ Any (λ label. (label.slot ≡ slot) × Overwrites label.event r k) (labels w choice)
   -- and where the step is no turn of it, no answer to it and no act on it, all is as it was, the bytes of its grants
   -- too
   pub others : events slot w choice ≡ [] → s ≡ r
 
 -- of a step, whichever process is looked at
 abbrev pub EachChangeHasACause : World → Choice → Type 0
-EachChangeHasACause w choice =
-    (slot : ℕ) (r s : Record) → slice_get w.records slot ≡ Some r → slice_get (after w choice).records slot ≡ Some s
-    → ChangeHasACause w choice slot r s
+EachChangeHasACause w choice = OfEachProcess w choice (ChangeHasACause w choice)
 
 -- in a world what is the own of each process is whole
 abbrev pub AreWhole : World → Type 0

@@ -3,7 +3,7 @@
 -- board's own rule.
 use Rattle.std.specs.Prelude.{◌≡◌, ◌≢◌, ◌≤◌, ◌⊎◌, ℕ, ◌+◌, Bool, true, false, if◌then◌else◌, List, [], ◌∷◌, ◌++◌, drop}
 use Rattle.std.specs.Prelude.{filter}
-use Rattle.std.specs.Prelude.{length, slice_get, Option, None, Some, IfSome, option_and_then}
+use Rattle.std.specs.Prelude.{length, slice_get, Option, None, Some, IfSome, option_and_then, option_map, unwrap_or}
 use Rattle.std.specs.List.{cons_option}
 use Rattle.tk_base.specs.Bits.{bit_of, with_bit}
 use Rattle.tk_base.specs.declared.limits.TheConstants.{PENDING_LIMIT}
@@ -17,12 +17,14 @@ use Rattle.script_text.specs.Settings.{ScriptEvent as Arrival}
 use Rattle.board_devices.specs.Arriving.{change_by}
 use Rattle.upcall_queue.specs.declared.inbox.Inbox.{Inbox}
 use Rattle.upcall_queue.specs.Pending.{awaits, is_of, scheduled}
-use Rattle.process_model.specs.Own.{Own, with_inbox}
-use Rattle.process_model.specs.Served.{upcall_of}
+use Rattle.process_model.specs.Own.{Own}
+use Rattle.process_model.specs.Served.{own_scheduled}
 use Rattle.driver_model.specs.Buttons.{buttons, is_told}
 use Rattle.driver_model.specs.Upcalls.{scheduled_if}
 use Rattle.kernel_model.specs.Record.{Record}
 use Rattle.kernel_model.specs.World.{World, after, is_ready}
+use Rattle.kernel_model.specs.Choices.{OfEachProcess}
+use Rattle.kernel_model.specs.Named.{pressed_by}
 
 -- what comes in by a choice: the first thing that is still to, if it is the step that lets it in
 abbrev pub first_for : Choice → List Arrival → Option Arrival
@@ -42,21 +44,9 @@ abbrev pub arrivals_in : World → List Choice → List Arrival
 arrivals_in w [] = []
 arrivals_in w (choice ∷ choices) = cons_option (arrival_in w choice) (arrivals_in (after w choice) choices)
 
--- an edge of which a process is told: it lives, and has enabled the button
-abbrev pub if_told : Own → ℕ × Bool → Option (ℕ × Bool)
-if_told own edge = if is_told edge.0 own then Some edge else None
-
--- the edge of which a process is told in a step, if it is of one
+-- the edge of which a process is told in a step, if it is of one: it lives, and has enabled the button
 abbrev pub told_edge_in : World → Choice → Record → Option (ℕ × Bool)
-told_edge_in w choice r = option_and_then (if_told r.own) (edge_in w choice r)
-
--- the upcall of an edge that a process now holds, with the button and its state, 1 for pressed
-abbrev pub edge_upcall : Own → ℕ × Bool → Scheduled
-edge_upcall own edge = upcall_of buttons 0 (edge.0 ∷ bit_of edge.1 ∷ 0 ∷ []) own
-
--- whether an upcall that was scheduled is of an edge
-abbrev pub is_of_edge : Scheduled → Bool
-is_of_edge upcall = is_of buttons 0 upcall
+told_edge_in w choice r = option_and_then (λ e. if is_told e.0 r.own then Some e else None) (edge_in w choice r)
 
 -- whether what a process waited for alone was given
 abbrev pub is_given : Wait → Bool
@@ -70,7 +60,7 @@ pub record IsRemainder (before left : Inbox) : Type 0 where
   pub dropped : left.dropped ≡ before.dropped
   pub given : is_given left.wait ≡ true → left.wait ≡ before.wait
   pub gone : ℕ
-  pub pending : filter is_of_edge left.pending ≡ drop gone (filter is_of_edge before.pending)
+  pub pending : filter (is_of buttons 0) left.pending ≡ drop gone (filter (is_of buttons 0) before.pending)
 
 -- What is scheduled is what remains of what was before, and one upcall more, or none.
 pub record IsThenScheduled (upcall : Option Scheduled) (before later : Inbox) : Type 0 where
@@ -78,22 +68,13 @@ pub record IsThenScheduled (upcall : Option Scheduled) (before later : Inbox) : 
   pub remains : IsRemainder before left
   pub is : later ≡ scheduled_if upcall left
 
--- No upcall of an edge is scheduled: one upcall at most is, which is of another driver.
-pub record SchedulesNoEdge (before later : Inbox) : Type 0 where
-  pub upcall : Option Scheduled
-  pub other : IfSome upcall (λ u. u.driver ≢ buttons)
-  pub leaves : IsThenScheduled upcall before later
-
--- an edge of which a process is told schedules its upcall, and changes nothing else of what is its own; where there is
--- none no upcall of an edge is scheduled
+-- an edge of which a process is told schedules its upcall, that which it now holds, with the button and its state, 1
+-- for pressed, and changes nothing else of what is its own; where there is none no upcall of an edge is scheduled: one
+-- upcall at most is, which is of another driver
 abbrev pub SchedulesEdge : Option (ℕ × Bool) → Own → Own → Type 0
-SchedulesEdge (Some edge) own o = o ≡ with_inbox (scheduled (edge_upcall own edge)) own
-SchedulesEdge None own o = SchedulesNoEdge own.inbox o.inbox
-
--- which buttons are pressed after an edge, or after none
-abbrev pub pressed_by : Option (ℕ × Bool) → ℕ → ℕ
-pressed_by None mask = mask
-pressed_by (Some edge) mask = with_bit mask edge.0 edge.1
+SchedulesEdge (Some edge) own o = o ≡ own_scheduled buttons 0 (edge.0 ∷ bit_of edge.1 ∷ 0 ∷ []) own
+SchedulesEdge None own o =
+    (upcall : Option Scheduled) × IfSome upcall (λ u. u.driver ≢ buttons) × IsThenScheduled upcall own.inbox o.inbox
 
 -- which buttons are pressed after what came in
 abbrev pub pressed_after_all : List Arrival → ℕ → ℕ
@@ -105,13 +86,12 @@ pressed_after_all (arrival ∷ arrivals) mask =
 -- pressed
 pub record ServesEdge (w : World) (choice : Choice) (r s : Record) : Type 0 where
   pub schedules : SchedulesEdge (told_edge_in w choice r) r.own s.own
-  pub knows : s.pressed ≡ pressed_by (edge_in w choice r) r.pressed
+  pub knows :
+      s.pressed ≡ unwrap_or (option_map (λ edge. with_bit r.pressed edge.0 edge.1) (edge_in w choice r)) r.pressed
 
 -- so it is with the process in each slot
 abbrev pub ServesEdges : World → Choice → Type 0
-ServesEdges w choice =
-    (slot : ℕ) (r s : Record) → slice_get w.records slot ≡ Some r → slice_get (after w choice).records slot ≡ Some s
-    → ServesEdge w choice r s
+ServesEdges w choice = OfEachProcess w choice (λ slot. ServesEdge w choice)
 
 -- in every step of every world
 abbrev pub StepsServeEdges : Type 0

@@ -64,18 +64,11 @@ abbrev pub handed_by : PairKey → CallMade → Option (ℕ × ℕ)
 handed_by key made =
     if is_swap key made && is_none made.rule then Some (slice_index made.args 2, slice_index made.args 3) else None
 
--- whether a call ended a life of its process: an exit that broke no rule, after which the process has ended or starts
--- again (TRD 104, "Exit")
-abbrev pub is_exit : CallMade → Bool
-is_exit made = made.class == 6 && is_none made.rule
-
--- whether a turn ended a life of its process by a call, if it made one
-abbrev pub exits : Option CallMade → Bool
-exits call = unwrap_or (option_map is_exit call) false
-
--- whether a turn ended a life: by an exit, or by a denial, whatever the fault policy makes of it
+-- whether a turn ended a life of its process: by a denial, whatever the fault policy makes of it; or by an exit that
+-- broke no rule, after which the process has ended or starts again (TRD 104, "Exit")
 abbrev pub ends_life : TurnTrace → Bool
-ends_life told = is_some told.denial || exits told.call
+ends_life told =
+    is_some told.denial || unwrap_or (option_map (λ made. made.class == 6 && is_none made.rule) told.call) false
 
 -- The pair of the last swap of a key that succeeded in the present life, looking back over a process's turns, the
 -- latest first; (0, 0) where there was none. An operator's act that ends a life leaves none of the turns before it.

@@ -26,9 +26,11 @@ use Rattle.process_record.specs.declared.outcome.Outcome.TheVariants.{ToDriver}
 use Rattle.kernel_model.specs.Record.{Record}
 use Rattle.kernel_model.specs.declared.settings.Settings.{Settings}
 use Rattle.kernel_model.specs.Calls.{served, refused_with, failure_of}
-use Rattle.kernel_model.specs.Turn.{Turn, apply, edge_known, is_act, is_turn, rule_shown, turned}
+use Rattle.kernel_model.specs.Turn.{Turn, apply, is_act, is_turn, rule_shown, turned}
+use Rattle.kernel_model.specs.Parts.{edge_known}
 use Rattle.kernel_model.specs.World.{World, Answer, DeviceAnswer, Devices, Label, Stepped, after, answering}
-use Rattle.kernel_model.specs.World.{device_step_of, done, happens, is_ready, labels, labels_of, labels_told}
+use Rattle.kernel_model.specs.World.{device_step_of, done, is_ready, labels, labels_told}
+use Rattle.kernel_model.specs.Parts.{happens, labels_of}
 use Rattle.kernel_model.specs.World.{queue_without, telling_edge, unmade}
 use Rattle.kernel_model.specs.Shown.{shown_by}
 use Rattle.kernel_model.specs.Run.{next, next_time, ready_devices}

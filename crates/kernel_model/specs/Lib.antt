@@ -3,6 +3,8 @@ pub mod Calls
 pub mod Turn
 pub mod World
 pub mod Run
+pub mod Named
+pub mod Parts
 pub mod Choices
 pub mod Replay
 pub mod Shown

@@ -14,28 +14,22 @@ use Rattle.process_model.specs.Served.{bytes_at}
 use Rattle.driver_model.specs.Console.{console, console_writes}
 use Rattle.driver_model.specs.Requests.{request_in}
 use Rattle.kernel_model.specs.Record.{Record}
-use Rattle.kernel_model.specs.Turn.{Act, Event, flash_of, is_act}
+use Rattle.kernel_model.specs.Turn.{Act, Event, is_act}
+use Rattle.kernel_model.specs.Record.{flash_of}
 use Rattle.kernel_model.specs.World.{World, Label, labels, listed}
 use Rattle.kernel_model.specs.Replay.{after_all}
 use Rattle.kernel_model.specs.Wholes.{AllHaveWholeOwns}
 
--- the read-only buffer 1 that a process holds of the console, and its bytes
-abbrev pub console_buffer : Record → ℕ × ℕ
-console_buffer r = held ReadOnly console 1 r.own
-
--- the bytes of the read-only buffer that a process holds of the console
-abbrev pub buffer_bytes : Record → List ℕ
-buffer_bytes r = bytes_at (flash_of r) r.own (console_buffer r)
-
--- Bytes are those of the write of a process that lives and has one waiting: byte k of them is the byte of its buffer at
--- the offset that was taken so far, and k.
+-- Bytes are those of the write of a process that lives and has one waiting: byte k of them is the byte, at the offset
+-- that was taken so far and k, of the read-only buffer 1 that it holds of the console.
 pub record AreOfItsBuffer (bytes : List ℕ) (r : Record) : Type 0 where
   pub lives : r.own.lives ≡ true
   pub write : WaitingWrite
   pub waits : request_in console_writes r.own ≡ Some write
   pub each : (k : ℕ) → k < length bytes →
-      (write.taken + k < (console_buffer r).1)
-      × (slice_index bytes k ≡ slice_index (buffer_bytes r) (write.taken + k))
+      (write.taken + k < (held ReadOnly console 1 r.own).1)
+      × (slice_index bytes k
+      ≡ slice_index (bytes_at (flash_of r) r.own (held ReadOnly console 1 r.own)) (write.taken + k))
 
 -- what is printed for a process by what happens to it: by an operator's act the line of a list, of its slot; else bytes
 -- of the buffer that it holds
@@ -57,7 +51,8 @@ PrintsAreOfBuffers = (w : World) (choices : List Choice) (choice : Choice) →
 
 -- a process could load each of so many bytes from a place of its buffer on
 abbrev pub CouldLoad : Record → ℕ → ℕ → Type 0
-CouldLoad r from count = (k : ℕ) → k < count → denied r.own.layout Load ((console_buffer r).0 + (from + k)) Byte ≡ None
+CouldLoad r from count = (k : ℕ) → k < count →
+    denied r.own.layout Load ((held ReadOnly console 1 r.own).0 + (from + k)) Byte ≡ None
 
 -- what a step prints for a process, but as its line in a list, the process of that slot could load where it stood
 -- before the step

@@ -1,11 +1,11 @@
 -- The record of one process. It has what the kernel of Levy et al., SOSP 2017, keeps of a process.
-use Rattle.std.specs.Prelude.{ℕ, ◌+◌, ◌&&◌, nat_le, nat_lt, if◌then◌else◌, List, length}
-use Rattle.rv32_model.specs.UserTurn.{UserTurn}
+use Rattle.std.specs.Prelude.{ℕ, ◌+◌, ◌-◌, ◌&&◌, nat_le, nat_lt, if◌then◌else◌, List, length, slice_index}
+use Rattle.rv32_model.specs.UserTurn.{UserTurn, user_turn}
+use Rattle.process_model.specs.Permission.{denied}
 use Rattle.process_model.specs.Own.{Own}
 use Rattle.process_model.specs.Changes.{own_byte}
-use Rattle.process_model.specs.Flash.{object_byte}
 use Rattle.driver_model.specs.Steps.{DriverStep, own_after}
-use Rattle.process_model.specs.Instruction.{instruction_of, with_write}
+use Rattle.process_model.specs.Instruction.{with_write}
 use Rattle.process_record.specs.declared.process.Process.{Process}
 use Rattle.process_record.specs.declared.summary.SlotLine.{SlotLine}
 use Rattle.process_record.specs.Name.{name_of}
@@ -19,28 +19,24 @@ pub record Record : Type 0 where
   pub storage : List ℕ
   pub pressed : ℕ
 
+-- flash as a process knows it, by address: its object in its place
+abbrev pub flash_of : Record → ℕ → ℕ
+flash_of r at = slice_index r.object (at - r.process.object.address)
+
 -- the byte at an address: one of the process's RAM, or one of its object
 abbrev pub byte_at : Record → ℕ → ℕ
 byte_at r at =
     let start = r.own.layout.start in
     if nat_le start at && nat_lt at (start + length r.own.ram) then own_byte r.own at
-    else object_byte r.process.object r.object at
-
--- a record with other registers, state and counts
-abbrev pub with_process : Record → Process → Record
-with_process r p = record r { process = p }
-
--- a record of which something else is the process's own
-abbrev pub record_with_own : Record → Own → Record
-record_with_own r own = record r { own = own }
+    else flash_of r at
 
 -- a record of which a driver served the process: what it left is the process's own, and what it scheduled is queued
 abbrev pub record_with_step : Record → DriverStep → Record
-record_with_step r step = record_with_own r (own_after step)
+record_with_step r step = record r { own = own_after step }
 
 -- the instruction at pc, under what the process may access and over its own bytes
 abbrev pub instruction : Record → UserTurn
-instruction r = instruction_of r.own (byte_at r) r.process.regs
+instruction r = user_turn (denied r.own.layout) (byte_at r) r.process.regs
 
 -- what an instruction leaves of registers and RAM
 abbrev pub with_effect : Record → UserTurn → Record

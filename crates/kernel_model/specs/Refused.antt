@@ -1,49 +1,36 @@
 -- What a refused call leaves (TRD 104, "Return Values").
-use Rattle.std.specs.Prelude.{◌≡◌, ℕ, ◌+◌, Option, Some, All, option_and_then, slice_get, slice_set}
+use Rattle.std.specs.Prelude.{◌≡◌, ℕ, Some, All, option_and_then, slice_get}
 use Rattle.tk_base.specs.declared.call.CallRule.{CallRule}
 use Rattle.tk_base.specs.declared.process.Choice.{Choice}
-use Rattle.turn_scheduler.specs.RoundRobin.{used_after}
 use Rattle.syscall_abi.specs.declared.call.Call.{Call as SystemCall}
 use Rattle.syscall_abi.specs.Call.{call_of, form_of}
 use Rattle.process_record.specs.Process.{after_refusal, after_turn}
-use Rattle.kernel_model.specs.Record.{Record, with_process}
+use Rattle.kernel_model.specs.Record.{Record}
 use Rattle.kernel_model.specs.Calls.{failure_of}
-use Rattle.kernel_model.specs.Turn.{TurnTrace}
-use Rattle.kernel_model.specs.World.{World, Label, after, labels}
-
--- the rule by which the call of a turn was refused
-abbrev pub refusal_in : TurnTrace → Option CallRule
-refusal_in told = option_and_then (λ made. made.rule) told.call
+use Rattle.kernel_model.specs.Turn.{idle}
+use Rattle.kernel_model.specs.World.{World, Label, after, after_turn_of, labels}
 
 -- Of the process: the turn counts, the failure of the rule stands in the reply registers, pc is past the `ecall`, and
--- the refusal is recorded. Its memory, its grants, its upcalls and its storage are as they were.
-abbrev pub CallIsRefused : CallRule → Record → Record → Type 0
-CallIsRefused rule r s =
-    (call : SystemCall) × (call_of r.process.regs ≡ Some call)
-    × (s ≡ with_process r (after_refusal (after_turn r.process) rule (failure_of (form_of call) rule)))
-
--- Of the world: beside that record the time, the steps, the present slot and its used turns. So no device and no list
--- of those that wait has changed.
+-- the refusal is recorded. Its memory, its grants, its upcalls and its storage are as they were. Of the world: what a
+-- turn changes that leaves this record and asks the board for nothing, which is beside that record the time, the steps,
+-- the present slot and its used turns. So no device and no list of those that wait has changed.
 pub record LeavesRefused (w v : World) (slot : ℕ) (rule : CallRule) : Type 0 where
   pub before : Record
   pub after : Record
   pub is_there : slice_get w.records slot ≡ Some before
-  pub refused : CallIsRefused rule before after
-  pub world : v ≡ record w {
-    records = slice_set w.records slot after;
-    clock = record { time = w.clock.time + 1; steps = w.clock.steps + 1 };
-    present = record { slot = Some slot; used = used_after w.present.slot w.present.used w.pace.slice slot };
+  pub call : SystemCall
+  pub is_made : call_of before.process.regs ≡ Some call
+  pub refused : after ≡ record before {
+    process = after_refusal (after_turn before.process) rule (failure_of (form_of call) rule);
   }
+  pub world : v ≡ after_turn_of w slot (idle after)
 
--- this of a label that tells a refusal, in a step from one world to another
+-- this of a label that tells a call which was refused by a rule, in a step from one world to another
 abbrev pub IfRefused : World → World → Label → Type 0
 IfRefused w v label =
-    (rule : CallRule) → refusal_in label.trace ≡ Some rule → LeavesRefused w v label.slot rule
+    (rule : CallRule) → option_and_then (λ made. made.rule) label.trace.call ≡ Some rule
+    → LeavesRefused w v label.slot rule
 
--- so it is in a step
-abbrev pub RefusedChangesLittle : World → Choice → Type 0
-RefusedChangesLittle w choice = All (IfRefused w (after w choice)) (labels w choice)
-
--- and so in every step of every world
+-- so it is in every step of every world
 abbrev pub RefusalsChangeLittle : Type 0
-RefusalsChangeLittle = (w : World) (choice : Choice) → RefusedChangesLittle w choice
+RefusalsChangeLittle = (w : World) (choice : Choice) → All (IfRefused w (after w choice)) (labels w choice)

@@ -2,21 +2,19 @@
 -- isolated as in Levy et al., SOSP 2017.
 use Rattle.std.specs.Prelude.{◌≡◌, ℕ, zero, suc, ◌==◌, if◌then◌else◌, List, [], ◌∷◌, ◌++◌, slice_get}
 use Rattle.std.specs.List.{flat_map}
+use Rattle.std.specs.Prelude.{unwrap_or}
 use Rattle.std.specs.Option.{option_map}
 use Rattle.tk_base.specs.declared.process.Choice.{Choice}
 use Rattle.kernel_model.specs.Record.{Record}
 use Rattle.kernel_model.specs.declared.settings.Settings.{Settings}
 use Rattle.kernel_model.specs.Turn.{Event, apply}
-use Rattle.kernel_model.specs.World.{World, Label, after, labels}
-use Rattle.kernel_model.specs.Run.{next, on_choice, round}
+use Rattle.kernel_model.specs.World.{World, after, labels}
+use Rattle.kernel_model.specs.Run.{next, round}
 
--- what a label tells that happened to the process in a slot: its turn, an answer to it, or an operator's act on it
-abbrev pub happened : ℕ → Label → List Event
-happened slot label = if label.slot == slot then label.event ∷ [] else []
-
--- what a step does to it
+-- what a step does to the process in a slot, as its labels tell it: its turn, an answer to it, or an operator's act on
+-- it
 abbrev pub events : ℕ → World → Choice → List Event
-events slot w choice = flat_map (happened slot) (labels w choice)
+events slot w choice = flat_map (λ label. if label.slot == slot then label.event ∷ [] else []) (labels w choice)
 
 -- the world after any choices, one after another
 abbrev pub after_all : World → List Choice → World
@@ -52,7 +50,7 @@ SameHistorySameRecord = (v w : World) (choices others : List Choice) (slot place
 -- the choices of the round robin, as many as a run of n steps makes
 unfoldable pub chosen : ℕ → World → List Choice
 chosen zero w = []
-chosen (suc n) w = on_choice [] (λ choice. choice ∷ chosen n (after w choice)) (next w)
+chosen (suc n) w = unwrap_or (option_map (λ choice. choice ∷ chosen n (after w choice)) (next w)) []
 
 -- a run by round robin leads where its choices lead
 abbrev pub RoundFollowsChoices : Type 0

@@ -1,32 +1,28 @@
 -- Runs: a fold of steps by the round robin's choices. The order is that of Tock's round robin; passes of time are this
 -- board's own rule, and so are time partitions.
-use Rattle.std.specs.Prelude.{ℕ, zero, suc, Bool, false, ◌||◌, if◌then◌else◌, List, [], ◌++◌, find, map, slice_get}
-use Rattle.std.specs.Prelude.{slice_index_or, slice_set, Option, None, Some, is_none, is_some}
+use Rattle.std.specs.Prelude.{ℕ, zero, suc, ◌+◌, ◌*◌, ◌/◌, Bool, false, ◌||◌, if◌then◌else◌, List, [], ◌++◌, find, map, slice_get}
+use Rattle.std.specs.Prelude.{slice_index_or, slice_set, Option, None, Some, is_none, is_some, option_map, unwrap_or}
 use Rattle.std.specs.List.{flat_map, range_with_len}
 use Rattle.tk_base.specs.declared.limits.TheConstants.{SLOT_COUNT}
 use Rattle.tk_base.specs.declared.process.Choice.{Choice}
 use Rattle.turn_scheduler.specs.Situation.{Situation}
 use Rattle.turn_scheduler.specs.RoundRobin.{choice as chosen, device_order, ready_device}
 use Rattle.driver_model.specs.Alarm.{nearer}
-use Rattle.partition_turns.specs.Windows.{window_end}
 use Rattle.kernel_model.specs.Turn.{may_turn}
-use Rattle.kernel_model.specs.World.{Work, World, Label, Stepped, can_run, now_in, only_in, owns_in, stepped, work_at}
-use Rattle.kernel_model.specs.World.{work_of}
+use Rattle.kernel_model.specs.World.{World, Label, Stepped, only_in, stepped, work_in}
 
 -- of flags of the slots those of slots that may have a turn: all, or that of the one that alone is served
 abbrev pub may_go : Option ℕ → List Bool → List Bool
 may_go None flags = flags
 may_go (Some only) flags = slice_set (map (λ flag. false) flags) only (slice_index_or flags only false)
 
--- what there is to do for the devices of one slot, with time partitions
-abbrev pub work_for : World → ℕ → Work
-work_for w slot = work_at (Some slot) w.clock.time (now_in w) (owns_in w) w.devices
-
--- whether anything is left to do for a slot: its process can have a turn, or a device step is ready for it, or becomes so
+-- whether anything is left to do for a slot: its process can have a turn, or a device step is ready for it, or becomes
+-- so
 abbrev pub is_left_for : World → ℕ → Bool
 is_left_for w slot =
-    can_run (slice_get w.records slot)
-    || (is_some (ready_device (map (work_for w slot).ready device_order)) || is_some (work_for w slot).next)
+    let work = work_in w (Some slot) in
+    unwrap_or (option_map may_turn (slice_get w.records slot)) false
+    || (is_some (ready_device (map work.ready device_order)) || is_some work.next)
 
 -- and for any slot
 unfoldable pub is_left : World → Bool
@@ -35,14 +31,15 @@ is_left w = is_some (find (is_left_for w) (range_with_len 0 SLOT_COUNT))
 -- Up to when time passes where nothing is ready: to the nearest time at which a device step becomes so; with time
 -- partitions no further than to the window's end, and as long as anything is left to do for any slot.
 abbrev pub passes_to : World → ℕ → Option ℕ
-passes_to w zero = (work_of w).next
-passes_to w (suc n) = if is_left w then nearer (work_of w).next (Some (window_end w.clock.time (suc n))) else None
+passes_to w zero = (work_in w (only_in w)).next
+passes_to w (suc n) =
+    if is_left w then nearer (work_in w (only_in w)).next (Some ((w.clock.time / suc n + 1) * suc n)) else None
 
 -- What the round robin reads of a world; with time partitions that of the slot whose window it is, as if it were alone.
 abbrev pub situation_of : World → Situation
 situation_of w = record {
   ready = may_go (only_in w) (map may_turn w.records);
-  devices = map (work_of w).ready device_order;
+  devices = map (work_in w (only_in w)).ready device_order;
   next = passes_to w w.pace.window;
   time = w.clock.time;
   present = w.present.slot;
@@ -75,23 +72,14 @@ pub record Ran : Type 0 where
 abbrev pub stays : World → Ran
 stays w = record { world = w; labels = [] }
 
--- a run before which something was told
-abbrev pub told_first : List Label → Ran → Ran
-told_first ls r = record r { labels = ls ++ r.labels }
-
 -- a step, and then a run from where it led
 abbrev pub runs_on : (World → Ran) → Stepped → Ran
-runs_on run s = told_first s.labels (run s.after)
-
--- one thing where no choice is left, and another by the choice that is made
-abbrev pub on_choice : {X : Type 0} → X → (Choice → X) → Option Choice → X
-on_choice stop on None = stop
-on_choice stop on (Some choice) = on choice
+runs_on run s = let r = run s.after in record r { labels = s.labels ++ r.labels }
 
 -- the run of n steps by the round robin; shorter where no choice is left
 unfoldable pub round : ℕ → World → Ran
 round zero w = stays w
-round (suc n) w = on_choice (stays w) (λ choice. runs_on (round n) (stepped w choice)) (next w)
+round (suc n) w = unwrap_or (option_map (λ choice. runs_on (round n) (stepped w choice)) (next w)) (stays w)
 
 -- whether nothing is left to do
 abbrev pub is_over : World → Bool

@@ -1,10 +1,9 @@
 -- What a step and a world show: the facts of the report, and of one step. What is shown is this board's own rule.
 use Rattle.std.specs.Prelude.{◌≡◌, ◌==◌, true, not, ◌||◌, if◌then◌else◌, List, [], ◌∷◌, ◌++◌, length}
-use Rattle.std.specs.Prelude.{map, ℕ, Bool, Option, None, Some}
+use Rattle.std.specs.Prelude.{map, ℕ, Option, None, Some}
 use Rattle.tk_base.specs.declared.process.Verb.{Verb}
 use Rattle.process_record.specs.declared.emit.Emit.{Emit}
 use Rattle.process_record.specs.declared.summary.Summary.{Summary}
-use Rattle.process_record.specs.Emit.{nothing}
 use Rattle.kernel_model.specs.Record.{slot_line_of}
 use Rattle.kernel_model.specs.Turn.{Act, Event, is_act, is_turn}
 use Rattle.kernel_model.specs.World.{World, Label}
@@ -25,14 +24,11 @@ abbrev pub act_shown : ℕ → Event → Option (ℕ × Verb)
 act_shown slot (Act verb) = Some (slot, verb)
 act_shown slot other = None
 
--- whether a label is shown: that of a turn, of an operator's act, and of what was printed
-abbrev pub is_shown : Label → Bool
-is_shown label = is_turn label.event || (is_act label.event || not (length label.printed == 0))
-
--- what a step shows once it has told a label; of an answer for which nothing was printed, nothing
+-- what a step shows once it has told a label: it is shown of a turn, of an operator's act, and of what was printed; of
+-- an answer for which nothing was printed, nothing
 abbrev pub with_label : Label → Emit → Emit
 with_label label e =
-    if is_shown label then record {
+    if is_turn label.event || (is_act label.event || not (length label.printed == 0)) then record {
       slot = Some label.slot;
       act = act_shown label.slot label.event;
       made = label.trace.call;
@@ -42,7 +38,7 @@ with_label label e =
 
 -- what a step shows that told these labels
 unfoldable pub shown_by : List Label → Emit
-shown_by [] = nothing
+shown_by [] = record { printed = record { items = [] }; slot = None; act = None; made = None; denial = None }
 shown_by (label ∷ labels) = with_label label (shown_by labels)
 
 -- a turn that is told is shown: its slot, its call, and its denial with address and rule

@@ -10,7 +10,8 @@ use Rattle.turn_scheduler.specs.RoundRobin.{next_slot, ready_device, used_after}
 use Rattle.kernel_model.specs.Record.{Record, instruction, with_effect}
 use Rattle.kernel_model.specs.Turn.{is_turn, turn_counted}
 use Rattle.kernel_model.specs.World.{World, Label, is_let, only_at, only_in}
-use Rattle.kernel_model.specs.Run.{next, printed, ready_devices, ready_slots, round, told_first}
+use Rattle.kernel_model.specs.Run.{next, printed, ready_devices, ready_slots, round}
+use Rattle.kernel_model.specs.Parts.{told_first}
 
 -- a turn that made no call, wrote no flag and was not denied
 abbrev pub IsQuietTurn : Label → Type 0

@@ -34,16 +34,15 @@ use Rattle.driver_model.specs.Storage as storage
 use Rattle.driver_model.specs.Commands.{BoardRequest, leaving_all}
 use Rattle.driver_model.specs.Drivers.{CommandContext}
 use Rattle.process_model.specs.Flag.{flag_place}
-use Rattle.process_model.specs.Flash.{object_byte}
 use Rattle.process_record.specs.declared.emit.CallMade.{CallMade}
 use Rattle.process_record.specs.declared.outcome.Outcome.{Outcome}
 use Rattle.process_record.specs.declared.outcome.Outcome.TheVariants as outcomes
-use Rattle.process_record.specs.declared.process.Process.{Process}
 use Rattle.process_record.specs.declared.process.State.{State}
-use Rattle.process_record.specs.declared.process.State.TheVariants.{Running, Yielded}
-use Rattle.process_record.specs.Process.{after_turn, after_fault}
+use Rattle.process_record.specs.declared.process.State.TheVariants.{Faulted, Running, Yielded}
+use Rattle.process_record.specs.Process.{after_turn}
 use Rattle.process_record.specs.Operator.{own_operated, process_operated}
-use Rattle.kernel_model.specs.Record.{Record, with_process, instruction, with_effect, record_with_step}
+use Rattle.kernel_model.specs.Record.{flash_of}
+use Rattle.kernel_model.specs.Record.{Record, instruction, with_effect, record_with_step}
 use Rattle.kernel_model.specs.declared.settings.Settings.{Settings}
 use Rattle.kernel_model.specs.Calls.{Served, deliver, served, restart}
 
@@ -54,13 +53,9 @@ pub record TurnTrace : Type 0 where
   pub flag : Option ℕ
   pub denial : Option Denial
 
--- no call, no flag and no denial
-abbrev pub only_accessed : List MemoryAccess → TurnTrace
-only_accessed accesses = record { accesses = accesses; call = None; flag = None; denial = None }
-
 -- what is told of what is no turn
 abbrev pub untraced : TurnTrace
-untraced = only_accessed []
+untraced = record { accesses = []; call = None; flag = None; denial = None }
 
 -- what a turn leaves, what it tells, and what the board is to do for it
 pub record Turned : Type 0 where
@@ -87,20 +82,21 @@ abbrev pub made : Registers → Outcome → CallMade
 made regs outcome =
     record { class = class regs; args = arguments regs; reply = reply_shown regs outcome; rule = rule_shown outcome }
 
+-- nothing was done
+abbrev pub idle : Record → Turned
+idle r = record { after = r; told = untraced; acts = [] }
+
 -- a process that faulted ends, or starts again, as the policy decides
 abbrev pub settled : Record → Action → Record
 settled r Stop = record r { own = ended_own r.own }
 settled r Restart = restart r
 
--- a denial is recorded, and the process faults
+-- a denial is recorded, and the process stops, held no more; what becomes of it the policy decides
 abbrev pub faulted : Settings → Record → Denial → Turned
 faulted settings r denial =
-    let after = settled (with_process r (after_fault r.process denial)) (decision settings.policy r.process.restarts) in
+    let fault = record r { process = record r.process { state = Faulted; held = false; denial = Some denial } } in
+    let after = settled fault (decision settings.policy r.process.restarts) in
     record { after = after; told = record untraced { denial = Some denial }; acts = leaving_all }
-
--- A class that is unknown is denied as a fetch at the `ecall`'s address.
-abbrev pub unknown_call : Process → Denial
-unknown_call p = denied_at Fetch p.regs.pc UnknownClass
 
 -- the flag that a form of calls writes: that of a yield which does not wait, where it lies in accessible RAM (TRD 104,
 -- "Yield")
@@ -112,7 +108,7 @@ yield_flag_of r form = None
 abbrev pub called : Record → List MemoryAccess → SystemCall → Served → Turned
 called r accesses call s =
     let shown = Some (made r.process.regs s.outcome) in
-    let told = record (only_accessed accesses) { call = shown; flag = yield_flag_of r (form_of call) } in
+    let told = record untraced { accesses = accesses; call = shown; flag = yield_flag_of r (form_of call) } in
     record { after = s.after; told = told; acts = s.acts }
 
 -- what a command of a process sees of the board at a time, by its record
@@ -125,40 +121,27 @@ surroundings settings time r = record {
   storage = settings.storage;
 }
 
--- the call that stands in the registers is served; an unknown class is a fault
-abbrev pub calls : Settings → ℕ → Record → List MemoryAccess → Option SystemCall → Turned
-calls settings time r accesses (Some call) =
-    called r accesses call (served settings.strict (surroundings settings time r) r call)
-calls settings time r accesses None = faulted settings r (unknown_call r.process)
-
--- what the end of an instruction asks for, once its effect stands; a denied one had none
+-- What the end of an instruction asks for, once its effect stands; a denied one had none. The call that stands in the
+-- registers is served; a class that is unknown is a fault, denied as a fetch at the `ecall`'s address.
 abbrev pub at_turn_end : Settings → ℕ → Record → List MemoryAccess → TurnEnd → Turned
-at_turn_end settings time r accesses Went = record { after = r; told = only_accessed accesses; acts = [] }
-at_turn_end settings time r accesses Call = calls settings time r accesses (call_of r.process.regs)
+at_turn_end settings time r accesses Went = record (idle r) { told = record untraced { accesses = accesses } }
+at_turn_end settings time r accesses Call =
+    let serve = λ (c : SystemCall). called r accesses c (served settings.strict (surroundings settings time r) r c) in
+    let unknown = denied_at Fetch r.process.regs.pc UnknownClass in
+    unwrap_or (option_map serve (call_of r.process.regs)) (faulted settings r unknown)
 at_turn_end settings time r accesses (Trap denial) = faulted settings r denial
 
 -- the turn of a process: one instruction, which counts, a faulting one too
 abbrev pub turn_counted : Record → Record
-turn_counted r = with_process r (after_turn r.process)
+turn_counted r = record r { process = after_turn r.process }
 
--- the turn of a process that runs: its next instruction, and what its end asks for
-abbrev pub instructed : Settings → ℕ → Record → Turned
-instructed settings time r = let t = instruction r in
-    at_turn_end settings time (with_effect (turn_counted r) t) t.accesses t.end
-
--- nothing was done
-abbrev pub idle : Record → Turned
-idle r = record { after = r; told = untraced; acts = [] }
-
--- a process that has yielded gets what is due to it, which is its turn (TRD 104, "Yield")
-abbrev pub delivery : Record → Option Delivery → Turned
-delivery r None = idle r
-delivery r (Some next) = idle (deliver (turn_counted r) next (left_by next))
-
--- its turn, as it runs or waits; one that ended has none
+-- Its turn. One that runs executes its next instruction, and what its end asks for is done; one that has yielded gets
+-- what is due to it, which is its turn (TRD 104, "Yield"); one that ended has none.
 abbrev pub turn_in : Settings → ℕ → State → Record → Turned
-turn_in settings time Running r = instructed settings time r
-turn_in settings time Yielded r = delivery r (due r.own.inbox)
+turn_in settings time Running r =
+    let t = instruction r in at_turn_end settings time (with_effect (turn_counted r) t) t.accesses t.end
+turn_in settings time Yielded r =
+    idle (unwrap_or (option_map (λ next. deliver (turn_counted r) next (left_by next)) (due r.own.inbox)) r)
 turn_in settings time other r = idle r
 
 -- the turn of a process at a time, by its state
@@ -191,43 +174,25 @@ abbrev pub is_act : Event → Bool
 is_act (Act verb) = true
 is_act other = false
 
--- flash as a process knows it, by address: its object in its place
-abbrev pub flash_of : Record → ℕ → ℕ
-flash_of r = object_byte r.process.object r.object
-
--- a storage of which bytes were written over, if any were
-abbrev pub written_over : List ℕ → Option (ℕ × List ℕ) → List ℕ
-written_over bytes write = unwrap_or (option_map (λ w. overwritten bytes w.0 w.1) write) bytes
-
 -- a process whose storage request was served, or failed
 abbrev pub stored : Bool → Record → Record
 stored moved r =
     let a = storage.answered (not moved) (flash_of r) r.storage r.own in
-    record (record_with_step r a.step) { storage = written_over r.storage a.written }
-
--- a process that is told whether a button is pressed
-abbrev pub edge_known : ℕ → Bool → Record → Record
-edge_known button pressed r =
-    record (record_with_step r (buttons.edged button pressed r.own)) { pressed = with_bit r.pressed button pressed }
-
--- what a verb leaves of the process and of what is its own, where it does not start it again
-abbrev pub operated_by : Verb → Record → Record
-operated_by verb r =
-    record r { process = process_operated verb r.process; own = own_operated verb r.process r.own }
+    let storage = unwrap_or (option_map (λ w. overwritten r.storage w.0 w.1) a.written) r.storage in
+    record (record_with_step r a.step) { storage = storage }
 
 -- a process on which an operator acted: it is listed, held, let go or ended, where the verb applies, or starts again
 abbrev pub operated : Verb → Record → Record
 operated verbs.List r = r
-operated verbs.Stop r = operated_by verbs.Stop r
-operated verbs.Start r = operated_by verbs.Start r
-operated verbs.Terminate r = operated_by verbs.Terminate r
 operated verbs.Restart r = restart r
+operated verb r = record r { process = process_operated verb r.process; own = own_operated verb r.process r.own }
 
 -- the record after an event; nothing else changes a record, and it reads no other process, list or device
 unfoldable pub apply : Settings → Event → Record → Record
 apply settings (Turn time) r = (turned settings time r).after
 apply settings (Alarmed now) r = record_with_step r (alarm.answered now r.own)
-apply settings (Edge button pressed) r = edge_known button pressed r
+apply settings (Edge button pressed) r =
+    record (record_with_step r (buttons.edged button pressed r.own)) { pressed = with_bit r.pressed button pressed }
 apply settings Taken r = record_with_step r (console.taken r.own)
 apply settings WriteDone r = record_with_step r (console.write_done r.own)
 apply settings (Input bytes) r = record_with_step r (console.input bytes r.own)

@@ -6,7 +6,7 @@ use Rattle.tk_base.specs.Regs.{Registers}
 use Rattle.tk_base.specs.Regs.{with_register}
 use Rattle.fault_policy.specs.declared.Policy.TheVariants.{Stop}
 use Rattle.process_record.specs.declared.process.State.TheVariants.{Running}
-use Rattle.process_record.specs.Process.{cleared}
+use Rattle.process_record.specs.Parts.{cleared}
 use Rattle.tk_base.specs.declared.kinds.PairKind.TheVariants.{Upcall}
 use Rattle.process_model.specs.Own.{opened}
 use Rattle.kernel_model.specs.Record.{Record}

@@ -1,9 +1,9 @@
 -- The world only routes: a step finds whose turn it is, or whom a device answers, and applies that event to that one
 -- record. Which steps there are, and what the devices do, is this board's own rule.
-use Rattle.std.specs.Prelude.{ℕ, zero, suc, ◌+◌, ◌==◌, Bool, true, false, not, ◌&&◌, nat_le, nat_lt, if◌then◌else◌, List}
+use Rattle.std.specs.Prelude.{ℕ, zero, suc, ◌+◌, ◌/◌, ◌%◌, ◌==◌, Bool, true, false, not, ◌&&◌, nat_le, nat_lt, if◌then◌else◌, List}
 use Rattle.std.specs.Prelude.{[], ◌∷◌, ◌++◌, option_and_then, unwrap_or}
 use Rattle.std.specs.Prelude.{drop, filter, length, map, slice_get, slice_index_or, slice_set, Option, None, Some}
-use Rattle.std.specs.Prelude.{is_some}
+use Rattle.std.specs.Prelude.{is_some, option_to_list}
 use Rattle.std.specs.Option.{option_map}
 use Rattle.tk_base.specs.declared.limits.TheConstants.{SLOT_COUNT, STEP_LIMIT}
 use Rattle.tk_base.specs.declared.process.Choice.{Choice}
@@ -16,7 +16,6 @@ use Rattle.process_record.specs.Summary.{Unplaced}
 use Rattle.process_record.specs.Lines.{list_text, slot_named}
 use Rattle.process_record.specs.Operator.{ends_by}
 use Rattle.turn_scheduler.specs.RoundRobin.{used_after}
-use Rattle.partition_turns.specs.Windows.{window_slot}
 use Rattle.kernel_model.specs.Record.{Record, slot_line_of}
 use Rattle.kernel_model.specs.declared.settings.Settings.{Settings}
 use Rattle.board_devices.specs.Arriving.{differs, first_arrival_time, is_time}
@@ -36,7 +35,8 @@ use Rattle.driver_model.specs.Commands.{BoardRequest, Waits, Leaves, Lights, Que
 use Rattle.driver_model.specs.Commands.{leaving_all}
 use Rattle.kernel_model.specs.Turn.{Act, Event, Turn, Alarmed, Edge, Taken, WriteDone, Input, Word, NoWord, Stored}
 use Rattle.kernel_model.specs.Turn.{TurnTrace, Turned, untraced}
-use Rattle.kernel_model.specs.Turn.{apply, flash_of, turned, may_turn}
+use Rattle.kernel_model.specs.Turn.{apply, turned, may_turn}
+use Rattle.kernel_model.specs.Record.{flash_of}
 
 -- what of the settings no process sees: how many turns a slice has; how many ticks a window has, 0 without time
 -- partitions
@@ -105,10 +105,6 @@ pub record Answer : Type 0 where
 abbrev pub answer_label : ℕ → Answer → Label
 answer_label slot a = record { slot = slot; event = a.event; trace = untraced; printed = a.printed }
 
--- whether there is a process that can have a turn
-abbrev pub can_run : Option Record → Bool
-can_run r = unwrap_or (option_map may_turn r) false
-
 -- what the alarm's clock shows
 abbrev pub now_in : World → ℕ
 now_in w = clock_at w.settings.start w.clock.time
@@ -131,11 +127,11 @@ pub record DeviceStep : Type 0 where
 abbrev pub answering : ℕ → DeviceAnswer → DeviceStep
 answering slot a = record { told = λ other. if other == slot then Some a.answer else None; devices = a.devices }
 
--- the slot that alone is served at a time, where a window has so many ticks: that whose window it is; none without time
--- partitions
+-- the slot that alone is served at a time, where a window has so many ticks: that whose window it is, by which slots
+-- have windows in turn; none without time partitions
 abbrev pub only_at : ℕ → ℕ → Option ℕ
 only_at time zero = None
-only_at time (suc n) = Some (window_slot time (suc n))
+only_at time (suc n) = Some (time / suc n % SLOT_COUNT)
 
 -- the slot that alone is served with a slot, where a window has so many ticks: itself; none without time partitions
 abbrev pub only_for : ℕ → ℕ → Option ℕ
@@ -151,25 +147,13 @@ lane_count (suc n) = SLOT_COUNT
 abbrev pub only_in : World → Option ℕ
 only_in w = only_at w.clock.time w.pace.window
 
--- the lane by which devices serve: the one that there is, or that of the slot that alone is served
-abbrev pub lane_by : Option ℕ → ℕ
-lane_by only = unwrap_or only 0
+-- the serial line by which devices serve: that of the slot that alone is served, or the one that there is
+abbrev pub line_by : Option ℕ → Devices → SerialLine
+line_by only d = line_at (unwrap_or only 0) d.lines
 
--- that of a world
+-- the lane of that in a world
 abbrev pub lane_in : World → ℕ
-lane_in w = lane_by (only_in w)
-
--- the serial line of a lane
-abbrev pub line_in : ℕ → Devices → SerialLine
-line_in lane d = line_at lane d.lines
-
--- the random words that are left in a lane
-abbrev pub words_in : ℕ → Devices → List ℕ
-words_in lane d = slice_index_or d.words lane []
-
--- how many storage requests were served in a lane
-abbrev pub served_in : ℕ → Devices → ℕ
-served_in lane d = slice_index_or d.served lane 0
+lane_in w = unwrap_or (only_in w) 0
 
 -- whether a slot may be served: each may, or the one that alone is
 abbrev pub is_let : Option ℕ → ℕ → Bool
@@ -184,13 +168,6 @@ may_serve (Some only) slots = filter (λ slot. slot == only) slots
 -- the slots but one
 abbrev pub queue_without : ℕ → List ℕ → List ℕ
 queue_without slot slots = filter (λ s. not (s == slot)) slots
-
--- those that wait in a queue
-abbrev pub slots_in : QueueName → WaitingSlots → List ℕ
-slots_in Writes waiting = waiting.writes
-slots_in Reads waiting = waiting.reads
-slots_in Randoms waiting = waiting.randoms
-slots_in Stores waiting = waiting.stores
 
 -- one queue changes, and no other
 abbrev pub with_queue : QueueName → (List ℕ → List ℕ) → Devices → Devices
@@ -207,15 +184,11 @@ after_answer name completed slot = with_queue name (λ slots. if completed then 
 abbrev pub telling : Event → Devices → DeviceAnswer
 telling event d = record { answer = record { event = event; printed = [] }; devices = d }
 
--- the alarm of a process fires at a time
-abbrev pub alarmed : Settings → ℕ → Devices → DeviceAnswer
-alarmed settings time d = telling (Alarmed (clock_at settings.start time)) d
-
 -- the UART of a lane takes the next bytes of the write of the process in a slot, or the write completes
 abbrev pub transmitting : ℕ → ℕ → Devices → ℕ → Record → DeviceAnswer
 transmitting lane time d slot r =
     let s = console.sent (flash_of r) r.own in
-    let line = line_in lane d in
+    let line = line_at lane d.lines in
     let sent = record line { free = console.free_after time line.ticks s.printed line.free } in
     record {
       answer = record { event = if s.completed then WriteDone else Taken; printed = s.printed };
@@ -225,49 +198,33 @@ transmitting lane time d slot r =
 -- the bytes that came in on a lane go to the read of the process in a slot
 abbrev pub receive_step : ℕ → Devices → ℕ → Record → DeviceAnswer
 receive_step lane d slot r =
-    let line = line_in lane d in
+    let line = line_at lane d.lines in
     let s = console.received line.ring r.own in
     let rest = record line { ring = drop (length s.moved) line.ring } in
     telling (Input s.moved) (record (after_answer Reads s.completed slot d) { lines = slice_set d.lines lane rest })
 
--- the event of a word that was drawn, or of none
-abbrev pub drawn_event : Option ℕ → Event
-drawn_event drawn = unwrap_or (option_map Word drawn) NoWord
-
 -- a word of a lane is drawn for the request of the process in a slot, or none
 abbrev pub random_step : ℕ → Devices → ℕ → Record → DeviceAnswer
 random_step lane d slot r =
-    let a = random.answered (slice_get (words_in lane d) 0) r.own in
-    let words = slice_set d.words lane (random.words_after a.drawn (words_in lane d)) in
-    telling (drawn_event a.drawn) (record (after_answer Randoms a.completed slot d) { words = words })
+    let left = slice_index_or d.words lane [] in
+    let a = random.answered (slice_get left 0) r.own in
+    let words = slice_set d.words lane (random.words_after a.drawn left) in
+    telling (unwrap_or (option_map Word a.drawn) NoWord)
+    (record (after_answer Randoms a.completed slot d) { words = words })
 
 -- the storage request of the process in a slot is served, or fails, by its number among all that were in a lane
 abbrev pub storing : ℕ → Devices → ℕ → Record → DeviceAnswer
 storing lane d slot r =
-    let count = served_in lane d in
+    let count = slice_index_or d.served lane 0 in
     let fails = is_fault d.faults (count + 1) in
     let a = storage.answered fails (flash_of r) r.storage r.own in
     let served = slice_set d.served lane (if a.completed then count + 1 else count) in
     telling (Stored (not fails)) (record (after_answer Stores a.completed slot d) { served = served })
 
--- the first of those that wait in a queue and may be served
-abbrev pub first_in : Option ℕ → QueueName → Devices → Option ℕ
-first_in only queue d = slice_get (may_serve only (slots_in queue d.waiting)) 0
-
--- whom a device serves: the lowest slot whose alarm is due, or the first of those that wait, of those that may be
--- served; what comes in is nobody's
-abbrev pub served_by : World → Dev → Option ℕ
-served_by w dev.Event = None
-served_by w dev.Alarm = alarm.due_for (only_in w) (now_in w) (owns_in w)
-served_by w dev.Uart = first_in (only_in w) Writes w.devices
-served_by w dev.Receive = first_in (only_in w) Reads w.devices
-served_by w dev.Random = first_in (only_in w) Randoms w.devices
-served_by w dev.Store = first_in (only_in w) Stores w.devices
-
--- what a device does for the process that it serves, by its record
-abbrev pub serving : World → (ℕ → Record → DeviceAnswer) → Option ℕ → Option DeviceStep
-serving w answer None = None
-serving w answer (Some slot) = option_map (λ r. answering slot (answer slot r)) (slice_get w.records slot)
+-- what is done for the process in a slot, if there is one, by its record
+abbrev pub serving : List Record → (ℕ → Record → DeviceAnswer) → Option ℕ → Option DeviceStep
+serving rs answer None = None
+serving rs answer (Some slot) = option_map (λ r. answering slot (answer slot r)) (slice_get rs slot)
 
 -- what an act of a process changes of the devices: it waits in a queue, as its last one, or waits there no more, or
 -- switches an LED
@@ -296,62 +253,52 @@ abbrev pub listed : Verb → ℕ → Record → List ℕ
 listed verbs.List slot r = list_text slot (slot_line_of r)
 listed other slot r = []
 
--- what an operator's act asks the board to do for the process: one that it ends, or starts again, waits in no queue any
+-- an operator's act on the process in a slot, by its record; one that it ends, or starts again, waits in no queue any
 -- more
-abbrev pub acts_of : Verb → Record → List BoardRequest
-acts_of verb r = if ends_by verb r.process then leaving_all else []
-
--- an operator's act on the process in a slot, by its record
 abbrev pub operating : Verb → Devices → ℕ → Record → DeviceAnswer
 operating verb d slot r = record {
   answer = record { event = Act verb; printed = listed verb slot r };
-  devices = routed slot (acts_of verb r) d;
+  devices = routed slot (if ends_by verb r.process then leaving_all else []) d;
 }
 
 -- nobody is told anything
 abbrev pub telling_nobody : Devices → DeviceStep
 telling_nobody d = record { told = λ slot. None; devices = d }
 
--- the lowest slot whose process has a name in the report, if there is one
-abbrev pub slot_of_name : List ℕ → List Record → Option ℕ
-slot_of_name name rs = slot_named name (map slot_line_of rs)
-
--- an operator acts on the process in a slot; where there is none this tells nobody anything
-abbrev pub acting_on : Verb → List Record → Devices → Option ℕ → DeviceStep
-acting_on verb rs d None = telling_nobody d
-acting_on verb rs d (Some slot) =
-    unwrap_or (option_map (λ r. answering slot (operating verb d slot r)) (slice_get rs slot)) (telling_nobody d)
-
 -- what comes in: bytes, in every lane, which tells nobody anything, and of those in a ring the newest are kept; an edge
--- of a button; or an operator's act on the process of a name
+-- of a button; or an operator's act on the process in the lowest slot that has a name in the report, which tells nobody
+-- anything where there is none
 abbrev pub coming_in : EventKind → List Record → Devices → DeviceStep
 coming_in (script.Input bytes) rs d = telling_nobody (record d { lines = map (with_input bytes) d.lines })
 coming_in (script.Press button) rs d = telling_edge button true rs d
 coming_in (script.Release button) rs d = telling_edge button false rs d
-coming_in (script.Act verb name) rs d = acting_on verb rs d (slot_of_name name rs)
+coming_in (script.Act verb name) rs d =
+    unwrap_or (serving rs (operating verb d) (slot_named name (map slot_line_of rs))) (telling_nobody d)
 
 -- the first thing comes in that is still to, if there is one
 abbrev pub arrived : List Record → Devices → List Arrival → Option DeviceStep
 arrived rs d [] = None
 arrived rs d (arrival ∷ rest) = Some (coming_in arrival.kind rs (record d { arrivals = rest }))
 
--- what a device does, where it is ready
+-- what is done for the first of those that wait, of those that may be served, if there is one
+abbrev pub first_served : World → (ℕ → Record → DeviceAnswer) → List ℕ → Option DeviceStep
+first_served w answer slots = serving w.records answer (slice_get (may_serve (only_in w) slots) 0)
+
+-- what a device does, where it is ready: for the process in the lowest slot whose alarm is due, or for the first of
+-- those that wait, of those that may be served; what comes in is nobody's
 abbrev pub device_step_of : World → Dev → Option DeviceStep
 device_step_of w dev.Event = arrived w.records w.devices w.devices.arrivals
 device_step_of w dev.Alarm =
-    serving w (λ slot r. alarmed w.settings w.clock.time w.devices) (served_by w dev.Alarm)
-device_step_of w dev.Uart = serving w (transmitting (lane_in w) w.clock.time w.devices) (served_by w dev.Uart)
-device_step_of w dev.Receive = serving w (receive_step (lane_in w) w.devices) (served_by w dev.Receive)
-device_step_of w dev.Random = serving w (random_step (lane_in w) w.devices) (served_by w dev.Random)
-device_step_of w dev.Store = serving w (storing (lane_in w) w.devices) (served_by w dev.Store)
+    let due = alarm.due_for (only_in w) (now_in w) (owns_in w) in
+    serving w.records (λ slot r. telling (Alarmed (now_in w)) w.devices) due
+device_step_of w dev.Uart = first_served w (transmitting (lane_in w) w.clock.time w.devices) w.devices.waiting.writes
+device_step_of w dev.Receive = first_served w (receive_step (lane_in w) w.devices) w.devices.waiting.reads
+device_step_of w dev.Random = first_served w (random_step (lane_in w) w.devices) w.devices.waiting.randoms
+device_step_of w dev.Store = first_served w (storing (lane_in w) w.devices) w.devices.waiting.stores
 
--- whether one waits
-abbrev pub is_waited_for : List ℕ → Bool
-is_waited_for slots = not (length slots == 0)
-
--- whether one waits in a queue that may be served
-abbrev pub waits_in : Option ℕ → QueueName → Devices → Bool
-waits_in only queue d = is_waited_for (may_serve only (slots_in queue d.waiting))
+-- whether one of some slots waits that may be served
+abbrev pub one_waits : Option ℕ → List ℕ → Bool
+one_waits only slots = not (length (may_serve only slots) == 0)
 
 -- Whether a device step is ready at a time, when the alarm's clock shows a tick, of those that serve all slots, or one
 -- alone: something is to come in; an alarm is due; a write waits and the UART is free; a read waits and bytes came in; a
@@ -359,15 +306,15 @@ waits_in only queue d = is_waited_for (may_serve only (slots_in queue d.waiting)
 abbrev pub can_act_at : Option ℕ → ℕ → ℕ → List Own → Devices → Dev → Bool
 can_act_at only time now owns d dev.Event = is_time time d.arrivals
 can_act_at only time now owns d dev.Alarm = is_some (alarm.due_for only now owns)
-can_act_at only time now owns d dev.Uart = waits_in only Writes d && nat_le (line_in (lane_by only) d).free time
+can_act_at only time now owns d dev.Uart = one_waits only d.waiting.writes && nat_le (line_by only d).free time
 can_act_at only time now owns d dev.Receive =
-    waits_in only Reads d && not (length (line_in (lane_by only) d).ring == 0)
-can_act_at only time now owns d dev.Random = waits_in only Randoms d
-can_act_at only time now owns d dev.Store = waits_in only Stores d
+    one_waits only d.waiting.reads && not (length (line_by only d).ring == 0)
+can_act_at only time now owns d dev.Random = one_waits only d.waiting.randoms
+can_act_at only time now owns d dev.Store = one_waits only d.waiting.stores
 
 -- when the UART is free again, where a write waits that may be served
 abbrev pub sending_time : Option ℕ → Devices → Option ℕ
-sending_time only d = if waits_in only Writes d then Some (line_in (lane_by only) d).free else None
+sending_time only d = if one_waits only d.waiting.writes then Some (line_by only d).free else None
 
 -- What there is to do for the devices: which device steps are ready now; and the nearest time at which one becomes
 -- ready by itself: something comes in, an alarm becomes due, or the UART is free for a write that waits.
@@ -384,19 +331,19 @@ work_at only time now owns d = record {
       (nearer (option_map (λ left. time + left) (alarm.left_for only now owns)) (sending_time only d));
 }
 
--- that of a world
-abbrev pub work_of : World → Work
-work_of w = work_at (only_in w) w.clock.time (now_in w) (owns_in w) w.devices
+-- that in a world
+abbrev pub work_in : World → Option ℕ → Work
+work_in w only = work_at only w.clock.time (now_in w) (owns_in w) w.devices
 
 -- whether a device step is ready
 abbrev pub can_act : World → Dev → Bool
-can_act w device = (work_of w).ready device
+can_act w device = (work_in w (only_in w)).ready device
 
 -- whether a choice may be made: below the limit of steps a slot whose process can have a turn, a device step that is
 -- ready, and a pass of some ticks
 unfoldable pub may_be_made : World → Choice → Bool
-may_be_made w (Run slot) = can_run (slice_get w.records slot)
-may_be_made w (Device device) = (work_of w).ready device
+may_be_made w (Run slot) = unwrap_or (option_map may_turn (slice_get w.records slot)) false
+may_be_made w (Device device) = (work_in w (only_in w)).ready device
 may_be_made w (Pass ticks) = nat_lt 0 ticks
 
 -- whether a choice may be made: it is ready, and the limit of steps is not reached
@@ -428,26 +375,18 @@ ran w slot (Some r) =
     let t = turned w.settings w.clock.time r in
     record { after = after_turn_of w slot t; labels = turn_label slot w.clock.time t.told ∷ [] }
 
--- a record once its process was told something, or nothing
-abbrev pub happens : Settings → Option Answer → Record → Record
-happens settings None r = r
-happens settings (Some answer) r = apply settings answer.event r
-
 -- the records after a step, of the slots in order: each process was told what it was told
 abbrev pub records_told : Settings → (ℕ → Option Answer) → List Record → List Record
 records_told settings told [] = []
 records_told settings told (r ∷ rs) =
-    happens settings (told 0) r ∷ records_told settings (λ slot. told (suc slot)) rs
+    unwrap_or (option_map (λ answer. apply settings answer.event r) (told 0)) r
+    ∷ records_told settings (λ slot. told (suc slot)) rs
 
--- what a step tells of a slot, if its process was told anything
-abbrev pub labels_of : ℕ → Option Answer → List Label
-labels_of slot None = []
-labels_of slot (Some answer) = answer_label slot answer ∷ []
-
--- and of the slots in order, from one on
+-- what a step tells of the slots in order, from one on: of each whose process was told anything
 abbrev pub labels_told : (ℕ → Option Answer) → ℕ → List Record → List Label
 labels_told told slot [] = []
-labels_told told slot (r ∷ rs) = labels_of slot (told slot) ++ labels_told told (suc slot) rs
+labels_told told slot (r ∷ rs) =
+    option_to_list (option_map (answer_label slot) (told slot)) ++ labels_told told (suc slot) rs
 
 -- the world after a device's step, which takes no time
 abbrev pub after_deed : World → DeviceStep → World
@@ -462,15 +401,12 @@ abbrev pub done : World → Option DeviceStep → Stepped
 done w None = unmade w
 done w (Some deed) = record { after = after_deed w deed; labels = labels_told deed.told 0 w.records }
 
--- the world after so many ticks in which nothing acts
-abbrev pub passed : World → ℕ → World
-passed w ticks = record w { clock = record { time = w.clock.time + ticks; steps = w.clock.steps + 1 } }
-
--- what a choice comes to where it is ready
+-- what a choice comes to where it is ready; while ticks pass nothing acts
 unfoldable pub carried_out : World → Choice → Stepped
 carried_out w (Run slot) = ran w slot (slice_get w.records slot)
 carried_out w (Device device) = done w (device_step_of w device)
-carried_out w (Pass ticks) = record { after = passed w ticks; labels = [] }
+carried_out w (Pass ticks) =
+    record (unmade w) { after = record w { clock = record { time = w.clock.time + ticks; steps = w.clock.steps + 1 } } }
 
 -- one step; a choice that is not ready is not made: nothing changes, and nothing is told
 unfoldable pub stepped : World → Choice → Stepped

@@ -24,11 +24,13 @@ use Rattle.driver_model.specs.Alarm.{has_due}
 use Rattle.driver_model.specs.Commands.{Writes, Reads, Randoms, Stores}
 use Rattle.kernel_laws.specs.Windows.{lane_order}
 use Rattle.kernel_model.specs.Record.{Record}
-use Rattle.kernel_model.specs.World.{DeviceStep, Label, Stepped, World, arrived, can_run, carried_out, coming_in}
+use Rattle.kernel_model.specs.World.{DeviceStep, Label, Stepped, World, arrived, carried_out, coming_in}
+use Rattle.kernel_model.specs.Named.{can_run}
 use Rattle.kernel_model.specs.World.{device_step_of, done, only_at, ran}
-use Rattle.kernel_model.specs.Run.{work_for}
+use Rattle.kernel_model.specs.Parts.{work_for}
 use Rattle.kernel_partitions.specs.Alike.{AreAlikeIn, IsNoAct, IsPartitioned}
-use Rattle.kernel_partitions.specs.Moments.{Moment, before, told_at_time, told_of}
+use Rattle.kernel_partitions.specs.Moments.{Moment, before}
+use Rattle.kernel_partitions.specs.Parts.{told_at_time, told_of}
 use Rattle.kernel_partitions.proofs.Steps.{StepsAlike, deed_by, deed_is, devices_alike, same_line, same_now, same_own}
 use Rattle.kernel_partitions.proofs.Steps.{turn_alike}
 use Rattle.kernel_partitions.proofs.Others.{LeavesAlone, devices_leave, turn_leaves}

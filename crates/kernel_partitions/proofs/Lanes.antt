@@ -7,8 +7,11 @@ use Rattle.std.proofs.lemmas.Bool.{false≢true}
 use Rattle.std.proofs.lemmas.Bool.Decides.{nat_tests}
 use Rattle.driver_model.specs.Commands.{BoardRequest, Waits, Leaves, Lights, QueueName, Writes, Reads, Randoms, Stores}
 use Rattle.driver_model.specs.Commands.{is_same}
-use Rattle.kernel_model.specs.World.{Devices, acted, after_answer, is_waited_for, queue_without, routed, slots_in}
-use Rattle.kernel_model.specs.World.{waits_in, with_queue}
+use Rattle.kernel_model.specs.World.{Devices, acted, after_answer, queue_without, routed}
+use Rattle.kernel_model.specs.Named.{slots_in}
+use Rattle.kernel_model.specs.Parts.{is_waited_for}
+use Rattle.kernel_model.specs.World.{with_queue}
+use Rattle.kernel_model.specs.Named.{waits_in}
 use Rattle.kernel_model.proofs.Places.{queue_with}
 use Rattle.kernel_partitions.specs.Alike.{LanesAreAlike}
 

@@ -11,14 +11,21 @@ use Rattle.driver_model.specs.Storage as storage
 use Rattle.driver_model.specs.Commands.{QueueName, Writes, Reads, Randoms, Stores}
 use Rattle.board_devices.specs.Storage.{is_fault}
 use Rattle.kernel_model.specs.Record.{Record}
-use Rattle.kernel_model.specs.Turn.{flash_of, turned}
-use Rattle.kernel_model.specs.World.{Answer, DeviceAnswer, Stepped, World, alarmed, answering, done, first_in, happens}
-use Rattle.kernel_model.specs.World.{labels_of, line_in, now_in, owns_in, ran, random_step, receive_step, served_in}
-use Rattle.kernel_model.specs.World.{serving, storing, transmitting, turn_label, unmade, waits_in, words_in}
+use Rattle.kernel_model.specs.Turn.{turned}
+use Rattle.kernel_model.specs.Record.{flash_of}
+use Rattle.kernel_model.specs.World.{Answer, DeviceAnswer, Stepped, World, answering, done}
+use Rattle.kernel_model.specs.Parts.{first_in}
+use Rattle.kernel_model.specs.Parts.{alarmed, happens}
+use Rattle.kernel_model.specs.World.{now_in, owns_in, ran, random_step, receive_step}
+use Rattle.kernel_model.specs.Parts.{line_in}
+use Rattle.kernel_model.specs.Parts.{labels_of, served_in}
+use Rattle.kernel_model.specs.World.{serving, storing, transmitting, turn_label, unmade}
+use Rattle.kernel_model.specs.Named.{words_in}
+use Rattle.kernel_model.specs.Named.{waits_in}
 use Rattle.kernel_model.proofs.Places.{ran-other, slice_get-set_other}
 use Rattle.kernel_model.proofs.Told.{told_at}
 use Rattle.kernel_partitions.specs.Alike.{AreAlikeIn, LanesAreAlike}
-use Rattle.kernel_partitions.specs.Moments.{told_of}
+use Rattle.kernel_partitions.specs.Parts.{told_of}
 use Rattle.kernel_partitions.proofs.Lanes.{answer_leaves, lanes_back, lanes_same, route_leaves}
 use Rattle.kernel_partitions.proofs.Steps.{deed_by, first_is, told_by}
 
@@ -71,7 +78,7 @@ module _ (slot other : ℕ) (apart : other ≢ slot) (w : World) where
 
   -- a device that serves the other slot, or nobody
   serves_other : (f : ℕ → Record → DeviceAnswer) → ((r : Record) → LanesAreAlike slot w.devices (f other r).devices)
-      → (b : Bool) → LeavesAlone slot w.clock.time w (done w (serving w f (cond b (Some other) None)))
+      → (b : Bool) → LeavesAlone slot w.clock.time w (done w (serving w.records f (cond b (Some other) None)))
   serves_other f lanes false = nothing_made
   serves_other f lanes true = by_record (slice_get w.records other)
     where
@@ -82,9 +89,9 @@ module _ (slot other : ℕ) (apart : other ≢ slot) (w : World) where
 
   of_queue : (queue : QueueName) (f : ℕ → Record → DeviceAnswer)
       → ((r : Record) → LanesAreAlike slot w.devices (f other r).devices)
-      → LeavesAlone slot w.clock.time w (done w (serving w f (first_in (Some other) queue w.devices)))
+      → LeavesAlone slot w.clock.time w (done w (serving w.records f (first_in (Some other) queue w.devices)))
   of_queue queue f lanes =
-      subst (λ (o : Option ℕ). LeavesAlone slot w.clock.time w (done w (serving w f o)))
+      subst (λ (o : Option ℕ). LeavesAlone slot w.clock.time w (done w (serving w.records f o)))
       (sym (first_is other queue w.devices)) (serves_other f lanes (waits_in (Some other) queue w.devices))
 
   -- what is put into the other slot's lane

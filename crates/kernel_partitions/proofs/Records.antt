@@ -11,9 +11,12 @@ use Rattle.kernel_model.specs.Record.{Record}
 use Rattle.kernel_model.specs.declared.settings.Settings.{Settings}
 use Rattle.kernel_model.specs.Turn.{Event}
 use Rattle.kernel_model.specs.World.{Label, World, after, labels, stepped}
-use Rattle.kernel_model.specs.Run.{next, on_choice, round, runs_on, stays}
-use Rattle.kernel_model.specs.Replay.{RecordIsReplay, RoundFollowsChoices, chosen, happened, history, replay}
-use Rattle.kernel_partitions.specs.Moments.{Moment, before, events_of, timed_history, told_at_time, told_of}
+use Rattle.kernel_model.specs.Run.{next, round, runs_on, stays}
+use Rattle.kernel_model.specs.Parts.{on_choice}
+use Rattle.kernel_model.specs.Replay.{RecordIsReplay, RoundFollowsChoices, chosen, history, replay}
+use Rattle.kernel_model.specs.Parts.{happened}
+use Rattle.kernel_partitions.specs.Moments.{Moment, before, events_of, timed_history}
+use Rattle.kernel_partitions.specs.Parts.{told_at_time, told_of}
 use Rattle.kernel_partitions.specs.Partitions.{ASlotSeesItselfAlone, RecordIsReplayedUpToATime, SameRecordAtEachTime}
 use Rattle.kernel_partitions.specs.Partitions.{time_after}
 

@@ -20,13 +20,17 @@ use Rattle.kernel_laws.specs.Windows.{NextIsOfTheWindow, lanes_in}
 use Rattle.kernel_laws.proofs.Arrivals.{arrives_in_order}
 use Rattle.kernel_laws.proofs.Turns.{step_same}
 use Rattle.kernel_model.specs.Edges.{arrival_in}
-use Rattle.kernel_model.specs.World.{DeviceStep, Pace, Stepped, World, after, can_run, carried_out, device_step_of}
-use Rattle.kernel_model.specs.World.{done, labels, passed, stepped}
-use Rattle.kernel_model.specs.Run.{next, on_choice, round, runs_on, stays}
+use Rattle.kernel_model.specs.World.{DeviceStep, Pace, Stepped, World, after, carried_out, device_step_of}
+use Rattle.kernel_model.specs.Named.{can_run}
+use Rattle.kernel_model.specs.World.{done, labels, stepped}
+use Rattle.kernel_model.specs.Parts.{passed}
+use Rattle.kernel_model.specs.Run.{next, round, runs_on, stays}
+use Rattle.kernel_model.specs.Parts.{on_choice}
 use Rattle.kernel_model.specs.Replay.{chosen}
 use Rattle.kernel_model.proofs.Places.{of_stepped}
 use Rattle.kernel_partitions.specs.Alike.{AreAlikeIn, IsNoAct, IsPartitioned}
-use Rattle.kernel_partitions.specs.Moments.{Moment, before, timed_history, told_at_time, told_of}
+use Rattle.kernel_partitions.specs.Moments.{Moment, before, timed_history}
+use Rattle.kernel_partitions.specs.Parts.{told_at_time, told_of}
 use Rattle.kernel_partitions.specs.Partitions.{ASlotSeesItselfAlone}
 use Rattle.kernel_partitions.proofs.Alone.{comes_in, first_of, first_serves, flags_for, goes, goes_by, idled}
 use Rattle.kernel_partitions.proofs.Alone.{idled-told, in_own_window, only_is, own_step, same_before, tells, tells_by}

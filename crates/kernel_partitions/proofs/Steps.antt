@@ -13,7 +13,8 @@ use Rattle.script_text.specs.Settings.{ScriptEvent as Arrival, EventKind}
 use Rattle.script_text.specs.Settings as script
 use Rattle.board_devices.specs.Arriving.{act_of}
 use Rattle.board_devices.specs.Clock.{clock_at}
-use Rattle.board_devices.specs.SerialLine.{SerialLine, no_line, with_input}
+use Rattle.board_devices.specs.SerialLine.{SerialLine, with_input}
+use Rattle.board_devices.specs.Parts.{no_line}
 use Rattle.board_devices.specs.Storage.{is_fault}
 use Rattle.process_model.specs.Own.{Own}
 use Rattle.driver_model.specs.Alarm as alarm
@@ -23,17 +24,26 @@ use Rattle.driver_model.specs.Storage as storage
 use Rattle.driver_model.specs.Commands.{QueueName, Writes, Reads, Randoms, Stores}
 use Rattle.kernel_model.specs.Record.{Record}
 use Rattle.kernel_model.specs.declared.settings.Settings.{Settings}
-use Rattle.kernel_model.specs.Turn.{Turned, flash_of, turned}
+use Rattle.kernel_model.specs.Turn.{Turned, turned}
+use Rattle.kernel_model.specs.Record.{flash_of}
 use Rattle.kernel_model.specs.Turn as heard
 use Rattle.kernel_model.specs.World.{Answer, DeviceAnswer, DeviceStep, Devices, Label, Stepped, World, after_answer}
-use Rattle.kernel_model.specs.World.{alarmed, answering, arrived, coming_in, device_step_of, done, edge_told, first_in}
-use Rattle.kernel_model.specs.World.{happens, is_waited_for, labels_of, labels_told, line_in, now_in, only_in, owns_in}
-use Rattle.kernel_model.specs.World.{lane_by, ran, random_step, receive_step, routed, serving, slots_in, storing}
-use Rattle.kernel_model.specs.World.{drawn_event, telling_edge, transmitting, turn_label, unmade, waits_in}
+use Rattle.kernel_model.specs.World.{answering, arrived, coming_in, device_step_of, done, edge_told}
+use Rattle.kernel_model.specs.Parts.{first_in}
+use Rattle.kernel_model.specs.Parts.{alarmed}
+use Rattle.kernel_model.specs.World.{labels_told, now_in, only_in, owns_in}
+use Rattle.kernel_model.specs.Parts.{line_in}
+use Rattle.kernel_model.specs.Parts.{happens, is_waited_for, labels_of}
+use Rattle.kernel_model.specs.World.{ran, random_step, receive_step, routed, serving, storing}
+use Rattle.kernel_model.specs.Named.{slots_in}
+use Rattle.kernel_model.specs.Named.{lane_by}
+use Rattle.kernel_model.specs.World.{telling_edge, transmitting, turn_label, unmade}
+use Rattle.kernel_model.specs.Named.{waits_in}
+use Rattle.kernel_model.specs.Parts.{drawn_event}
 use Rattle.kernel_model.proofs.Places.{set_own}
 use Rattle.kernel_model.proofs.Told.{labels_at, told_at, told_there}
 use Rattle.kernel_partitions.specs.Alike.{AreAlikeIn, IsNoAct, LanesAreAlike}
-use Rattle.kernel_partitions.specs.Moments.{told_of}
+use Rattle.kernel_partitions.specs.Parts.{told_of}
 use Rattle.kernel_partitions.proofs.Lanes.{answers_alike, indexes_alike, routes_alike, sets_alike, some_wait}
 
 -- two steps leave worlds that are alike in a slot, and tell the same of it
@@ -54,11 +64,11 @@ served_of only w dev.Store = first_in only Stores w.devices
 abbrev pub deed_by : Option ℕ → World → Dev → Option DeviceStep
 deed_by only w dev.Event = arrived w.records w.devices w.devices.arrivals
 deed_by only w dev.Alarm =
-    serving w (λ slot r. alarmed w.settings w.clock.time w.devices) (served_of only w dev.Alarm)
-deed_by only w dev.Uart = serving w (transmitting (lane_by only) w.clock.time w.devices) (served_of only w dev.Uart)
-deed_by only w dev.Receive = serving w (receive_step (lane_by only) w.devices) (served_of only w dev.Receive)
-deed_by only w dev.Random = serving w (random_step (lane_by only) w.devices) (served_of only w dev.Random)
-deed_by only w dev.Store = serving w (storing (lane_by only) w.devices) (served_of only w dev.Store)
+    serving w.records (λ slot r. alarmed w.settings w.clock.time w.devices) (served_of only w dev.Alarm)
+deed_by only w dev.Uart = serving w.records (transmitting (lane_by only) w.clock.time w.devices) (served_of only w dev.Uart)
+deed_by only w dev.Receive = serving w.records (receive_step (lane_by only) w.devices) (served_of only w dev.Receive)
+deed_by only w dev.Random = serving w.records (random_step (lane_by only) w.devices) (served_of only w dev.Random)
+deed_by only w dev.Store = serving w.records (storing (lane_by only) w.devices) (served_of only w dev.Store)
 
 pub deed_is : (w : World) (device : Dev) → device_step_of w device ≡ deed_by (only_in w) w device
 deed_is w dev.Event = refl
@@ -137,8 +147,8 @@ module _ (slot : ℕ) (v w : World) (alike : AreAlikeIn slot v w) where
     lanes : (r : Record) → LanesAreAlike slot (f slot r).devices (g slot r).devices
 
   serves_alike : (f g : ℕ → Record → DeviceAnswer) → ServeAlike f g → (b : Bool)
-      → StepsAlike slot (done v (serving v f (cond b (Some slot) None)))
-      (done w (serving w g (cond b (Some slot) None)))
+      → StepsAlike slot (done v (serving v.records f (cond b (Some slot) None)))
+      (done w (serving w.records g (cond b (Some slot) None)))
   serves_alike f g same false = nothing_made
   serves_alike f g same true = by_records (slice_get v.records slot) (slice_get w.records slot) alike.record_is
     where
@@ -159,17 +169,17 @@ module _ (slot : ℕ) (v w : World) (alike : AreAlikeIn slot v w) where
           (done w (option_map (λ (r : Record). answering slot (g slot r)) x))) e (by_record o)
 
   of_queue : (queue : QueueName) (f g : ℕ → Record → DeviceAnswer) → ServeAlike f g
-      → StepsAlike slot (done v (serving v f (first_in (Some slot) queue v.devices)))
-      (done w (serving w g (first_in (Some slot) queue w.devices)))
+      → StepsAlike slot (done v (serving v.records f (first_in (Some slot) queue v.devices)))
+      (done w (serving w.records g (first_in (Some slot) queue w.devices)))
   of_queue queue f g same =
-      subst (λ (o : Option ℕ). StepsAlike slot (done v (serving v f o))
-      (done w (serving w g (first_in (Some slot) queue w.devices)))) (sym (first_is slot queue v.devices))
+      subst (λ (o : Option ℕ). StepsAlike slot (done v (serving v.records f o))
+      (done w (serving w.records g (first_in (Some slot) queue w.devices)))) (sym (first_is slot queue v.devices))
       (subst (λ (o : Option ℕ). StepsAlike slot
-      (done v (serving v f (cond (waits_in (Some slot) queue v.devices) (Some slot) None))) (done w (serving w g o)))
+      (done v (serving v.records f (cond (waits_in (Some slot) queue v.devices) (Some slot) None))) (done w (serving w.records g o)))
       (sym (first_is slot queue w.devices)
       ) (subst (λ (b : Bool). StepsAlike slot
-      (done v (serving v f (cond (waits_in (Some slot) queue v.devices) (Some slot) None)))
-      (done w (serving w g (cond b (Some slot) None)))) (alike.lanes.waits queue)
+      (done v (serving v.records f (cond (waits_in (Some slot) queue v.devices) (Some slot) None)))
+      (done w (serving w.records g (cond b (Some slot) None)))) (alike.lanes.waits queue)
       (serves_alike f g same (waits_in (Some slot) queue v.devices))))
 
   pub same_line : line_in slot v.devices ≡ line_in slot w.devices
@@ -186,7 +196,7 @@ module _ (slot : ℕ) (v w : World) (alike : AreAlikeIn slot v w) where
   alarms_alike : StepsAlike slot (done v (deed_by (Some slot) v dev.Alarm)) (done w (deed_by (Some slot) w dev.Alarm))
   alarms_alike =
       subst (λ (b : Bool). StepsAlike slot (done v (deed_by (Some slot) v dev.Alarm))
-      (done w (serving w (λ slot r. alarmed w.settings w.clock.time w.devices) (cond b (Some slot) None))))
+      (done w (serving w.records (λ slot r. alarmed w.settings w.clock.time w.devices) (cond b (Some slot) None))))
       (ap₂ (λ (now : ℕ) (o : Option Own). alarm.has_due now o) same_now same_own)
       (serves_alike (λ slot r. alarmed v.settings v.clock.time v.devices)
       (λ slot r. alarmed w.settings w.clock.time w.devices)

@@ -16,13 +16,17 @@ use Rattle.kernel_laws.specs.Windows.{NextIsOfTheWindow, lanes_in}
 use Rattle.kernel_laws.proofs.Turns.{run_ready, step_same}
 use Rattle.kernel_model.specs.Record.{Record}
 use Rattle.kernel_model.specs.Turn.{is_turn, turned}
-use Rattle.kernel_model.specs.World.{Answer, DeviceStep, Label, answer_label, Pace, Stepped, World, after, can_run}
-use Rattle.kernel_model.specs.World.{carried_out, device_step_of, done, labels, labels_of, ran, stepped, turn_label}
-use Rattle.kernel_model.specs.Run.{next, on_choice, round, runs_on, stays}
+use Rattle.kernel_model.specs.World.{Answer, DeviceStep, Label, answer_label, Pace, Stepped, World, after}
+use Rattle.kernel_model.specs.Named.{can_run}
+use Rattle.kernel_model.specs.World.{carried_out, device_step_of, done, labels, ran, stepped, turn_label}
+use Rattle.kernel_model.specs.Parts.{labels_of}
+use Rattle.kernel_model.specs.Run.{next, round, runs_on, stays}
+use Rattle.kernel_model.specs.Parts.{on_choice}
 use Rattle.kernel_model.specs.Replay.{chosen}
 use Rattle.kernel_model.proofs.Places.{of_stepped, of_world, stepped_ready}
 use Rattle.kernel_model.proofs.Steps.{TellsNoTurn, device_answers}
-use Rattle.kernel_partitions.specs.Moments.{Moment, before, timed_history, told_at_time, told_of}
+use Rattle.kernel_partitions.specs.Moments.{Moment, before, timed_history}
+use Rattle.kernel_partitions.specs.Parts.{told_at_time, told_of}
 use Rattle.kernel_partitions.specs.Partitions.{time_after}
 use Rattle.kernel_partitions.specs.Windows.{EachTickIsItsTurn, WholeWindowIsItsTurns, slot_in_window, turns_told}
 use Rattle.kernel_partitions.specs.Windows.{window_end_of}

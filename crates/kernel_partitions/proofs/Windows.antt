@@ -24,8 +24,12 @@ use Rattle.driver_model.specs.Laws.{QuietUntilNext}
 use Rattle.kernel_laws.specs.Windows.{NextIsOfTheWindow, due_time, lane_order, lanes_in}
 use Rattle.kernel_model.specs.Record.{Record}
 use Rattle.kernel_model.specs.Turn.{may_turn}
-use Rattle.kernel_model.specs.World.{World, can_run, line_in, now_in, owns_in, sending_time, waits_in}
-use Rattle.kernel_model.specs.Run.{next, work_for}
+use Rattle.kernel_model.specs.World.{World, now_in, owns_in, sending_time}
+use Rattle.kernel_model.specs.Parts.{line_in}
+use Rattle.kernel_model.specs.Named.{waits_in}
+use Rattle.kernel_model.specs.Named.{can_run}
+use Rattle.kernel_model.specs.Run.{next}
+use Rattle.kernel_model.specs.Parts.{work_for}
 use Rattle.kernel_partitions.proofs.Alone.{IsIdle, comes_in, first_of, flags_for, in_own_window, later, own_by}
 
 -- the slot whose window it is

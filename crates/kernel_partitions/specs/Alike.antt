@@ -4,7 +4,8 @@ use Rattle.std.specs.Prelude.{◌≡◌, ◌≤◌, ℕ, None, Some, All, slice_
 use Rattle.script_text.specs.Settings.{ScriptEvent as Arrival}
 use Rattle.board_devices.specs.Arriving.{act_of}
 use Rattle.driver_model.specs.Commands.{QueueName}
-use Rattle.kernel_model.specs.World.{Devices, World, waits_in}
+use Rattle.kernel_model.specs.World.{Devices, World}
+use Rattle.kernel_model.specs.Named.{waits_in}
 
 -- an event is no operator's act
 abbrev pub IsNoAct : Arrival → Type 0

@@ -1,4 +1,5 @@
 pub mod Alike
 pub mod Moments
+pub mod Parts
 pub mod Partitions
 pub mod Windows

@@ -11,19 +11,12 @@ pub record Moment : Type 0 where
   pub at : ℕ
   pub label : Label
 
--- what some labels tell of the process in a slot
-abbrev pub told_of : ℕ → List Label → List Label
-told_of slot ls = filter (λ label. label.slot == slot) ls
-
--- labels that a step told which began at a time
-abbrev pub told_at_time : ℕ → List Label → List Moment
-told_at_time time ls = map (λ label. record { at = time; label = label }) ls
-
--- what is told of the process in a slot while choices are made, one after another
+-- what is told of the process in a slot while choices are made, one after another, each by a step that began at a time
 abbrev pub timed_history : ℕ → World → List Choice → List Moment
 timed_history slot w [] = []
 timed_history slot w (choice ∷ choices) =
-    told_at_time w.clock.time (told_of slot (labels w choice)) ++ timed_history slot (after w choice) choices
+    map (λ label. record { at = w.clock.time; label = label }) (filter (λ label. label.slot == slot) (labels w choice))
+    ++ timed_history slot (after w choice) choices
 
 -- what was told by steps that began before a time
 abbrev pub before : ℕ → List Moment → List Moment

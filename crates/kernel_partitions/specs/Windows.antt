@@ -3,7 +3,8 @@ use Rattle.std.specs.Prelude.{◌≡◌, ◌≤◌, ◌<◌, ℕ, ◌+◌, ◌%�
 use Rattle.tk_base.specs.declared.limits.TheConstants.{STEP_LIMIT}
 use Rattle.partition_turns.specs.Windows.{window_end, window_slot}
 use Rattle.kernel_model.specs.Turn.{is_turn}
-use Rattle.kernel_model.specs.World.{World, can_run}
+use Rattle.kernel_model.specs.World.{World}
+use Rattle.kernel_model.specs.Named.{can_run}
 use Rattle.kernel_model.specs.Run.{round}
 use Rattle.kernel_model.specs.Replay.{chosen}
 use Rattle.kernel_partitions.specs.Moments.{Moment, before, timed_history}

@@ -2,7 +2,7 @@
 -- privileged manual, "Physical Memory Protection").
 use Rattle.std.specs.Prelude.{ℕ, if◌then◌else◌, Option, None, Some}
 use Rattle.tk_base.specs.declared.access.Access.{Access}
-use Rattle.tk_base.specs.declared.access.Access.TheVariants.{Fetch, Load, Store}
+use Rattle.tk_base.specs.declared.access.Access.TheVariants.{Fetch, Store}
 use Rattle.tk_base.specs.declared.access.Rule.{Rule}
 use Rattle.tk_base.specs.declared.access.Rule.TheVariants.{NoRegion, NoExecute, NoWrite}
 use Rattle.tk_base.specs.declared.access.Width.{Width}
@@ -11,15 +11,13 @@ use Rattle.process_layout.specs.Interval.{lies_within}
 
 -- flash may be executed and read
 abbrev pub denied_in_flash : Access → Option Rule
-denied_in_flash Fetch = None
-denied_in_flash Load = None
 denied_in_flash Store = Some NoWrite
+denied_in_flash other = None
 
 -- RAM may be read and written
 abbrev pub denied_in_ram : Access → Option Rule
 denied_in_ram Fetch = Some NoExecute
-denied_in_ram Load = None
-denied_in_ram Store = None
+denied_in_ram other = None
 
 -- which of the two intervals an access lies in, with all its bytes, and what that denies
 abbrev pub denied_by_intervals : ℕ → ℕ → ℕ → ℕ → Access → ℕ → Width → Option Rule

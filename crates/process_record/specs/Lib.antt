@@ -4,3 +4,4 @@ pub mod Name
 pub mod Summary
 pub mod Operator
 pub mod Lines
+pub mod Parts

@@ -1,6 +1,6 @@
 -- What is shown of a process in a line: its name, its state in one word, and the line that an operator gets who lists
 -- it. Their form is this tool's own.
-use Rattle.std.specs.Prelude.{ℕ, ◌&&◌, nat_le, Bool, true, false, if◌then◌else◌, List, [], ◌∷◌, ◌++◌, map, codes}
+use Rattle.std.specs.Prelude.{ℕ, ◌&&◌, nat_le, if◌then◌else◌, List, [], ◌∷◌, ◌++◌, map, codes}
 use Rattle.std.specs.Prelude.{decimal, position, Option}
 use Rattle.std.specs.Str.{bytes_eq}
 use Rattle.tk_base.specs.declared.upcall.Wait.{Wait}
@@ -9,14 +9,10 @@ use Rattle.process_record.specs.declared.process.State.{State}
 use Rattle.process_record.specs.declared.process.State.TheVariants.{Running, Yielded, Faulted, Terminated}
 use Rattle.process_record.specs.declared.summary.SlotLine.{SlotLine}
 
--- a byte of a name: what is no visible character of ASCII is shown as `?`
-abbrev pub glyph : ℕ → ℕ
-glyph b = if nat_le 0x21 b && nat_le b 0x7e then b else 63
-
--- a name; `-` where there is none
+-- a name, in which a byte that is no visible character of ASCII is shown as `?`; `-` where there is none
 abbrev pub name_text : List ℕ → List ℕ
 name_text [] = codes "-"
-name_text (b ∷ bs) = map glyph (b ∷ bs)
+name_text (b ∷ bs) = map (λ c. if nat_le 0x21 c && nat_le c 0x7e then c else 63) (b ∷ bs)
 
 -- the lowest slot whose line shows a name, if one does
 unfoldable pub slot_named : List ℕ → List SlotLine → Option ℕ
@@ -35,11 +31,8 @@ state_word Yielded wait = wait_word wait
 state_word Faulted wait = codes "faulted"
 state_word (Terminated code) wait = codes "terminated"
 
--- the state of a process in one word
-abbrev pub line_word : SlotLine → List ℕ
-line_word line = if line.held then codes "stopped" else state_word line.state line.wait
-
--- the line of a process that is listed: its slot, its name, its state
+-- the line of a process that is listed: its slot, its name, its state in one word
 unfoldable pub list_text : ℕ → SlotLine → List ℕ
 list_text slot line =
-    decimal slot ++ (codes " " ++ (name_text line.name.items ++ (codes " " ++ (line_word line ++ codes "\n"))))
+    let word = if line.held then codes "stopped" else state_word line.state line.wait in
+    decimal slot ++ (codes " " ++ (name_text line.name.items ++ (codes " " ++ (word ++ codes "\n"))))

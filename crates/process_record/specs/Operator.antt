@@ -5,7 +5,7 @@ use Rattle.tk_base.specs.declared.process.Verb.{Verb}
 use Rattle.tk_base.specs.declared.process.Verb.TheVariants as verbs
 use Rattle.process_model.specs.Own.{Own, own_ended}
 use Rattle.process_record.specs.declared.process.Process.{Process}
-use Rattle.process_record.specs.Process.{after_end, is_alive, with_held}
+use Rattle.process_record.specs.Process.{after_end, is_alive}
 
 -- whether a verb applies to a process: one that lives can be stopped and ended, one that is held can be started, and
 -- any can be listed and started again
@@ -18,25 +18,19 @@ applies verbs.Restart p = true
 
 -- whether it ends a life of it
 abbrev pub ends_by : Verb → Process → Bool
-ends_by verbs.List p = false
-ends_by verbs.Stop p = false
-ends_by verbs.Start p = false
 ends_by verbs.Terminate p = is_alive p.state
 ends_by verbs.Restart p = true
+ends_by other p = false
 
 -- what a verb leaves of a process, where it does not start it again: it is held, or let go, or has ended with code 0;
 -- one that does not apply leaves it as it was
 abbrev pub process_operated : Verb → Process → Process
-process_operated verbs.List p = p
-process_operated verbs.Stop p = if is_alive p.state then with_held true p else p
-process_operated verbs.Start p = if p.held then with_held false p else p
+process_operated verbs.Stop p = if is_alive p.state then record p { held = true } else p
+process_operated verbs.Start p = if p.held then record p { held = false } else p
 process_operated verbs.Terminate p = if is_alive p.state then after_end p 0 else p
-process_operated verbs.Restart p = p
+process_operated other p = p
 
 -- and of what is its own, which ends with it
 abbrev pub own_operated : Verb → Process → Own → Own
-own_operated verbs.List p own = own
-own_operated verbs.Stop p own = own
-own_operated verbs.Start p own = own
 own_operated verbs.Terminate p own = if is_alive p.state then own_ended own else own
-own_operated verbs.Restart p own = own
+own_operated other p own = own

@@ -1,6 +1,5 @@
 -- One process: TRD 104, "Yield", "Exit" and "Return Values"; the start registers as Tock gives them to a process.
 use Rattle.std.specs.Prelude.{ℕ, ◌+◌, ◌*◌, ◌/◌, ◌%◌, ◌^◌, Bool, true, false, [], ◌∷◌, None, Some, replicate}
-use Rattle.tk_base.specs.declared.access.Denial.{Denial}
 use Rattle.tk_base.specs.Regs.{Registers}
 use Rattle.tk_base.specs.Regs.{with_register}
 use Rattle.tk_base.specs.declared.call.CallRule.{CallRule}
@@ -14,28 +13,20 @@ use Rattle.tbf_headers.specs.Meaning.{Meaning}
 use Rattle.tbf_headers.specs.Addresses.{after_protected, entry_of}
 use Rattle.process_record.specs.declared.process.Process.{Process}
 use Rattle.process_record.specs.declared.process.State.{State}
-use Rattle.process_record.specs.declared.process.State.TheVariants.{Running, Yielded, Faulted, Terminated}
+use Rattle.process_record.specs.declared.process.State.TheVariants.{Running, Yielded, Terminated}
 
 -- a process lives while it runs or waits (TRD 104, "Yield", "Exit")
 abbrev pub is_alive : State → Bool
 is_alive Running = true
 is_alive Yielded = true
-is_alive Faulted = false
-is_alive (Terminated code) = false
+is_alive other = false
 
--- all registers 0, and pc
-abbrev pub cleared : ℕ → Registers
-cleared pc = record { x = replicate 32 0; pc = pc }
-
--- the registers of a start: pc is the entry, a0 the first address after the header and the protected bytes, a1 and sp
--- the start of the RAM, a2 the block's length, a3 the break
-abbrev pub regs_from : ℕ → ℕ → ℕ → ℕ → ℕ → Registers
-regs_from entry protected ram length brk =
-    with_words 10 (protected ∷ ram ∷ length ∷ brk ∷ []) (with_register (cleared entry) 2 ram)
-
--- the registers of a start, for an object at an address
+-- the registers of a start, for an object at an address: pc is the entry, a0 the first address after the header and the
+-- protected bytes, a1 and sp the start of the RAM, a2 the block's length, a3 the break, and all others 0
 abbrev pub start_regs : ℕ → Meaning → Main → ℕ → ℕ → ℕ → Registers
-start_regs object h m ram length brk = regs_from (entry_of object h m) (after_protected object h m) ram length brk
+start_regs object h m ram length brk =
+    let at_entry = with_register (record { x = replicate 32 0; pc = entry_of object h m }) 2 ram in
+    with_words 10 (after_protected object h m ∷ ram ∷ length ∷ brk ∷ []) at_entry
 
 -- a process at its start
 abbrev pub started : ℕ → Meaning → Main → ℕ → ℕ → ℕ → Process
@@ -63,38 +54,22 @@ restarted p h m ram length brk = restarted_with_regs p (start_regs p.object.addr
 abbrev pub after_turn : Process → Process
 after_turn p = record p { turns = p.turns + 1 }
 
--- a denial is recorded, and the process stops, held no more
-abbrev pub after_fault : Process → Denial → Process
-after_fault p denial = record p { state = Faulted; held = false; denial = Some denial }
-
--- the registers with pc past an `ecall`
-abbrev pub past_call : Registers → Registers
-past_call regs = record regs { pc = (regs.pc + 4) % 2 ^ 32 }
+-- the process goes on with pc past its `ecall`
+abbrev pub after_call : Process → Process
+after_call p = record p { regs = record p.regs { pc = (p.regs.pc + 4) % 2 ^ 32 } }
 
 -- the process ends with a completion code, held no more
 abbrev pub after_end : Process → ℕ → Process
 after_end p code = record p { state = Terminated code; held = false }
 
--- it ends itself, with pc past its `ecall`
-abbrev pub after_exit : Process → ℕ → Process
-after_exit p code = after_end (record p { regs = past_call p.regs }) code
-
--- an operator holds it, or lets it go: one that is held has no turns
-abbrev pub with_held : Bool → Process → Process
-with_held held p = record p { held = held }
-
 -- a reply stands in the registers, with pc past the `ecall`
 abbrev pub after_reply : Process → Reply → Process
-after_reply p reply = record p { regs = past_call (put_reply reply p.regs) }
+after_reply p reply = after_call (record p { regs = put_reply reply p.regs })
 
 -- the refused call is recorded, by the address of its `ecall` and the rule that it broke, and replied to
 abbrev pub after_refusal : Process → CallRule → Reply → Process
 after_refusal p rule reply =
     record (after_reply p reply) { refusal = Some (record { address = p.regs.pc; rule = rule }) }
-
--- the process goes on past an `ecall` that has no reply
-abbrev pub after_call : Process → Process
-after_call p = record p { regs = past_call p.regs }
 
 -- it waits for an upcall, with pc past the `ecall`
 abbrev pub waiting : Process → Process

@@ -1,7 +1,8 @@
 //! The name that the report shows.
 ghost use Rattle.std.specs.Prelude.{◌≡◌, ◌≤◌, length, take};
 ghost use Rattle.std.specs.Option.{option_copied};
-ghost use Rattle.process_record.specs.Name.{name_of, short_name};
+ghost use Rattle.process_record.specs.Name.{name_of};
+ghost use Rattle.process_record.specs.Parts.{short_name};
 
 use arrayvec::ArrayVec;
 use tbf_headers::read_header;

@@ -2,10 +2,13 @@
 ghost use Rattle.std.specs.Prelude.{◌≡◌, ◌+◌, ◌<◌, ◌^◌, Some, IsSome, IfSome};
 ghost use Rattle.tbf_headers.specs.Addresses.{after_protected, entry_of};
 ghost use Rattle.tbf_headers.specs.Shown.{shown};
-ghost use Rattle.process_record.specs.Process.{regs_from, started, restarted_with_regs, past_call};
-ghost use Rattle.process_record.specs.Process.{after_turn, after_fault, after_exit, after_reply};
+ghost use Rattle.process_record.specs.Process.{started, restarted_with_regs};
+ghost use Rattle.process_record.specs.Parts.{regs_from, past_call};
+ghost use Rattle.process_record.specs.Process.{after_turn, after_reply};
+ghost use Rattle.process_record.specs.Parts.{after_fault, after_exit};
 ghost use Rattle.process_record.specs.Process.{after_refusal, after_call, waiting, delivered};
-ghost use Rattle.process_record.specs.Process.{after_end, is_alive, upcall_regs, with_held};
+ghost use Rattle.process_record.specs.Process.{after_end, is_alive, upcall_regs};
+ghost use Rattle.process_record.specs.Parts.{with_held};
 ghost use Rattle.syscall_abi.specs.Reply.{with_words};
 
 use process_model::Object;

@@ -1,6 +1,8 @@
 //! What is shown of a process in a line.
 ghost use Rattle.std.specs.Prelude.{◌≡◌, ◌≤◌, length};
-ghost use Rattle.process_record.specs.Lines.{glyph, line_word, name_text, state_word, wait_word};
+ghost use Rattle.process_record.specs.Lines.{name_text, state_word, wait_word};
+ghost use Rattle.process_record.specs.Parts.{line_word};
+ghost use Rattle.process_record.specs.Parts.{glyph};
 
 use crate::process::State;
 use crate::summary::SlotLine;

@@ -4,7 +4,8 @@ use Rattle.tbf_headers.specs.declared.app.AppStart.{AppStart}
 use Rattle.process_layout.specs.LayoutView.{LayoutView, first_break}
 use Rattle.process_model.specs.Own.{Own, layout_of, own_restarted}
 use Rattle.process_record.specs.declared.process.Process.{Process}
-use Rattle.process_record.specs.Process.{regs_from, restarted, restarted_with_regs}
+use Rattle.process_record.specs.Process.{restarted, restarted_with_regs}
+use Rattle.process_record.specs.Parts.{regs_from}
 use Rattle.process_restart.specs.Own.{StartsAs}
 use Rattle.process_restart.specs.Restarts.{StartsAgain}
 

@@ -3,7 +3,7 @@ use Rattle.std.proofs.Common.{◌≡◌, ℕ, ◌+◌, ◌%◌, ◌^◌, List, �
 use Rattle.std.proofs.lemmas.List.Sums.{sum_by-append}
 use Rattle.std.specs.Prelude.{sum}
 use Rattle.run_text.specs.declared.tally.Tally.{Tally}
-use Rattle.run_text.specs.RunText.{tally_of}
+use Rattle.run_text.specs.Parts.{tally_of}
 use Rattle.run_text.specs.Tallies.{tallying}
 
 -- a sum counts mod 2^32, whether it is taken at once or in parts

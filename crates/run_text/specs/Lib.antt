@@ -1,2 +1,3 @@
 pub mod RunText
 pub mod Tallies
+pub mod Parts

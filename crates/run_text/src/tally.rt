@@ -1,7 +1,7 @@
 //! The count and the sum of what a run prints.
 ghost use Rattle.std.specs.Prelude.{◌≡◌, ◌+◌, ◌<◌, ◌^◌, [], length};
 ghost use Rattle.tk_outside.specs.Writes.{Writes};
-ghost use Rattle.run_text.specs.RunText.{tally_of, tally_line};
+ghost use Rattle.run_text.specs.Parts.{tally_of, tally_line};
 ghost use Rattle.run_text.specs.Tallies.{tallying};
 
 use itoa::Buffer;
@@ -34,7 +34,7 @@ impl Tally {
     }
 
     /// Writes both as a line.
-    #[tactic(auto, unfolding(crate::specs::RunText::tally_line))]
+    #[tactic(auto, unfolding(crate::specs::Parts::tally_line))]
     pub fn write_line<K: Sink>(self, out: &mut K) -> Result<(), Failed>
         ensures { Writes K.tells out.old out.new (tally_line self) result }
     {

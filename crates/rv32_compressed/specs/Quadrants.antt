@@ -1,15 +1,15 @@
 -- The compressed table by quadrant and bits 15 to 13: what the bits that are left choose.
-use Rattle.std.specs.Prelude.{ℕ, ◌==◌, not, if◌then◌else◌, Option, None, Some}
+use Rattle.std.specs.Prelude.{ℕ, ◌==◌, ◌&&◌, not, if◌then◌else◌, Option, None, Some}
 use Rattle.tk_base.specs.declared.access.Width.TheVariants.{Word}
 use Rattle.rv32_model.specs.declared.instr.Op.TheVariants as ops
 use Rattle.rv32_model.specs.declared.instr.BranchTest.TheVariants.{Beq, Bne}
 use Rattle.rv32_model.specs.declared.instr.LoadKind.TheVariants.{Lw}
 use Rattle.rv32_model.specs.declared.instr.Instr.{Instr}
 use Rattle.rv32_model.specs.declared.instr.Instr.TheVariants as instrs
-use Rattle.rv32_model.specs.Instructions.{rd_of}
+use Rattle.rv32_model.specs.Instructions.{bits_of, rd_of}
 use Rattle.rv32_model.specs.Compressed.{rs2_full, rd_short, rs1_short, imm_addi4spn, imm_word, imm_ci, imm_addi16sp}
-use Rattle.rv32_model.specs.Compressed.{imm_lui, imm_cj, imm_lwsp, imm_swsp, bit_12, is_addi16sp, is_lui, is_shift}
-use Rattle.rv32_model.specs.Compressed.{is_andi, is_registers, is_jr, is_mv, is_ebreak, is_jalr, is_add, shift_short}
+use Rattle.rv32_model.specs.Compressed.{imm_lui, imm_cj, imm_lwsp, imm_swsp, has_rs1_alone, has_rs2, is_shift}
+use Rattle.rv32_model.specs.Compressed.{is_registers, is_ebreak, shift_short}
 use Rattle.rv32_model.specs.Compressed.{registers_short, branch_short}
 
 abbrev pub addi4spn_of : ℕ → Option Instr
@@ -24,8 +24,8 @@ quadrant0_of w top =
 
 abbrev pub upper_of : ℕ → Option Instr
 upper_of w =
-    if is_addi16sp w then Some (instrs.OpImm ops.Add 2 2 (imm_addi16sp w))
-    else if is_lui w then Some (instrs.Lui (rd_of w) (imm_lui w))
+    if (rd_of w == 2) && not (imm_addi16sp w == 0) then Some (instrs.OpImm ops.Add 2 2 (imm_addi16sp w))
+    else if not (rd_of w == 2) && not (imm_lui w == 0) then Some (instrs.Lui (rd_of w) (imm_lui w))
     else None
 
 abbrev pub andi_short : ℕ → Instr
@@ -35,7 +35,7 @@ abbrev pub arithmetic_of : ℕ → Option Instr
 arithmetic_of w =
     if is_shift 0 w then Some (shift_short ops.Srl w)
     else if is_shift 1 w then Some (shift_short ops.Sra w)
-    else if is_andi w then Some (andi_short w)
+    else if bits_of w 10 2 == 2 then Some (andi_short w)
     else if is_registers 0 w then Some (registers_short ops.Sub w)
     else if is_registers 1 w then Some (registers_short ops.Xor w)
     else if is_registers 2 w then Some (registers_short ops.Or w)
@@ -55,18 +55,18 @@ quadrant1_of w top =
     else None
 
 abbrev pub slli_of : ℕ → Option Instr
-slli_of w = if bit_12 w == 0 then Some (instrs.OpImm ops.Sll (rd_of w) (rd_of w) (rs2_full w)) else None
+slli_of w = if bits_of w 12 1 == 0 then Some (instrs.OpImm ops.Sll (rd_of w) (rd_of w) (rs2_full w)) else None
 
 abbrev pub lwsp_of : ℕ → Option Instr
 lwsp_of w = if not (rd_of w == 0) then Some (instrs.Load Lw (rd_of w) 2 (imm_lwsp w)) else None
 
 abbrev pub moves_of : ℕ → Option Instr
 moves_of w =
-    if is_jr w then Some (instrs.Jalr 0 (rd_of w) 0)
-    else if is_mv w then Some (instrs.Op ops.Add (rd_of w) 0 (rs2_full w))
+    if has_rs1_alone 0 w then Some (instrs.Jalr 0 (rd_of w) 0)
+    else if has_rs2 0 w then Some (instrs.Op ops.Add (rd_of w) 0 (rs2_full w))
     else if is_ebreak w then Some instrs.Ebreak
-    else if is_jalr w then Some (instrs.Jalr 1 (rd_of w) 0)
-    else if is_add w then Some (instrs.Op ops.Add (rd_of w) (rd_of w) (rs2_full w))
+    else if has_rs1_alone 1 w then Some (instrs.Jalr 1 (rd_of w) 0)
+    else if has_rs2 1 w then Some (instrs.Op ops.Add (rd_of w) (rd_of w) (rs2_full w))
     else None
 
 abbrev pub quadrant2_of : ℕ → ℕ → Option Instr

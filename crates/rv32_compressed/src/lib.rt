@@ -3,7 +3,7 @@
 
 ghost use Rattle.std.specs.Prelude.{◌≡◌, Some};
 ghost use Rattle.rv32_model.specs.Instructions.{bits_of, rd_of};
-ghost use Rattle.rv32_model.specs.Compressed.{decoding16, rs2_full, rd_short, rs1_short, imm_addi4spn, imm_word, imm_ci, imm_addi16sp, imm_lui, imm_cj, imm_cb, imm_lwsp, imm_swsp, bit_12, shift_short, registers_short, branch_short};
+ghost use Rattle.rv32_model.specs.Compressed.{decoding16, rs2_full, rd_short, rs1_short, imm_addi4spn, imm_word, imm_ci, imm_addi16sp, imm_lui, imm_cj, imm_cb, imm_lwsp, imm_swsp, shift_short, registers_short, branch_short};
 ghost use Rattle.rv32_compressed.specs.Quadrants.{addi4spn_of, andi_short, quadrant0_of, upper_of, arithmetic_of, quadrant1_of, slli_of, lwsp_of, moves_of, quadrant2_of};
 
 pub use rv32_model::Instr;
@@ -47,7 +47,7 @@ fn top(parcel: u32) -> u32
 
 #[inline(always)]
 fn bit12(parcel: u32) -> u32
-    ensures { result ≡ bit_12 parcel }
+    ensures { result ≡ bits_of parcel 12 1 }
 {
     (parcel >> 12) % 2
 }

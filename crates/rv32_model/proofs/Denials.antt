@@ -17,9 +17,10 @@ use Rattle.rv32_model.specs.declared.instr.Instr.TheVariants as instrs
 use Rattle.rv32_model.specs.declared.turn_end.TurnEnd.TheVariants.{Call, Trap}
 use Rattle.rv32_model.specs.Laws.{CallsAreOfEcall, Denies, DenialsAreDue, IsInstrAt, IsDue, IsDueData, IsDueOf}
 use Rattle.rv32_model.specs.Laws.{IsDueParcel}
+use Rattle.rv32_model.proofs.Lengths.{length_of}
 use Rattle.rv32_model.specs.UserTurn.{UserTurn, user_turn, on_word, executed, fetched, after_load, after_store}
 use Rattle.rv32_model.specs.UserTurn.{denied_at, effect, load_width, w32_of, judged_parcel, with_first, with_second}
-use Rattle.rv32_model.specs.UserTurn.{parcel_at, length_of, instr_of, trapped}
+use Rattle.rv32_model.specs.UserTurn.{parcel_at, instr_of, trapped}
 
 module _ (denies : Denies) (bytes : ℕ → ℕ) (regs : Registers) where
   -- a turn that is denied for nothing but what has a property

@@ -1,3 +1,4 @@
+pub mod Lengths
 pub mod Rows
 mod Parcels
 pub mod Sight

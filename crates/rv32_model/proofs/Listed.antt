@@ -16,8 +16,9 @@ use Rattle.rv32_model.specs.declared.instr.Instr.{Instr}
 use Rattle.rv32_model.specs.declared.instr.Instr.TheVariants as instrs
 use Rattle.rv32_model.specs.declared.turn_end.TurnEnd.TheVariants.{Went}
 use Rattle.rv32_model.specs.Laws.{Denies, stores_at, WritesAreListed}
+use Rattle.rv32_model.proofs.Lengths.{length_of}
 use Rattle.rv32_model.specs.UserTurn.{UserTurn, user_turn, on_word, executed, fetched, after_load, after_store, effect}
-use Rattle.rv32_model.specs.UserTurn.{fetches, load_width, touch_of, w32_of, length_of, instr_of}
+use Rattle.rv32_model.specs.UserTurn.{fetches, load_width, touch_of, w32_of, instr_of}
 
 Listed : UserTurn → Type 0
 Listed t = IfSome t.write (λ w. (t.end ≡ Went)

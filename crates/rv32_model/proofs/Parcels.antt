@@ -1,11 +1,11 @@
 -- No parcel fits two rows: of each two rows the quadrants or the top bits differ, or no parcel passes both tests.
-use Rattle.std.proofs.Common.{◌≡◌, ℕ, ◌≤◌, ◌%◌, ◌==◌, ◌&&◌, Bool, true, false, cond, List, [], ◌∷◌, length, refl}
+use Rattle.std.proofs.Common.{◌≡◌, ℕ, ◌≤◌, ◌%◌, ◌==◌, ◌&&◌, not, Bool, true, false, cond, List, [], ◌∷◌, length, refl}
 use Rattle.std.proofs.Common.{◌∙◌, ap, arith}
 use Rattle.std.specs.Prelude.{filter}
 use Rattle.std.proofs.lemmas.Bool.Decides.{nat_tests}
-use Rattle.rv32_model.specs.Instructions.{bits_of}
-use Rattle.rv32_model.specs.Compressed.{CompressedRow, bit_12, compressed_table, fits_parcel, is_add, is_addi16sp}
-use Rattle.rv32_model.specs.Compressed.{is_andi, is_ebreak, is_jalr, is_jr, is_lui, is_mv, is_registers, is_shift}
+use Rattle.rv32_model.specs.Instructions.{bits_of, rd_of}
+use Rattle.rv32_model.specs.Compressed.{CompressedRow, compressed_table, fits_parcel, has_rs1_alone, has_rs2}
+use Rattle.rv32_model.specs.Compressed.{imm_addi16sp, imm_lui, is_ebreak, is_registers, is_shift}
 use Rattle.rv32_model.specs.Laws.{NoParcelFitsTwoRows}
 use Rattle.rv32_model.proofs.Rows.{one_or_rest}
 
@@ -73,39 +73,40 @@ of_field x a b p q apart passes = grind (arith, nat_tests)
 
 -- quadrant 1, top bits 4: by bits 11 and 10, and of two registers by bits 6 and 5
 shifts : (a b : ℕ) → (a == b) ≡ false → (w : ℕ) → is_shift a w ≡ true → is_shift b w ≡ false
-shifts a b apart w passes = of_field (bits_of w 10 2) a b (bit_12 w == 0) (bit_12 w == 0) apart passes
+shifts a b apart w passes = of_field (bits_of w 10 2) a b (bits_of w 12 1 == 0) (bits_of w 12 1 == 0) apart passes
 
-shift_andi : (a : ℕ) → (a == 2) ≡ false → (w : ℕ) → is_shift a w ≡ true → is_andi w ≡ false
+shift_andi : (a : ℕ) → (a == 2) ≡ false → (w : ℕ) → is_shift a w ≡ true → (bits_of w 10 2 == 2) ≡ false
 shift_andi a apart w passes = grind (arith, nat_tests)
 
 shift_registers : (a kind : ℕ) → (a == 3) ≡ false → (w : ℕ) → is_shift a w ≡ true → is_registers kind w ≡ false
-shift_registers a kind apart w passes = of_field (bits_of w 10 2) a 3 (bit_12 w == 0) _ apart passes
+shift_registers a kind apart w passes = of_field (bits_of w 10 2) a 3 (bits_of w 12 1 == 0) _ apart passes
 
-andi_registers : (kind w : ℕ) → is_andi w ≡ true → is_registers kind w ≡ false
+andi_registers : (kind w : ℕ) → (bits_of w 10 2 == 2) ≡ true → is_registers kind w ≡ false
 andi_registers kind w passes = grind (arith, nat_tests)
 
 registers : (a b : ℕ) → (a == b) ≡ false → (w : ℕ) → is_registers a w ≡ true → is_registers b w ≡ false
 registers a b apart w passes = grind (arith, nat_tests)
 
 -- quadrant 1, top bits 3: by whether rd is 2
-addi16sp_lui : (w : ℕ) → is_addi16sp w ≡ true → is_lui w ≡ false
+addi16sp_lui : (w : ℕ) → ((rd_of w == 2) && not (imm_addi16sp w == 0)) ≡ true
+    → (not (rd_of w == 2) && not (imm_lui w == 0)) ≡ false
 addi16sp_lui w passes = grind (arith, nat_tests)
 
 -- quadrant 2, top bits 4: by bit 12, whether rs2 is 0, and whether rd is
-jr_mv : (w : ℕ) → is_jr w ≡ true → is_mv w ≡ false
+jr_mv : (w : ℕ) → has_rs1_alone 0 w ≡ true → has_rs2 0 w ≡ false
 jr_mv w passes = grind (arith, nat_tests)
 
-ebreak_jalr : (w : ℕ) → is_ebreak w ≡ true → is_jalr w ≡ false
+ebreak_jalr : (w : ℕ) → is_ebreak w ≡ true → has_rs1_alone 1 w ≡ false
 ebreak_jalr w passes = grind (arith, nat_tests)
 
-ebreak_add : (w : ℕ) → is_ebreak w ≡ true → is_add w ≡ false
+ebreak_add : (w : ℕ) → is_ebreak w ≡ true → has_rs2 1 w ≡ false
 ebreak_add w passes = grind (arith, nat_tests)
 
-jalr_add : (w : ℕ) → is_jalr w ≡ true → is_add w ≡ false
+jalr_add : (w : ℕ) → has_rs1_alone 1 w ≡ true → has_rs2 1 w ≡ false
 jalr_add w passes = grind (arith, nat_tests)
 
-by_bit_12 : (p q : ℕ → Bool) (w : ℕ) → ((bit_12 w == 0) && p w) ≡ true → ((bit_12 w == 1) && q w) ≡ false
-by_bit_12 p q w passed = of_field (bit_12 w) 0 1 (p w) (q w) refl passed
+by_bit_12 : (p q : ℕ → Bool) (w : ℕ) → ((bits_of w 12 1 == 0) && p w) ≡ true → ((bits_of w 12 1 == 1) && q w) ≡ false
+by_bit_12 p q w passed = of_field (bits_of w 12 1) 0 1 (p w) (q w) refl passed
 
 -- what is so of one row, and then of those after it
 infixr 30 ◌▸◌

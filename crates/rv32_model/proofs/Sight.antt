@@ -12,8 +12,9 @@ use Rattle.rv32_model.specs.declared.instr.LoadKind.{LoadKind}
 use Rattle.rv32_model.specs.declared.instr.Instr.{Instr}
 use Rattle.rv32_model.specs.declared.instr.Instr.TheVariants as instrs
 use Rattle.rv32_model.specs.Laws.{Denies, LookAlike, SeesOnlyPermitted}
+use Rattle.rv32_model.proofs.Lengths.{length_of}
 use Rattle.rv32_model.specs.UserTurn.{user_turn, on_word, executed, fetched, after_load, after_store, effect}
-use Rattle.rv32_model.specs.UserTurn.{load_width, w32_of, judged_parcel, with_first, with_second, parcel_at, length_of}
+use Rattle.rv32_model.specs.UserTurn.{load_width, w32_of, judged_parcel, with_first, with_second, parcel_at}
 use Rattle.rv32_model.specs.UserTurn.{instr_of}
 
 judged_same : (at : ℕ) (o : Option Rule) (n m : ℕ) → (o ≡ None → n ≡ m) → judged_parcel at o n ≡ judged_parcel at o m

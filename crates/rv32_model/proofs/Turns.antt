@@ -24,9 +24,10 @@ use Rattle.rv32_model.specs.declared.turn_end.TurnEnd.TheVariants.{Call, Trap, W
 use Rattle.rv32_model.specs.Laws.{Denies, stores_at, AccessesArePermitted, DataIsAligned, DeniedTurnsChangeNothing}
 use Rattle.rv32_model.specs.Laws.{OnlyStoresWrite, WritesArePermitted}
 use Rattle.rv32_model.specs.Stretch.{StoppedTurnsChangeNothing}
+use Rattle.rv32_model.proofs.Lengths.{length_of}
 use Rattle.rv32_model.specs.UserTurn.{MemoryAccess, UserTurn, denied_at, trapped, user_turn, on_word, executed, fetched}
 use Rattle.rv32_model.specs.UserTurn.{after_write, after_load, after_store, effect, fetches, load_width, touch_of}
-use Rattle.rv32_model.specs.UserTurn.{w32_of, judged_parcel, with_first, with_second, parcel_at, length_of, instr_of}
+use Rattle.rv32_model.specs.UserTurn.{w32_of, judged_parcel, with_first, with_second, parcel_at, instr_of}
 
 -- a turn that does not go changes nothing, and a denied one lists no access
 Kept : (ℕ → ℕ) → Registers → UserTurn → Type 0

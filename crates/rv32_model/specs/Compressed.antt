@@ -69,10 +69,6 @@ imm_lwsp w = bits_of w 12 1 * 2 ^ 5 + bits_of w 4 3 * 2 ^ 2 + bits_of w 2 2 * 2 
 abbrev pub imm_swsp : ℕ → ℕ
 imm_swsp w = bits_of w 9 4 * 2 ^ 2 + bits_of w 7 2 * 2 ^ 6
 
--- bit 12, which a shift of 32 bits keeps clear
-abbrev pub bit_12 : ℕ → ℕ
-bit_12 w = bits_of w 12 1
-
 -- a row fits the parcels of its quadrant, bits 1 and 0, and of its bits 15 to 13 that pass its test
 pub record CompressedRow : Type 0 where
   pub quadrant : ℕ
@@ -92,45 +88,26 @@ compressed_row quadrant top when form = record { quadrant = quadrant; top = top;
 abbrev pub any : ℕ → Bool
 any w = true
 
--- quadrant 1, top bits 3: C.ADDI16SP, where rd is 2 and the immediate is not 0
-abbrev pub is_addi16sp : ℕ → Bool
-is_addi16sp w = (rd_of w == 2) && not (imm_addi16sp w == 0)
-
--- C.LUI, where rd is not 2 and the immediate is not 0
-abbrev pub is_lui : ℕ → Bool
-is_lui w = not (rd_of w == 2) && not (imm_lui w == 0)
-
--- quadrant 1, top bits 4: what bits 11 and 10 choose, and bits 6 and 5 among registers
+-- quadrant 1, top bits 4: what bits 11 and 10 choose, and bits 6 and 5 among registers. A shift of 32 bits keeps bit 12
+-- clear.
 abbrev pub is_shift : ℕ → ℕ → Bool
-is_shift kind w = (bits_of w 10 2 == kind) && (bit_12 w == 0)
-
--- C.ANDI: bits 11 and 10 are 2
-abbrev pub is_andi : ℕ → Bool
-is_andi w = bits_of w 10 2 == 2
+is_shift kind w = (bits_of w 10 2 == kind) && (bits_of w 12 1 == 0)
 
 -- C.SUB, C.XOR, C.OR or C.AND: bits 11 and 10 are 3, bit 12 is clear, and bits 6 and 5 tell which
 abbrev pub is_registers : ℕ → ℕ → Bool
-is_registers kind w = (bits_of w 10 2 == 3) && ((bit_12 w == 0) && (bits_of w 5 2 == kind))
+is_registers kind w = (bits_of w 10 2 == 3) && ((bits_of w 12 1 == 0) && (bits_of w 5 2 == kind))
 
--- quadrant 2, top bits 4: by bit 12 and whether the register fields are 0
-abbrev pub is_jr : ℕ → Bool
-is_jr w = (bit_12 w == 0) && ((rs2_full w == 0) && not (rd_of w == 0))
+-- quadrant 2, top bits 4: by bit 12 and whether the register fields are 0. C.JR and C.JALR: rs2 is 0, and rs1 is not
+abbrev pub has_rs1_alone : ℕ → ℕ → Bool
+has_rs1_alone bit_12 w = (bits_of w 12 1 == bit_12) && ((rs2_full w == 0) && not (rd_of w == 0))
 
--- C.MV: bit 12 is clear, and rs2 is not 0
-abbrev pub is_mv : ℕ → Bool
-is_mv w = (bit_12 w == 0) && not (rs2_full w == 0)
+-- C.MV and C.ADD: rs2 is not 0
+abbrev pub has_rs2 : ℕ → ℕ → Bool
+has_rs2 bit_12 w = (bits_of w 12 1 == bit_12) && not (rs2_full w == 0)
 
 -- C.EBREAK: bit 12 is set, and both register fields are 0
 abbrev pub is_ebreak : ℕ → Bool
-is_ebreak w = (bit_12 w == 1) && ((rs2_full w == 0) && (rd_of w == 0))
-
--- C.JALR: bit 12 is set, rs2 is 0, and rs1 is not
-abbrev pub is_jalr : ℕ → Bool
-is_jalr w = (bit_12 w == 1) && ((rs2_full w == 0) && not (rd_of w == 0))
-
--- C.ADD: bit 12 is set, and rs2 is not 0
-abbrev pub is_add : ℕ → Bool
-is_add w = (bit_12 w == 1) && not (rs2_full w == 0)
+is_ebreak w = (bits_of w 12 1 == 1) && ((rs2_full w == 0) && (rd_of w == 0))
 
 -- a shift of a short register by bits 6 to 2
 abbrev pub shift_short : Op → ℕ → Instr
@@ -144,7 +121,8 @@ registers_short op w = instrs.Op op (rs1_short w) (rs1_short w) (rd_short w)
 abbrev pub branch_short : BranchTest → ℕ → Instr
 branch_short test w = instrs.Branch test (rs1_short w) 0 (imm_cb w)
 
--- The table of RV32C ("RVC Instruction Set Listings"). A parcel that no row fits is illegal.
+-- The table of RV32C ("RVC Instruction Set Listings"). A parcel that no row fits is illegal. Of quadrant 1 and top bits
+-- 3, C.ADDI16SP is that whose rd is 2, and C.LUI each other; of top bits 4, C.ANDI is that whose bits 11 and 10 are 2.
 unfoldable pub compressed_table : List CompressedRow
 compressed_table =
     compressed_row 0 0 (λ w. not (imm_addi4spn w == 0)) (λ w. instrs.OpImm ops.Add (rd_short w) 2 (imm_addi4spn w))
@@ -153,11 +131,12 @@ compressed_table =
     ∷ compressed_row 1 0 any (λ w. instrs.OpImm ops.Add (rd_of w) (rd_of w) (imm_ci w))
     ∷ compressed_row 1 1 any (λ w. instrs.Jal 1 (imm_cj w))
     ∷ compressed_row 1 2 any (λ w. instrs.OpImm ops.Add (rd_of w) 0 (imm_ci w))
-    ∷ compressed_row 1 3 is_addi16sp (λ w. instrs.OpImm ops.Add 2 2 (imm_addi16sp w))
-    ∷ compressed_row 1 3 is_lui (λ w. instrs.Lui (rd_of w) (imm_lui w))
+    ∷ compressed_row 1 3 (λ w. (rd_of w == 2) && not (imm_addi16sp w == 0))
+    (λ w. instrs.OpImm ops.Add 2 2 (imm_addi16sp w))
+    ∷ compressed_row 1 3 (λ w. not (rd_of w == 2) && not (imm_lui w == 0)) (λ w. instrs.Lui (rd_of w) (imm_lui w))
     ∷ compressed_row 1 4 (is_shift 0) (shift_short ops.Srl)
     ∷ compressed_row 1 4 (is_shift 1) (shift_short ops.Sra)
-    ∷ compressed_row 1 4 is_andi (λ w. instrs.OpImm ops.And (rs1_short w) (rs1_short w) (imm_ci w))
+    ∷ compressed_row 1 4 (λ w. bits_of w 10 2 == 2) (λ w. instrs.OpImm ops.And (rs1_short w) (rs1_short w) (imm_ci w))
     ∷ compressed_row 1 4 (is_registers 0) (registers_short ops.Sub)
     ∷ compressed_row 1 4 (is_registers 1) (registers_short ops.Xor)
     ∷ compressed_row 1 4 (is_registers 2) (registers_short ops.Or)
@@ -165,13 +144,13 @@ compressed_table =
     ∷ compressed_row 1 5 any (λ w. instrs.Jal 0 (imm_cj w))
     ∷ compressed_row 1 6 any (branch_short Beq)
     ∷ compressed_row 1 7 any (branch_short Bne)
-    ∷ compressed_row 2 0 (λ w. bit_12 w == 0) (λ w. instrs.OpImm ops.Sll (rd_of w) (rd_of w) (rs2_full w))
+    ∷ compressed_row 2 0 (λ w. bits_of w 12 1 == 0) (λ w. instrs.OpImm ops.Sll (rd_of w) (rd_of w) (rs2_full w))
     ∷ compressed_row 2 2 (λ w. not (rd_of w == 0)) (λ w. instrs.Load Lw (rd_of w) 2 (imm_lwsp w))
-    ∷ compressed_row 2 4 is_jr (λ w. instrs.Jalr 0 (rd_of w) 0)
-    ∷ compressed_row 2 4 is_mv (λ w. instrs.Op ops.Add (rd_of w) 0 (rs2_full w))
+    ∷ compressed_row 2 4 (has_rs1_alone 0) (λ w. instrs.Jalr 0 (rd_of w) 0)
+    ∷ compressed_row 2 4 (has_rs2 0) (λ w. instrs.Op ops.Add (rd_of w) 0 (rs2_full w))
     ∷ compressed_row 2 4 is_ebreak (λ _. instrs.Ebreak)
-    ∷ compressed_row 2 4 is_jalr (λ w. instrs.Jalr 1 (rd_of w) 0)
-    ∷ compressed_row 2 4 is_add (λ w. instrs.Op ops.Add (rd_of w) (rd_of w) (rs2_full w))
+    ∷ compressed_row 2 4 (has_rs1_alone 1) (λ w. instrs.Jalr 1 (rd_of w) 0)
+    ∷ compressed_row 2 4 (has_rs2 1) (λ w. instrs.Op ops.Add (rd_of w) (rd_of w) (rs2_full w))
     ∷ compressed_row 2 6 any (λ w. instrs.Store Word 2 (rs2_full w) (imm_swsp w))
     ∷ []
 

@@ -77,11 +77,8 @@ by_funct3 opcode funct3 form = record { mask = 0x707f; value = opcode + funct3 *
 
 -- a row that is known by its opcode, funct3 and funct7
 abbrev pub by_funct7 : ℕ → ℕ → ℕ → (ℕ → Instr) → InstrRow
-by_funct7 opcode funct3 funct7 form = record {
-  mask = 0xfe00707f;
-  value = opcode + funct3 * 2 ^ 12 + funct7 * 2 ^ 25;
-  form = form;
-}
+by_funct7 opcode funct3 funct7 form =
+    record { mask = 0xfe00707f; value = opcode + funct3 * 2 ^ 12 + funct7 * 2 ^ 25; form = form }
 
 -- a row that one word fits alone
 abbrev pub by_word : ℕ → Instr → InstrRow

@@ -106,9 +106,8 @@ DeniedTurnsChangeNothing =
 
 -- whether an access is a store
 abbrev pub is_store : Access → Bool
-is_store Fetch = false
-is_store Load = false
 is_store Store = true
+is_store other = false
 
 -- whether an access is a store that covers the byte at an address
 abbrev pub stores_at : ℕ → MemoryAccess → Bool

@@ -14,6 +14,7 @@ use Rattle.tk_base.specs.declared.access.Rule.TheVariants.{Illegal, Breakpoint}
 use Rattle.tk_base.specs.declared.access.Denial.{Denial}
 use Rattle.tk_base.specs.Regs.{Registers}
 use Rattle.tk_base.specs.Access.{misaligned_first}
+use Rattle.tk_base.specs.Bits.{bit_of}
 use Rattle.tk_base.specs.Bus.{number_at, written}
 use Rattle.tk_base.specs.Regs.{register, with_register}
 use Rattle.rv32_model.specs.declared.instr.Op.{Op}
@@ -93,10 +94,6 @@ with_first denies bytes pc (Err denial) = Err denial
 unfoldable pub fetched : (Access → ℕ → Width → Option Rule) → (ℕ → ℕ) → ℕ → Result ℕ Denial
 fetched denies bytes pc = with_first denies bytes pc (parcel_at denies bytes pc)
 
--- an instruction's length in bytes, and its meaning, by its bits
-abbrev pub length_of : ℕ → ℕ
-length_of word = if word % 4 == 3 then 4 else 2
-
 -- the instruction of a word, by the 32-bit table where its two lowest bits are set, else by the compressed one
 unfoldable pub instr_of : ℕ → Option Instr
 instr_of word = if word % 4 == 3 then decoding word else decoding16 word
@@ -116,12 +113,8 @@ fetches length regs =
 
 -- a turn that leaves these registers and goes on at an address, and accesses nothing but its instruction
 abbrev pub going_on_at : ℕ → Registers → Registers → ℕ → UserTurn
-going_on_at length regs after to = record {
-  regs = record after { pc = to };
-  write = None;
-  accesses = fetches length regs;
-  end = Went;
-}
+going_on_at length regs after to =
+    record { regs = record after { pc = to }; write = None; accesses = fetches length regs; end = Went }
 
 -- an instruction that only sets a register
 abbrev pub computed : ℕ → Registers → ℕ → ℕ → UserTurn
@@ -131,42 +124,31 @@ computed length regs rd value = going_on_at length regs (with_register regs rd v
 abbrev pub jumped : ℕ → Registers → ℕ → ℕ → UserTurn
 jumped length regs rd to = going_on_at length regs (with_register regs rd (link length regs)) to
 
--- a value as a signed number, and a signed number modulo 2^32
+-- a value as a signed number
 abbrev pub signed : ℕ → ℤ
 signed n = cast_signed w32 n
 
--- a signed number modulo 2^32
-abbrev pub unsigned : ℤ → ℕ
-unsigned n = cast_unsigned w32 n
-
--- the upper 32 bits of a product of 64
-abbrev pub upper_half : ℤ → ℕ
-upper_half product = cast_unsigned w64 product / 2 ^ 32
-
--- 1 where it is so, else 0
-abbrev pub one_if : Bool → ℕ
-one_if b = if b then 1 else 0
-
--- what an operation gives. Shifts use the lowest 5 bits; division rounds towards zero, and a zero
--- divisor gives a quotient of all ones and the dividend as the remainder.
+-- What an operation gives. A comparison gives 1 where it is so, else 0; shifts use the lowest 5 bits; MULH and its like
+-- give the upper 32 bits of a product of 64; division rounds towards zero, and a zero divisor gives a quotient of all
+-- ones and the dividend as the remainder.
 abbrev pub operation : Op → ℕ → ℕ → ℕ
 operation ops.Add x y = w32_of (x + y)
 operation ops.Sub x y = w32_of (x + (2 ^ 32 - y))
 operation ops.Sll x y = w32_of (x * 2 ^ (y % 32))
-operation ops.Slt x y = one_if (int_lt (signed x) (signed y))
-operation ops.Sltu x y = one_if (nat_lt x y)
+operation ops.Slt x y = bit_of (int_lt (signed x) (signed y))
+operation ops.Sltu x y = bit_of (nat_lt x y)
 operation ops.Xor x y = bit_xor x y
 operation ops.Srl x y = x / 2 ^ (y % 32)
-operation ops.Sra x y = unsigned (int_shr (signed x) (y % 32))
+operation ops.Sra x y = cast_unsigned w32 (int_shr (signed x) (y % 32))
 operation ops.Or x y = bit_or x y
 operation ops.And x y = bit_and x y
 operation ops.Mul x y = w32_of (x * y)
-operation ops.Mulh x y = upper_half (signed x *ℤ signed y)
-operation ops.Mulhsu x y = upper_half (signed x *ℤ pos y)
+operation ops.Mulh x y = cast_unsigned w64 (signed x *ℤ signed y) / 2 ^ 32
+operation ops.Mulhsu x y = cast_unsigned w64 (signed x *ℤ pos y) / 2 ^ 32
 operation ops.Mulhu x y = x * y / 2 ^ 32
-operation ops.Div x y = if y == 0 then 2 ^ 32 - 1 else unsigned (int_div (signed x) (signed y))
+operation ops.Div x y = if y == 0 then 2 ^ 32 - 1 else cast_unsigned w32 (int_div (signed x) (signed y))
 operation ops.Divu x y = if y == 0 then 2 ^ 32 - 1 else x / y
-operation ops.Rem x y = if y == 0 then x else unsigned (int_rem (signed x) (signed y))
+operation ops.Rem x y = if y == 0 then x else cast_unsigned w32 (int_rem (signed x) (signed y))
 operation ops.Remu x y = if y == 0 then x else x % y
 
 -- whether a branch is taken
@@ -203,11 +185,9 @@ after_load length regs kind rd at number (Some rule) = trapped regs (denied_at L
 
 -- the turn of a store, or of one that is denied by a rule
 abbrev pub after_store : ℕ → Registers → Width → ℕ → ℕ → Option Rule → UserTurn
-after_store length regs width at value None = record {
-  regs = record regs { pc = link length regs };
+after_store length regs width at value None = record (going_on_at length regs regs (link length regs)) {
   write = Some (record { address = at; width = width; value = value });
   accesses = fetches length regs ++ (touch_of Store at width ∷ []);
-  end = Went;
 }
 after_store length regs width at value (Some rule) = trapped regs (denied_at Store at rule)
 
@@ -245,12 +225,8 @@ effect denies bytes length (instrs.OpImm op rd rs1 imm) regs =
 effect denies bytes length (instrs.Op op rd rs1 rs2) regs =
     computed length regs rd (operation op (register regs rs1) (register regs rs2))
 effect denies bytes length instrs.Fence regs = going_on_at length regs regs (link length regs)
-effect denies bytes length instrs.Ecall regs = record {
-  regs = regs;
-  write = None;
-  accesses = fetches length regs;
-  end = Call;
-}
+effect denies bytes length instrs.Ecall regs =
+    record { regs = regs; write = None; accesses = fetches length regs; end = Call }
 effect denies bytes length instrs.Ebreak regs = trapped regs (denied_at Fetch regs.pc Breakpoint)
 
 -- what no row fits is illegal
@@ -258,9 +234,9 @@ unfoldable pub executed : (Access → ℕ → Width → Option Rule) → (ℕ �
 executed denies bytes length (Some instr) regs = effect denies bytes length instr regs
 executed denies bytes length None regs = trapped regs (denied_at Fetch regs.pc Illegal)
 
--- the turn by what fetching came to: the instruction, or a denial
+-- the turn by what fetching came to: the instruction, whose length in bytes its two lowest bits tell, or a denial
 unfoldable pub on_word : (Access → ℕ → Width → Option Rule) → (ℕ → ℕ) → Result ℕ Denial → Registers → UserTurn
-on_word denies bytes (Ok word) regs = executed denies bytes (length_of word) (instr_of word) regs
+on_word denies bytes (Ok word) regs = executed denies bytes (if word % 4 == 3 then 4 else 2) (instr_of word) regs
 on_word denies bytes (Err denial) regs = trapped regs denial
 
 -- one turn, over what is denied and the bytes

@@ -1,7 +1,8 @@
 //! What the operations of two values give, and when branches are taken.
-ghost use Rattle.std.specs.Prelude.{◌≡◌, ◌*ℤ◌};
+ghost use Rattle.std.specs.Prelude.{◌≡◌, ◌*ℤ◌, ◌/◌, ◌^◌};
+ghost use Rattle.std.specs.Int.{cast_unsigned, w64};
 ghost use Rattle.rv32_model.specs.declared.instr.Op.TheVariants as ops;
-ghost use Rattle.rv32_model.specs.UserTurn.{is_taken, operation, upper_half};
+ghost use Rattle.rv32_model.specs.UserTurn.{is_taken, operation};
 
 use rv32_model::{BranchTest, Op};
 
@@ -25,7 +26,7 @@ fn shift_right_arithmetic(x: u32, y: u32) -> u32
 
 #[inline(always)]
 fn upper(product: i64) -> u32
-    ensures { result ≡ upper_half product }
+    ensures { result ≡ cast_unsigned w64 product / 2 ^ 32 }
 {
     (product.cast_unsigned() >> 32) as u32
 }

@@ -4,7 +4,8 @@ use Rattle.script_text.specs.declared.rule.ScriptRule.TheVariants.{Repeated, Ord
 use Rattle.script_text.specs.declared.table.Line.{Line}
 use Rattle.script_text.specs.Alone.{IsLine}
 use Rattle.script_text.specs.Progress.{Drafted, DraftSays, with_line}
-use Rattle.script_text.specs.Rules.{broken, skips, context_of, disorders, exceeds}
+use Rattle.script_text.specs.Rules.{broken, skips, disorders, exceeds}
+use Rattle.script_text.specs.Parts.{context_of}
 use Rattle.script_text.specs.Said.{settings}
 use Rattle.script_text.specs.Seats.{stood_at, stood_after}
 use Rattle.script_text.specs.Settings.{ScriptSettings, AreSound}

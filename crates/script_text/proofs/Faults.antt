@@ -8,7 +8,8 @@ use Rattle.std.proofs.lemmas.List.Sums.{count_by-le-length, length-filter}
 use Rattle.std.specs.List.{enumerate_from, slice_split, cons_option}
 use Rattle.script_text.specs.Settings.{ScriptSettings}
 use Rattle.script_text.specs.declared.rule.ScriptRule.{ScriptRule}
-use Rattle.script_text.specs.Text.{lines, words, without_return, without_empty_last, is_line_feed, is_blank, is_empty}
+use Rattle.script_text.specs.Text.{lines, words, without_return, without_empty_last}
+use Rattle.script_text.specs.Parts.{is_line_feed, is_blank, is_empty}
 use Rattle.script_text.specs.Rules.{broken}
 use Rattle.script_text.specs.Reading.{fault_of, faults, unless_fault, reading}
 use Rattle.script_text.specs.Said.{settings}

@@ -9,9 +9,11 @@ use Rattle.script_text.specs.declared.line.Context.{Context}
 use Rattle.script_text.specs.declared.table.Form.{Form}
 use Rattle.script_text.specs.declared.table.Line.{Line}
 use Rattle.script_text.specs.Alone.{IsLine, broken_alone}
-use Rattle.script_text.specs.Rules.{skips, miscounts, misspells, has_bad_hex, context_of, is_outside, is_single}
+use Rattle.script_text.specs.Rules.{skips, miscounts, misspells, has_bad_hex, is_outside, is_single}
+use Rattle.script_text.specs.Parts.{context_of}
 use Rattle.script_text.specs.Rules.{is_unknown, disorders, exceeds, breaks_rule, broken}
-use Rattle.script_text.specs.Said.{settings, stands}
+use Rattle.script_text.specs.Said.{settings}
+use Rattle.script_text.specs.Parts.{stands}
 use Rattle.script_text.specs.Table.{row, line_of}
 use Rattle.script_text.specs.Text.{words}
 
@@ -54,19 +56,19 @@ skipped_is_whole before text h =
 abbrev of_line : List (List ℕ) → List (List ℕ) → Line → Bool → Option ScriptRule
 of_line before ws line unknown =
     first_of false unknown (miscounts (row line).form ws) (misspells (row line).form ws)
-    (has_bad_hex (row line).form ws) (is_outside (context_of (settings before)) (row line).form ws)
+    (has_bad_hex (row line).form ws) (is_outside (settings before).buttons (row line).form ws)
     (is_single line && stands line before) (disorders line (settings before) ws) (exceeds line (settings before) ws)
 
 broken_by : (before : List (List ℕ)) (text : List ℕ) (line : Line) → skips (words text) ≡ false
     → line_of (words text) ≡ Some line
-    → broken before text ≡ of_line before (words text) line (is_unknown (context_of (settings before)) line)
+    → broken before text ≡ of_line before (words text) line (is_unknown (context_of (settings before)).is_partitioned line)
 broken_by before text line s l =
     broken_is before text
     ∙ (ap (λ b. broken_at before (words text) b (line_of (words text))) s ∙ ap (broken_at before (words text) false) l)
 
 -- the same of a line that is known
 known_by : (before : List (List ℕ)) (text : List ℕ) (line : Line) → skips (words text) ≡ false
-    → line_of (words text) ≡ Some line → is_unknown (context_of (settings before)) line ≡ false
+    → line_of (words text) ≡ Some line → is_unknown (context_of (settings before)).is_partitioned line ≡ false
     → broken before text ≡ of_line before (words text) line false
 known_by before text line s l k = broken_by before text line s l ∙ ap (of_line before (words text) line) k
 
@@ -84,11 +86,11 @@ unknown_word text w rest context h e l before same =
     ∙ ap (broken_at before (words text) false) l)
 
 pub not_known : (text w : List ℕ) (rest : List (List ℕ)) (line : Line) (context : Context) → words text ≡ w ∷ rest
-    → (slice_index w 0 == 35) ≡ false → line_of (words text) ≡ Some line → is_unknown context line ≡ true
+    → (slice_index w 0 == 35) ≡ false → line_of (words text) ≡ Some line → is_unknown context.is_partitioned line ≡ true
     → (before : List (List ℕ)) → context_of (settings before) ≡ context → broken before text ≡ Some UnknownWord
 not_known text w rest line context h e l u before same =
     broken_by before text line (goes_on _ w rest h e) l
-    ∙ ap (of_line before (words text) line) (ap (λ (c : Context). is_unknown c line) same ∙ u)
+    ∙ ap (of_line before (words text) line) (ap (λ (c : Context). is_unknown c.is_partitioned line) same ∙ u)
 
 -- the rules that look at a known line alone come first
 abbrev alone_of : Bool → Bool → Bool → Bool → Option ScriptRule
@@ -113,23 +115,23 @@ breaks_no false false false false e = (refl, refl, refl, refl)
 
 pub bad_alone : (text w : List ℕ) (rest : List (List ℕ)) (line : Line) (form : Form) (context : Context)
     (rule : ScriptRule) → words text ≡ w ∷ rest → (slice_index w 0 == 35) ≡ false → line_of (words text) ≡ Some line
-    → is_unknown context line ≡ false → form ≡ (row line).form → broken_alone context form (words text) ≡ Some rule
+    → is_unknown context.is_partitioned line ≡ false → form ≡ (row line).form → broken_alone context form (words text) ≡ Some rule
     → (before : List (List ℕ))
     → context_of (settings before) ≡ context → broken before text ≡ Some rule
 bad_alone text w rest line form context rule h e l k f b before same =
     let ws = words text in
-    known_by before text line (goes_on _ w rest h e) l (ap (λ (c : Context). is_unknown c line) same ∙ k)
+    known_by before text line (goes_on _ w rest h e) l (ap (λ (c : Context). is_unknown c.is_partitioned line) same ∙ k)
     ∙ come_first _ _ _ _ _ _ _ rule (ap (λ k. broken_alone (context_of (settings before)) k ws) (sym f)
     ∙ ap (λ (c : Context). broken_alone c form ws) same ∙ b)
 
 pub good_alone : (text w : List ℕ) (rest : List (List ℕ)) (line : Line) (form : Form) (context : Context)
     → words text ≡ w ∷ rest → (slice_index w 0 == 35) ≡ false → line_of (words text) ≡ Some line
-    → is_unknown context line ≡ false → form ≡ (row line).form → broken_alone context form (words text) ≡ None
+    → is_unknown context.is_partitioned line ≡ false → form ≡ (row line).form → broken_alone context form (words text) ≡ None
     → IsLine context (words text) line
 good_alone text w rest line form context h e l k f b =
     let ws = words text in
     let none = breaks_no (miscounts (row line).form ws) (misspells (row line).form ws) (has_bad_hex (row line).form ws)
-    (is_outside context (row line).form ws) (ap (λ f. broken_alone context f ws) (sym f) ∙ b) in
+    (is_outside context.buttons (row line).form ws) (ap (λ f. broken_alone context f ws) (sym f) ∙ b) in
     record {
       goes_on = goes_on _ w rest h e;
       is = l;

@@ -17,11 +17,13 @@ use Rattle.script_text.specs.declared.table.Line.TheVariants.{FilterStrict, Stor
 use Rattle.script_text.specs.declared.table.Line.TheVariants.{Press, Release, Act}
 use Rattle.script_text.specs.Progress.{with_line, stood_in}
 use Rattle.script_text.specs.Rules.{is_single, skips}
-use Rattle.script_text.specs.Said.{lines_of, stands, settings, number_on, policy_on, policy_by, is_strict}
+use Rattle.script_text.specs.Said.{lines_of, settings, policy_on, policy_by, is_strict}
+use Rattle.script_text.specs.Parts.{stands, number_on}
 use Rattle.script_text.specs.Said.{words_on, event_on, event_by}
 use Rattle.script_text.specs.Seats.{stood_at, stood_after}
 use Rattle.script_text.specs.Settings.{ScriptSettings}
-use Rattle.script_text.specs.Table.{row, line_table, has_verb, is_key, line_fits, line_of}
+use Rattle.script_text.specs.Table.{row, line_table, has_verb, line_fits, line_of}
+use Rattle.script_text.specs.Parts.{is_key}
 use Rattle.script_text.specs.Text.{words, word}
 
 -- some lines, and one more where it is one of them

@@ -27,13 +27,17 @@ use Rattle.script_text.specs.declared.table.Line.TheVariants.{FilterStrict, Stor
 use Rattle.script_text.specs.declared.table.Line.TheVariants.{Press, Release, Act}
 use Rattle.script_text.specs.Alone.{IsLine}
 use Rattle.script_text.specs.Progress.{with_line, stood_in}
-use Rattle.script_text.specs.Rules.{context_of, disorders, exceeds, is_hex}
-use Rattle.script_text.specs.Said.{settings, lines_of, last, hex_word, hex_bytes, event_by}
+use Rattle.script_text.specs.Rules.{disorders, exceeds, is_hex}
+use Rattle.script_text.specs.Parts.{context_of}
+use Rattle.script_text.specs.Said.{settings, lines_of, last, hex_bytes, event_by}
+use Rattle.script_text.specs.Parts.{hex_word}
 use Rattle.script_text.specs.Settings as kinds
 use Rattle.script_text.specs.Settings.{EventKind, ScriptSettings, ScriptEvent, AreSound, AreFaults, AreEvents}
-use Rattle.script_text.specs.Settings.{IsKind, EachIsKind, NeverFalls, is_name, is_visible}
+use Rattle.script_text.specs.Settings.{IsKind, EachIsKind, NeverFalls, is_name}
+use Rattle.script_text.specs.Parts.{is_visible}
 use Rattle.script_text.specs.Table.{row, in_range}
-use Rattle.script_text.specs.Text.{words, word, is_blank, is_empty}
+use Rattle.script_text.specs.Text.{words, word}
+use Rattle.script_text.specs.Parts.{is_blank, is_empty}
 use Rattle.script_text.proofs.HexDigits.{length-hex_bytes}
 
 permitted : (b : Bool) → not b ≡ false → b ≡ true

@@ -9,7 +9,8 @@ use Rattle.std.proofs.lemmas.List.Splits.{slice_split_none, slice_split_first, s
 use Rattle.std.proofs.lemmas.List.Sums.{fails_before_first, passes_at_first}
 use Rattle.std.proofs.lemmas.Option.{cond_some}
 use Rattle.std.specs.List.{slice_split, position_or_len, before_first, after_first, All}
-use Rattle.script_text.specs.Text.{is_line_feed, is_blank, is_empty, lines, words, without_return, without_empty_last}
+use Rattle.script_text.specs.Text.{lines, words, without_return, without_empty_last}
+use Rattle.script_text.specs.Parts.{is_line_feed, is_blank, is_empty}
 
 -- the first place that passes
 place_is : {X : Type 0} (p : X → Bool) (xs : List X) (i : ℕ) → position p xs ≡ Some i

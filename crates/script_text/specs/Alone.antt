@@ -5,7 +5,8 @@ use Rattle.script_text.specs.declared.rule.ScriptRule.{ScriptRule}
 use Rattle.script_text.specs.declared.rule.ScriptRule.TheVariants.{Words, BadNumber, BadHex, OutOfRange}
 use Rattle.script_text.specs.declared.table.Form.{Form}
 use Rattle.script_text.specs.declared.table.Line.{Line}
-use Rattle.script_text.specs.Rules.{skips, miscounts, misspells, has_bad_hex, context_of, is_outside, is_unknown}
+use Rattle.script_text.specs.Rules.{skips, miscounts, misspells, has_bad_hex, is_outside, is_unknown}
+use Rattle.script_text.specs.Parts.{context_of}
 use Rattle.script_text.specs.Rules.{broken}
 use Rattle.script_text.specs.Said.{settings}
 use Rattle.script_text.specs.Table.{row, line_of}
@@ -17,18 +18,18 @@ broken_alone context form ws =
     if miscounts form ws then Some Words
     else if misspells form ws then Some BadNumber
     else if has_bad_hex form ws then Some BadHex
-    else if is_outside context form ws then Some OutOfRange
+    else if is_outside context.buttons form ws then Some OutOfRange
     else None
 
 -- these words are those of a line of the table, which break no rule where they are looked at alone
 pub record IsLine (context : Context) (ws : List (List ℕ)) (line : Line) : Type 0 where
   pub goes_on : skips ws ≡ false
   pub is : line_of ws ≡ Some line
-  pub known : is_unknown context line ≡ false
+  pub known : is_unknown context.is_partitioned line ≡ false
   pub counted : miscounts (row line).form ws ≡ false
   pub spelled : misspells (row line).form ws ≡ false
   pub hex : has_bad_hex (row line).form ws ≡ false
-  pub within : is_outside context (row line).form ws ≡ false
+  pub within : is_outside context.buttons (row line).form ws ≡ false
 
 -- what is found of a line alone: it is skipped, it is a line of the table, or it breaks a rule
 abbrev pub Says : Context → List ℕ → Result (Option Line) ScriptRule → Type 0

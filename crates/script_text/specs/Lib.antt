@@ -4,6 +4,7 @@ pub mod Kinds
 pub mod Shown
 pub mod Table
 pub mod Said
+pub mod Parts
 pub mod Rules
 pub mod Reading
 pub mod Alone

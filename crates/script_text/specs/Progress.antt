@@ -12,7 +12,8 @@ use Rattle.decimal_number.specs.Number.{number}
 use Rattle.script_text.specs.Settings.{ScriptSettings, AreSound}
 use Rattle.script_text.specs.Text.{word}
 use Rattle.script_text.specs.Rules.{broken}
-use Rattle.script_text.specs.Said.{settings, stands, policy_by, hex_word, event_by}
+use Rattle.script_text.specs.Said.{settings, policy_by, event_by}
+use Rattle.script_text.specs.Parts.{stands, hex_word}
 
 -- what the lines so far say, and which of those that may not repeat stand already
 pub record Drafted : Type 0 where

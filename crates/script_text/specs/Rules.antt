@@ -3,9 +3,9 @@ use Rattle.std.specs.Prelude.{ℕ, ◌+◌, ◌/◌, ◌%◌, ◌==◌, Bool, tr
 use Rattle.std.specs.Prelude.{List, [], ◌∷◌, map, length, drop, find, position, slice_index, codes, Option, is_some}
 use Rattle.std.specs.Prelude.{is_none}
 use Rattle.std.specs.Option.{option_map_or}
+use Rattle.std.specs.Str.{bytes_eq}
 use Rattle.tk_base.specs.declared.limits.TheConstants.{EVENT_LIMIT, FAULT_LIMIT, INPUT_LIMIT, WORD_LIMIT}
 use Rattle.hex.specs.Hex.{is_hex_digit}
-use Rattle.script_text.specs.declared.line.Context.{Context}
 use Rattle.script_text.specs.declared.rule.ScriptRule.{ScriptRule}
 use Rattle.script_text.specs.declared.rule.ScriptRule.TheVariants.{UnknownWord, Words, BadNumber, BadHex, OutOfRange}
 use Rattle.script_text.specs.declared.rule.ScriptRule.TheVariants.{Repeated, Order, TooMany}
@@ -16,7 +16,7 @@ use Rattle.decimal_number.specs.Number.{is_number, number}
 use Rattle.script_text.specs.Settings.{ScriptSettings, is_name}
 use Rattle.script_text.specs.Table.{row, in_range, line_of}
 use Rattle.script_text.specs.Text.{words, word}
-use Rattle.script_text.specs.Said.{settings, stands, last}
+use Rattle.script_text.specs.Said.{settings, lines_of, last}
 
 -- a line is skipped where it has no words, or its first word begins with `#`
 abbrev pub skips : List (List ℕ) → Bool
@@ -46,66 +46,53 @@ abbrev pub has_bad_hex : Form → List (List ℕ) → Bool
 has_bad_hex form ws =
     option_map_or (λ h. is_some (find (λ w. not (is_hex h.digits w)) (drop h.place ws))) form.hex false
 
--- what a line is looked at by, where lines said this: how many buttons there are, and whether there are time partitions
-abbrev pub context_of : ScriptSettings → Context
-context_of said = record { buttons = said.buttons; is_partitioned = nat_lt 0 said.partition }
-
 -- a line is not known: one of buttons or of an operator, where there are time partitions
-abbrev pub is_unknown : Context → Line → Bool
-is_unknown context Buttons = context.is_partitioned
-is_unknown context Press = context.is_partitioned
-is_unknown context Release = context.is_partitioned
-is_unknown context Act = context.is_partitioned
-is_unknown context line = false
+abbrev pub is_unknown : Bool → Line → Bool
+is_unknown is_partitioned Buttons = is_partitioned
+is_unknown is_partitioned Press = is_partitioned
+is_unknown is_partitioned Release = is_partitioned
+is_unknown is_partitioned Act = is_partitioned
+is_unknown is_partitioned line = false
 
--- a name is none, a number is outside its range, or there is no such button
-abbrev pub is_outside : Context → Form → List (List ℕ) → Bool
-is_outside context form ws =
+-- a name is none, a number is outside its range, or it is that of no button, of which there are so many
+abbrev pub is_outside : ℕ → Form → List (List ℕ) → Bool
+is_outside buttons form ws =
     option_map_or (λ place. not (is_name (word ws place))) form.name false
     || (option_map_or (λ n. not (in_range n.range (number (word ws n.place)))) form.number false
-    || option_map_or (λ place. nat_le context.buttons (number (word ws place))) form.button false)
+    || option_map_or (λ place. nat_le buttons (number (word ws place))) form.button false)
+
+-- a line of what comes at a time
+abbrev pub is_event : Line → Bool
+is_event line = bytes_eq (row line).name (codes "at")
 
 -- a line may not repeat
 abbrev pub is_single : Line → Bool
 is_single StorageFault = false
 is_single Random = false
-is_single Input = false
-is_single Press = false
-is_single Release = false
-is_single Act = false
-is_single line = true
-
--- a time lies before that of the last event
-abbrev pub is_late : ScriptSettings → List (List ℕ) → Bool
-is_late said ws = nat_lt (number (word ws 1)) (last (map (λ e. e.time) said.events))
+is_single line = not (is_event line)
 
 -- where lines said this: times do not fall, the numbers of faults rise, and no other line stands after an event
 abbrev pub disorders : Line → ScriptSettings → List (List ℕ) → Bool
-disorders Input said ws = is_late said ws
-disorders Press said ws = is_late said ws
-disorders Release said ws = is_late said ws
-disorders Act said ws = is_late said ws
 disorders StorageFault said ws = nat_lt 0 (length said.events) || nat_le (number (word ws 1)) (last said.faults)
-disorders line said ws = nat_lt 0 (length said.events)
+disorders line said ws =
+    if is_event line then nat_lt (number (word ws 1)) (last (map (λ e. e.time) said.events))
+    else nat_lt 0 (length said.events)
 
 -- so many faults, words, events and bytes in each event there may be
 abbrev pub exceeds : Line → ScriptSettings → List (List ℕ) → Bool
 exceeds StorageFault said ws = nat_le FAULT_LIMIT (length said.faults)
 exceeds Random said ws = nat_lt WORD_LIMIT (length said.words + length (drop 1 ws))
 exceeds Input said ws = nat_le EVENT_LIMIT (length said.events) || nat_lt INPUT_LIMIT (length (word ws 3) / 2)
-exceeds Press said ws = nat_le EVENT_LIMIT (length said.events)
-exceeds Release said ws = nat_le EVENT_LIMIT (length said.events)
-exceeds Act said ws = nat_le EVENT_LIMIT (length said.events)
-exceeds line said ws = false
+exceeds line said ws = is_event line && nat_le EVENT_LIMIT (length said.events)
 
 -- a line of the table breaks a rule with its words, where these lines stand before it
 abbrev pub breaks_rule : ScriptRule → List (List ℕ) → List (List ℕ) → Line → Bool
-breaks_rule UnknownWord before ws line = is_unknown (context_of (settings before)) line
+breaks_rule UnknownWord before ws line = is_unknown (nat_lt 0 (settings before).partition) line
 breaks_rule Words before ws line = miscounts (row line).form ws
 breaks_rule BadNumber before ws line = misspells (row line).form ws
 breaks_rule BadHex before ws line = has_bad_hex (row line).form ws
-breaks_rule OutOfRange before ws line = is_outside (context_of (settings before)) (row line).form ws
-breaks_rule Repeated before ws line = is_single line && stands line before
+breaks_rule OutOfRange before ws line = is_outside (settings before).buttons (row line).form ws
+breaks_rule Repeated before ws line = is_single line && nat_lt 0 (length (lines_of line before))
 breaks_rule Order before ws line = disorders line (settings before) ws
 breaks_rule TooMany before ws line = exceeds line (settings before) ws
 

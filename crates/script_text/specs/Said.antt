@@ -1,5 +1,5 @@
 -- What lines say that have no fault. It is this board's own rule.
-use Rattle.std.specs.Prelude.{ℕ, ◌-◌, Bool, true, false, nat_lt, List, [], map, filter, flat_map, length, drop}
+use Rattle.std.specs.Prelude.{ℕ, ◌-◌, Bool, true, false, List, [], map, filter, flat_map, length, drop}
 use Rattle.std.specs.Prelude.{slice_index, slice_index_or, Option, Some, unwrap_or}
 use Rattle.std.specs.Int.{w32, from_be_bytes}
 use Rattle.std.specs.Option.{option_map_or}
@@ -9,7 +9,6 @@ use Rattle.hex.specs.Hex.{decode_of}
 use Rattle.decimal_number.specs.Number.{number}
 use Rattle.fault_policy.specs.declared.Policy.{Policy}
 use Rattle.fault_policy.specs.declared.Policy.TheVariants as policies
-use Rattle.tk_base.specs.declared.process.Verb.{Verb}
 use Rattle.tk_base.specs.declared.process.Verb.TheVariants as verbs
 use Rattle.tk_base.specs.Verbs.{verb_of}
 use Rattle.script_text.specs.declared.table.Line.{Line}
@@ -26,17 +25,9 @@ use Rattle.script_text.specs.Text.{words, word}
 unfoldable pub lines_of : Line → List (List ℕ) → List (List ℕ)
 lines_of line all = filter (λ text. bytes_eq (word (words text) 0) (row line).name) all
 
--- whether there is such a line
-abbrev pub stands : Line → List (List ℕ) → Bool
-stands line all = nat_lt 0 (length (lines_of line all))
-
--- the number that comes second in a line
-abbrev pub number_on : List ℕ → ℕ
-number_on text = number (word (words text) 1)
-
--- the numbers that these lines give, in their order
+-- the numbers that come second in these lines, in their order
 abbrev pub numbers_of : Line → List (List ℕ) → List ℕ
-numbers_of line all = map number_on (lines_of line all)
+numbers_of line all = map (λ text. number (word (words text) 1)) (lines_of line all)
 
 -- the number that the first such line gives, or that holds where there is none
 abbrev pub number_said : Line → List (List ℕ) → ℕ
@@ -61,23 +52,16 @@ is_strict line = false
 unfoldable pub hex_bytes : List ℕ → List ℕ
 hex_bytes w = result_unwrap_or (decode_of w) []
 
--- the number that eight hex digits write
-abbrev pub hex_word : List ℕ → ℕ
-hex_word w = from_be_bytes w32 (hex_bytes w)
-
--- the words that a `random` line gives
+-- the words that a `random` line gives, each by eight hex digits
 abbrev pub words_on : List ℕ → List ℕ
-words_on text = map hex_word (drop 1 (words text))
+words_on text = map (λ w. from_be_bytes w32 (hex_bytes w)) (drop 1 (words text))
 
--- the verb of a line of an act, which has one
-abbrev pub verb_on : List (List ℕ) → Verb
-verb_on ws = unwrap_or (verb_of (word ws 3)) verbs.List
-
--- what comes by a line of an event: the bytes that its hex digits write, or what becomes of a button, or of a process
+-- what comes by a line of an event: the bytes that its hex digits write, or what becomes of a button, or of a
+-- process: the line of an act has a verb
 abbrev pub kind_by : Line → List (List ℕ) → EventKind
 kind_by Press ws = kinds.Press (number (word ws 3))
 kind_by Release ws = kinds.Release (number (word ws 3))
-kind_by Act ws = kinds.Act (verb_on ws) (word ws 4)
+kind_by Act ws = kinds.Act (unwrap_or (verb_of (word ws 3)) verbs.List) (word ws 4)
 kind_by line ws = kinds.Input (hex_bytes (word ws 3))
 
 -- the event of a line, at its time

@@ -63,15 +63,11 @@ pub record AreFaults (faults : List ℕ) : Type 0 where
   pub least : All (λ k. 1 ≤ k) faults
   pub rising : Rises faults
 
--- a visible character of ASCII
-abbrev pub is_visible : ℕ → Bool
-is_visible byte = nat_le 0x21 byte && nat_le byte 0x7e
-
--- the name of a process as an operator writes it
+-- the name of a process as an operator writes it: visible characters of ASCII, some but not too many
 abbrev pub is_name : List ℕ → Bool
 is_name name =
     nat_le 1 (length name) && (nat_le (length name) NAME_LIMIT
-    && is_none (position (λ byte. not (is_visible byte)) name))
+    && is_none (position (λ byte. not (nat_le 0x21 byte && nat_le byte 0x7e)) name))
 
 -- on a board with so many buttons: 1 byte at least comes in, and not too many; a button is one of those; a name is one
 abbrev pub IsKind : ℕ → EventKind → Type 0

@@ -8,8 +8,6 @@ use Rattle.tk_base.specs.declared.limits.TheConstants.{BUTTON_LIMIT, BYTE_TICKS_
 use Rattle.tk_base.specs.declared.limits.TheConstants.{RAM_LIMIT, RAM_UNIT, SLICE_LIMIT, STORAGE_LIMIT, WINDOW_LIMIT}
 use Rattle.tk_base.specs.Verbs.{verb_of}
 use Rattle.script_text.specs.declared.table.Form.{Form}
-use Rattle.script_text.specs.declared.table.HexFrom.{HexFrom}
-use Rattle.script_text.specs.declared.table.Key.{Key as KeyWord}
 use Rattle.script_text.specs.declared.table.Line.{Line}
 use Rattle.script_text.specs.declared.table.Line.TheVariants.{Ram, Leds, Buttons, Slice, Partition, Start, Uart}
 use Rattle.script_text.specs.declared.table.Line.TheVariants.{Storage, Stop, Restart, Threshold, FilterOpen}
@@ -43,49 +41,29 @@ pub record Row : Type 0 where
 abbrev pub from_to : ℕ → ℕ → Range
 from_to least most = record { least = least; most = most; multiple = 1 }
 
+-- so many words, none of which has to be a number, a name or hex
+abbrev pub plain_form : ℕ → Form
+plain_form words = record { words = words; more = false; number = None; button = None; name = None; hex = None }
+
+-- a line of a name, a form and a default, told from others of its name by a word in a place, if at all
+abbrev pub plain_row : List ℕ → Option Key → Form → ℕ → Row
+plain_row name key form default = record { name = name; key = key; verb = None; form = form; default = default }
+
 -- a line of a name and a number
 abbrev pub numbered : List ℕ → Range → ℕ → Row
-numbered name range default = record {
-  name = name;
-  key = None;
-  verb = None;
-  form = record {
-    words = 2;
-    more = false;
-    number = Some (record { place = 1; range = range });
-    button = None;
-    name = None;
-    hex = None;
-  };
-  default = default;
-}
+numbered name range default =
+    plain_row name None (record (plain_form 2) { number = Some (record { place = 1; range = range }) }) default
 
 -- a line whose second word tells it from others of its name
 abbrev pub chosen : List ℕ → List ℕ → ℕ → Option NumberAt → Row
-chosen name word words number = record {
-  name = name;
-  key = Some (record { place = 1; word = word });
-  verb = None;
-  form = record { words = words; more = false; number = number; button = None; name = None; hex = None };
-  default = 0;
-}
+chosen name word words number =
+    plain_row name (Some (record { place = 1; word = word })) (record (plain_form words) { number = number }) 0
 
--- a line of what comes at a time, which is told by its third word: its fourth one is hex, or the number of a button
-abbrev pub timed : List ℕ → Option ℕ → Option HexFrom → Row
-timed word button hex = record {
-  name = codes "at";
-  key = Some (record { place = 2; word = word });
-  verb = None;
-  form = record {
-    words = 4;
-    more = false;
-    number = Some (record { place = 1; range = from_to 0 4294967295 });
-    button = button;
-    name = None;
-    hex = hex;
-  };
-  default = 0;
-}
+-- a line of what comes at a time, which is told by its third word
+abbrev pub timed : List ℕ → Form → Row
+timed word form =
+    plain_row (codes "at") (Some (record { place = 2; word = word }))
+    (record form { number = Some (record { place = 1; range = from_to 0 4294967295 }) }) 0
 
 -- the rows of the table, with their ranges and defaults
 abbrev pub row : Line → Row
@@ -104,63 +82,28 @@ row Threshold =
 row FilterOpen = chosen (codes "filter") (codes "open") 2 None
 row FilterStrict = chosen (codes "filter") (codes "strict") 2 None
 row StorageFault = numbered (codes "storage-fault") (from_to 1 4294967295) 0
-row Random = record {
-  name = codes "random";
-  key = None;
-  verb = None;
-  form = record {
-    words = 2;
-    more = true;
-    number = None;
-    button = None;
-    name = None;
-    hex = Some (record { place = 1; digits = Some 8 });
-  };
-  default = 0;
-}
-row Input = timed (codes "input") None (Some (record { place = 3; digits = None }))
-row Press = timed (codes "press") (Some 3) None
-row Release = timed (codes "release") (Some 3) None
-row Act = record {
-  name = codes "at";
-  key = Some (record { place = 2; word = codes "do" });
-  verb = Some 3;
-  form = record {
-    words = 5;
-    more = false;
-    number = Some (record { place = 1; range = from_to 0 4294967295 });
-    button = None;
-    name = Some 4;
-    hex = None;
-  };
-  default = 0;
-}
+row Random =
+    plain_row (codes "random") None
+    (record (plain_form 2) { more = true; hex = Some (record { place = 1; digits = Some 8 }) }) 0
+row Input = timed (codes "input") (record (plain_form 4) { hex = Some (record { place = 3; digits = None }) })
+row Press = timed (codes "press") (record (plain_form 4) { button = Some 3 })
+row Release = timed (codes "release") (record (plain_form 4) { button = Some 3 })
+row Act = record (timed (codes "do") (record (plain_form 5) { name = Some 4 })) { verb = Some 3 }
 
 -- a number may stand in a line
 abbrev pub in_range : Range → ℕ → Bool
 in_range range n = nat_le range.least n && nat_le n range.most && n % range.multiple == 0
 
--- what the code has of a key
-abbrev pub key_of : KeyWord → Key
-key_of k = record { place = k.place; word = k.word.now }
-
--- the word of a key stands in its place, or none does
-abbrev pub is_key : List (List ℕ) → Key → Bool
-is_key ws key = nat_le (length ws) key.place || bytes_eq (word ws key.place) key.word
-
 -- the word in the place of a verb is one, or none stands there
-abbrev pub is_verb_at : List (List ℕ) → ℕ → Bool
-is_verb_at ws place = nat_le (length ws) place || is_some (verb_of (word ws place))
-
--- so it is where there is such a place
 abbrev pub has_verb : List (List ℕ) → Option ℕ → Bool
-has_verb ws place = option_map_or (is_verb_at ws) place true
+has_verb ws place = option_map_or (λ at. nat_le (length ws) at || is_some (verb_of (word ws at))) place true
 
--- a line's words are those of a row, as far as its verb, its name and its key go
+-- a line's words are those of a row, as far as its verb, its name and its key go: the word of a key stands in its
+-- place, or none does
 abbrev pub line_fits : List (List ℕ) → Line → Bool
 line_fits ws line =
-    has_verb ws (row line).verb
-    && (bytes_eq (word ws 0) (row line).name && option_map_or (is_key ws) (row line).key true)
+    has_verb ws (row line).verb && (bytes_eq (word ws 0) (row line).name
+    && option_map_or (λ key. nat_le (length ws) key.place || bytes_eq (word ws key.place) key.word) (row line).key true)
 
 -- the line of the table that words are: the first one that fits
 unfoldable pub line_of : List (List ℕ) → Option Line

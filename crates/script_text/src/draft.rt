@@ -4,7 +4,8 @@ ghost use Rattle.std.specs.Prelude.{length, map, drop, [], Some, None, IfOk, unw
 ghost use Rattle.tk_base.specs.declared.limits.TheConstants.{INPUT_LIMIT, NAME_LIMIT};
 ghost use Rattle.decimal_number.specs.Number.{is_number, number};
 ghost use Rattle.script_text.specs.Kinds.{kind_of};
-ghost use Rattle.script_text.specs.Said.{hex_bytes, hex_word, verb_on};
+ghost use Rattle.script_text.specs.Said.{hex_bytes};
+ghost use Rattle.script_text.specs.Parts.{hex_word, verb_on};
 ghost use Rattle.script_text.specs.Rules.{is_hex, has_bad_hex};
 ghost use Rattle.script_text.specs.Seats.{seat, random_form};
 ghost use Rattle.script_text.specs.Text.{words, word};
@@ -210,7 +211,8 @@ fn windows_of(ticks: u32) -> Option<u32>
 impl Draft {
     ghost use Rattle.std.specs.Prelude.{◌≡◌, ◌≤◌, true, false, ℕ, List, [], IfOk};
     ghost use Rattle.script_text.specs.Alone.{IsLine};
-    ghost use Rattle.script_text.specs.Rules.{context_of, disorders, exceeds};
+    ghost use Rattle.script_text.specs.Rules.{disorders, exceeds};
+    ghost use Rattle.script_text.specs.Parts.{context_of};
     ghost use Rattle.script_text.specs.Settings.{AreSound};
     ghost use Rattle.script_text.specs.Text.{words};
     ghost use Rattle.script_text.specs.Seats.{stood_at, stood_after};

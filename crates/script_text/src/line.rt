@@ -6,7 +6,8 @@ ghost use Rattle.decimal_number.specs.Number.{is_number, number};
 ghost use Rattle.script_text.specs.Alone.{Says, broken_alone};
 ghost use Rattle.script_text.specs.Rules.{has_digits, is_hex, miscounts, misspells, has_bad_hex};
 ghost use Rattle.script_text.specs.Rules.{is_outside, is_unknown};
-ghost use Rattle.script_text.specs.Settings.{is_name, is_visible};
+ghost use Rattle.script_text.specs.Settings.{is_name};
+ghost use Rattle.script_text.specs.Parts.{is_visible};
 ghost use Rattle.script_text.specs.Table.{in_range};
 ghost use Rattle.script_text.specs.Text.{words, word};
 
@@ -103,7 +104,7 @@ impl Line {
     /// Whether it is not known: a line of buttons or of an operator, where there are time
     /// partitions.
     fn is_unknown(self, context: Context) -> bool
-        ensures { result ≡ is_unknown context self }
+        ensures { result ≡ is_unknown context.is_partitioned self }
     {
         match self {
             Line::Buttons | Line::Press | Line::Release | Line::Act => context.is_partitioned,
@@ -165,7 +166,7 @@ impl Form {
     fn is_outside(self, context: Context, line: &[u8]) -> bool
         requires spelled { misspells self (words line.now) ≡ false }
         requires some { IfSome self.number (λ n. 0 < n.range.multiple) }
-        ensures { result ≡ is_outside context self (words line.now) }
+        ensures { result ≡ is_outside context.buttons self (words line.now) }
     {
         let name = match self.name {
             Some(place) => !is_name(word_at(line, place)),

@@ -1,6 +1,7 @@
 //! The table of lines.
-ghost use Rattle.std.specs.Prelude.{◌≡◌, ◌<◌, false, Some, None, option_map, IfSome};
-ghost use Rattle.script_text.specs.Table.{row, timed, key_of, has_verb, line_fits, line_of};
+ghost use Rattle.std.specs.Prelude.{◌≡◌, ◌<◌, false, codes, Some, None, option_map, IfSome};
+ghost use Rattle.script_text.specs.Table.{row, from_to, has_verb, line_fits, line_of};
+ghost use Rattle.script_text.specs.Parts.{key_of};
 ghost use Rattle.script_text.specs.Text.{words};
 
 use crate::text::{word_at, word_count};
@@ -227,10 +228,17 @@ const fn chosen(
 /// A line of what comes at a time, which is told by its third word. Its fourth one is hex, or the
 /// number of a button.
 const fn timed(word: &'static [u8], button: Option<usize>, hex: Option<HexFrom>) -> Row
-    ensures name { result.name.now ≡ (timed word.now button hex).name }
-    ensures key { option_map key_of result.key ≡ (timed word.now button hex).key }
+    ensures name { result.name.now ≡ codes "at" }
+    ensures key { option_map key_of result.key ≡ Some (record { place = 2; word = word.now }) }
     ensures verb { result.verb ≡ None }
-    ensures form { result.form ≡ (timed word.now button hex).form }
+    ensures form { result.form ≡ record {
+      words = 4;
+      more = false;
+      number = Some (record { place = 1; range = from_to 0 4294967295 });
+      button = button;
+      name = None;
+      hex = hex;
+    } }
     ensures default { result.default ≡ 0 }
 {
     Row {

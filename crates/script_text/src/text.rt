@@ -1,7 +1,8 @@
 //! The lines of a script, and the words of a line.
 ghost use Rattle.std.specs.Prelude.{◌≡◌, ◌+◌, ◌≤◌, [], ◌∷◌, not, position, length, drop, MatchOption};
 ghost use Rattle.std.specs.Iterator.{YieldsFirstRef, item_count};
-ghost use Rattle.script_text.specs.Text.{is_line_feed, is_blank, lines, words, word, without_return};
+ghost use Rattle.script_text.specs.Text.{lines, words, word, without_return};
+ghost use Rattle.script_text.specs.Parts.{is_line_feed, is_blank};
 
 use std::marker::Model;
 

@@ -6,8 +6,10 @@ use Rattle.grant_values.specs.Words.{WordsInBytes, bytes_of_words, words_of}
 use Rattle.grant_values.specs.Drivers.{counts_of}
 use Rattle.tk_base.specs.declared.kinds.PairKind.{PairKind}
 use Rattle.grant_model.specs.declared.places.Area.{Area}
-use Rattle.tk_base.specs.Kinds.{count_of, pair_place}
-use Rattle.grant_model.specs.Grants.{shape_of, counts_or_none, with_grant, with_pair}
+use Rattle.tk_base.specs.Kinds.{count_of}
+use Rattle.tk_base.specs.Places.{pair_place}
+use Rattle.grant_model.specs.Grants.{shape_of, with_grant, with_pair}
+use Rattle.grant_values.specs.ByNumber.{counts_or_none}
 use Rattle.grant_model.specs.Encoding.{EncodesGrants, Tells, area_of, decode_grants}
 use Rattle.grant_model.specs.Laws.{ArePair, PairsAreFound}
 use Rattle.swap_tables.specs.Swaps.{IsPair, held_pair}

@@ -2,7 +2,7 @@
 ghost use Rattle.std.specs.Prelude.{◌≡◌, ℕ, ◌+◌, ◌*◌, ◌/◌, ◌≤◌, List, length, slice_index, slice_set};
 ghost use Rattle.grant_values.specs.Words.{bytes_of_words, words_of};
 ghost use Rattle.tk_base.specs.declared.kinds.PairKind.TheVariants.{Upcall, ReadOnly, ReadWrite, Readable};
-ghost use Rattle.tk_base.specs.Kinds.{pair_place};
+ghost use Rattle.tk_base.specs.Places.{pair_place};
 ghost use Rattle.swap_tables.specs.Swaps.{CanLookUp, held_pair};
 
 use grant_model::{Area, areas_are_found, pairs_are_found};

@@ -4,10 +4,11 @@ use Rattle.std.proofs.Common.{Option, None, Some, Result, Err, IsOk, refl, arith
 use Rattle.std.proofs.lemmas.List.{length-take-le}
 use Rattle.tbf_headers.specs.declared.fault.HeaderFault.{HeaderFault}
 use Rattle.tbf_headers.specs.declared.fault.HeaderFault.TheVariants.{Short, Version, Sizes, Checksum}
-use Rattle.tbf_headers.specs.Meaning.{Meaning, has_bad_sizes, header_of, header_reading, meaning_of, unless_bad}
+use Rattle.tbf_headers.specs.Meaning.{Meaning, has_bad_sizes, header_of, header_reading, meaning_of}
+use Rattle.tbf_headers.specs.Parts.{unless_bad}
 use Rattle.tbf_headers.specs.Numbers.{half, word_at, checksum}
 use Rattle.tbf_headers.specs.Shown.{IsChecked}
-use Rattle.tbf_headers.specs.Tlv.{first_bad}
+use Rattle.tbf_headers.specs.Parts.{first_bad}
 
 -- a refusal that is passed by
 record Passed (b : Bool) (fault : HeaderFault) (r : Result Meaning HeaderFault) : Type 0 where

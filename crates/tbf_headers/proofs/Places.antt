@@ -7,8 +7,10 @@ use Rattle.std.proofs.lemmas.Bool.{le-leb, lt-leb, cases_lt, eqb-true, eqb-false
 use Rattle.std.proofs.lemmas.Grind.{common_steps}
 use Rattle.std.proofs.Math.Numerals.{add-one}
 use Rattle.tbf_headers.specs.Numbers.{half, word_at, xor_of_words}
-use Rattle.tbf_headers.specs.Tlv.{type_at, length_at, least_length, is_bad, is_of_type, first_bad, first_of, tlv_places}
-use Rattle.tbf_headers.specs.Tlv.{tlv_places_from, place_after}
+use Rattle.tbf_headers.specs.Tlv.{length_at, least_length, is_bad, first_of, tlv_places}
+use Rattle.tbf_headers.specs.Parts.{type_at, is_of_type, first_bad}
+use Rattle.tbf_headers.specs.Tlv.{tlv_places_from}
+use Rattle.tbf_headers.specs.Parts.{place_after}
 
 -- one word more under the checksum
 pub xor_of_words-more : (k : ℕ) (header : List ℕ)

@@ -1,6 +1,7 @@
 -- Where an application's parts lie, for an object at an address (Tock Binary Format, "Main" and "Program"). The
 -- offsets in a header count from the object's start, the init offset and the protected size from the header's end.
-use Rattle.std.specs.Prelude.{ℕ, ◌+◌, Option, Some, None}
+use Rattle.std.specs.Prelude.{ℕ, ◌+◌}
+use Rattle.std.specs.Option.{option_map_or}
 use Rattle.tbf_headers.specs.declared.app.AppStart.{AppStart}
 use Rattle.tbf_headers.specs.declared.program.Main.{Main}
 use Rattle.tk_base.specs.Numbers.{rounded_up}
@@ -27,10 +28,6 @@ abbrev pub accessible_start : ℕ → Meaning → Main → ℕ
 accessible_start start h m = rounded_up (after_protected start h m)
 
 -- the end of accessible flash: the object's, or with a Program header the binary's rounded up to 4
-abbrev pub accessible_end : ℕ → ℕ → Option ℕ → ℕ
-accessible_end start total None = start + total
-accessible_end start total (Some binary_end) = rounded_up (start + binary_end)
-
--- the same by what the header means
 abbrev pub accessible_end_of : ℕ → Meaning → Main → ℕ
-accessible_end_of start h m = accessible_end start h.total_size m.binary_end
+accessible_end_of start h m =
+    option_map_or (λ binary_end. rounded_up (start + binary_end)) m.binary_end (start + h.total_size)

@@ -5,3 +5,4 @@ pub mod Meaning
 pub mod Shown
 pub mod Addresses
 pub mod Objects
+pub mod Parts

@@ -1,11 +1,12 @@
 -- What the bytes of an object's header mean, or the first fault in them (Tock Binary Format, "TBF Header Base").
 use Rattle.std.specs.Prelude.{ℕ, ◌+◌, ◌*◌, ◌/◌, ◌%◌, ◌==◌, Bool, not, ◌||◌, nat_lt, if◌then◌else◌, List, length, take}
-use Rattle.std.specs.Prelude.{Option, Some, None, option_map, Result, Ok, Err}
+use Rattle.std.specs.Prelude.{find, Option, Some, None, option_map, Result, Ok, Err}
+use Rattle.std.specs.Option.{option_map_or}
 use Rattle.tbf_headers.specs.declared.fault.HeaderFault.{HeaderFault}
 use Rattle.tbf_headers.specs.declared.fault.HeaderFault.TheVariants.{Short, Version, Sizes, Checksum, Tlv}
 use Rattle.tbf_headers.specs.declared.program.Main.{Main}
 use Rattle.tbf_headers.specs.Numbers.{half, word_at, checksum}
-use Rattle.tbf_headers.specs.Tlv.{first_bad, content}
+use Rattle.tbf_headers.specs.Tlv.{content, is_bad, tlv_places}
 
 -- what a header says: its size and the object's, its flags, and of each TLV that it has the content
 pub record Meaning : Type 0 where
@@ -25,18 +26,10 @@ pub record Meaning : Type 0 where
 abbrev pub main_of : List ℕ → Main
 main_of c = record { init = word_at c 0; protected = word_at c 4; minimum_ram = word_at c 8; binary_end = None }
 
--- the content of Program: the same, and then the binary's end
-abbrev pub program_of : List ℕ → Main
-program_of c = record (main_of c) { binary_end = Some (word_at c 12) }
-
--- Program takes precedence over Main
+-- Program takes precedence over Main: its content is the same, and then the binary's end
 abbrev pub program_or_main : Option (List ℕ) → Option (List ℕ) → Option Main
-program_or_main (Some program) main = Some (program_of program)
+program_or_main (Some program) main = Some (record (main_of program) { binary_end = Some (word_at program 12) })
 program_or_main None main = option_map main_of main
-
--- the content of Fixed Addresses: where its RAM begins, and where its flash does
-abbrev pub fixed_of : List ℕ → ℕ × ℕ
-fixed_of c = (word_at c 0, word_at c 4)
 
 -- the total size is 0, beyond the bytes or no multiple of 4, or the header size is below 16, above the total
 -- or no multiple of 4
@@ -57,16 +50,11 @@ meaning_of bytes = record {
   total_size = word_at bytes 4;
   flags = word_at bytes 8;
   main = program_or_main (content 9 (header_of bytes)) (content 1 (header_of bytes));
-  fixed = option_map fixed_of (content 5 (header_of bytes));
+  fixed = option_map (λ c. (word_at c 0, word_at c 4)) (content 5 (header_of bytes));
   name = content 3 (header_of bytes);
   regions = content 2 (header_of bytes);
   permissions = content 6 (header_of bytes);
 }
-
--- the meaning, or that a TLV is bad
-abbrev pub unless_bad : Option ℕ → Meaning → Result Meaning HeaderFault
-unless_bad None meaning = Ok meaning
-unless_bad (Some at) meaning = Err (Tlv at)
 
 -- the meaning of an object's bytes, or the first fault, in this order
 unfoldable pub header_reading : List ℕ → Result Meaning HeaderFault
@@ -75,7 +63,8 @@ header_reading bytes =
     else (if not (half bytes 0 == 2) then Err Version
     else (if has_bad_sizes bytes then Err Sizes
     else (if not (word_at bytes 12 == checksum (header_of bytes)) then Err Checksum
-    else unless_bad (first_bad (header_of bytes)) (meaning_of bytes))))
+    else option_map_or (λ at. Err (Tlv at)) (find (is_bad (header_of bytes)) (tlv_places (header_of bytes)))
+    (Ok (meaning_of bytes)))))
 
 -- writeable flash region n (Tock Binary Format, "Writeable Flash Regions"): pairs of offset and size
 abbrev pub region_in : ℕ → List ℕ → Option (ℕ × ℕ)
@@ -85,6 +74,11 @@ region_in n c = if nat_lt n (length c / 8) then Some (word_at c (8 * n), word_at
 abbrev pub region_count : Option (List ℕ) → ℕ
 region_count None = 0
 region_count (Some c) = length c / 8
+
+-- what follows from a header that can be read and says where its application starts
+abbrev pub of_app : {A : Type 0} → (Meaning → Main → A) → Result Meaning HeaderFault → Option A
+of_app f (Ok h) = option_map (f h) h.main
+of_app f (Err fault) = None
 
 -- where an application starts, as its header says, if it can be read and says so
 abbrev pub main_by : Result Meaning HeaderFault → Option Main

@@ -6,8 +6,9 @@ use Rattle.tbf_headers.specs.declared.header.Header.{Header}
 use Rattle.tbf_headers.specs.declared.perms.Perms.{Perms}
 use Rattle.tbf_headers.specs.declared.regions.Regions.{Regions}
 use Rattle.tbf_headers.specs.Numbers.{half, word_at}
-use Rattle.tbf_headers.specs.Tlv.{first_bad}
-use Rattle.tbf_headers.specs.Meaning.{Meaning, header_reading, header_of, unless_bad, meaning_of}
+use Rattle.tbf_headers.specs.Parts.{first_bad}
+use Rattle.tbf_headers.specs.Meaning.{Meaning, header_reading, header_of, meaning_of}
+use Rattle.tbf_headers.specs.Parts.{unless_bad}
 
 -- the content of the Permissions TLV
 abbrev pub permissions_of : Perms → List ℕ

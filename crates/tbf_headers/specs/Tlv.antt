@@ -5,23 +5,16 @@ use Rattle.std.specs.Prelude.{[], ◌∷◌, length, find, slice_range, Option, 
 use Rattle.tk_base.specs.Numbers.{rounded_up}
 use Rattle.tbf_headers.specs.Numbers.{half}
 
--- the type of the TLV at a place, and the length of its content
-abbrev pub type_at : List ℕ → ℕ → ℕ
-type_at header at = half header at
-
--- the length of the TLV at a place
+-- the length of the content of the TLV at a place, which stands after its type
 abbrev pub length_at : List ℕ → ℕ → ℕ
 length_at header at = half header (at + 2)
 
--- where the TLV after the one at a place stands
-abbrev pub place_after : List ℕ → ℕ → ℕ
-place_after header at = at + 4 + rounded_up (length_at header at)
-
--- the places of the TLVs from a place on: none at the header's end, of which there are no more than the number
+-- the places of the TLVs from a place on, no more than the number: none at the header's end, and each next one behind
+-- the padded content
 unfoldable pub tlv_places_from : ℕ → List ℕ → ℕ → List ℕ
 tlv_places_from zero header at = []
 tlv_places_from (suc n) header at =
-    if nat_le (length header) at then [] else at ∷ tlv_places_from n header (place_after header at)
+    if nat_le (length header) at then [] else at ∷ tlv_places_from n header (at + 4 + rounded_up (length_at header at))
 
 -- the places of all TLVs of a header
 abbrev pub tlv_places : List ℕ → List ℕ
@@ -37,20 +30,12 @@ least_length kind =
 abbrev pub is_bad : List ℕ → ℕ → Bool
 is_bad header at =
     nat_lt (length header) (at + 4 + length_at header at)
-    || nat_lt (length_at header at) (least_length (type_at header at))
-    || (type_at header at == 6 && nat_lt (length_at header at) (2 + 16 * half header (at + 4)))
-
--- the first TLV that is bad
-abbrev pub first_bad : List ℕ → Option ℕ
-first_bad header = find (is_bad header) (tlv_places header)
-
--- the TLV at a place is of a type
-abbrev pub is_of_type : ℕ → List ℕ → ℕ → Bool
-is_of_type kind header at = type_at header at == kind
+    || nat_lt (length_at header at) (least_length (half header at))
+    || (half header at == 6 && nat_lt (length_at header at) (2 + 16 * half header (at + 4)))
 
 -- the place of the first TLV of a type
 abbrev pub first_of : ℕ → List ℕ → Option ℕ
-first_of kind header = find (is_of_type kind header) (tlv_places header)
+first_of kind header = find (λ at. half header at == kind) (tlv_places header)
 
 -- the content of the first TLV of a type, a slice of the header's bytes
 abbrev pub content : ℕ → List ℕ → Option (List ℕ)

@@ -4,9 +4,11 @@ ghost use Rattle.std.specs.Prelude.{IfSome, IfOk, option_map, option_and_then, M
 ghost use Rattle.std.specs.Option.{option_copied};
 ghost use Rattle.tbf_headers.specs.Addresses.{entry_of, start_by};
 ghost use Rattle.tbf_headers.specs.Numbers.{word_at};
-ghost use Rattle.tbf_headers.specs.Tlv.{first_bad, content};
+ghost use Rattle.tbf_headers.specs.Tlv.{content};
+ghost use Rattle.tbf_headers.specs.Parts.{first_bad};
 ghost use Rattle.tbf_headers.specs.Meaning.{header_reading, meaning_of, region_in, region_count};
-ghost use Rattle.tbf_headers.specs.Meaning.{program_of, main_of, program_or_main, fixed_of};
+ghost use Rattle.tbf_headers.specs.Meaning.{main_of, program_or_main};
+ghost use Rattle.tbf_headers.specs.Parts.{program_of, fixed_of};
 ghost use Rattle.tbf_headers.specs.Shown.{shown, shown_result, permissions_of, regions_of};
 ghost use Rattle.tbf_headers.specs.Shown.{IsChecked, IsSized};
 

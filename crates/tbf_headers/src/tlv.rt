@@ -2,8 +2,9 @@
 ghost use Rattle.std.specs.Prelude.{◌≡◌, ◌+◌, ◌%◌, ◌*◌, ◌<◌, ◌≤◌, length, None, IfSome};
 ghost use Rattle.std.specs.Option.{option_copied};
 ghost use Rattle.tbf_headers.specs.Numbers.{half};
-ghost use Rattle.tbf_headers.specs.Tlv.{is_bad, first_bad, first_of, content, least_length};
-ghost use Rattle.tbf_headers.specs.Tlv.{place_after};
+ghost use Rattle.tbf_headers.specs.Tlv.{is_bad, first_of, content, least_length};
+ghost use Rattle.tbf_headers.specs.Parts.{first_bad};
+ghost use Rattle.tbf_headers.specs.Parts.{place_after};
 
 use crate::numbers::half_at;
 

@@ -19,8 +19,7 @@ width_bytes Word = 4
 -- Instructions")
 abbrev pub is_misaligned : Access → ℕ → Width → Bool
 is_misaligned Fetch at width = false
-is_misaligned Load at width = not (at % width_bytes width == 0)
-is_misaligned Store at width = not (at % width_bytes width == 0)
+is_misaligned access at width = not (at % width_bytes width == 0)
 
 -- a misaligned load or store is denied as such, whatever else would deny it: the higher of the two priorities that
 -- the privileged manual permits ("Machine Cause Register (mcause)", the table of exception priority)

@@ -1,6 +1,6 @@
 -- The kinds of pairs that a process hands to a driver (TRD 104, "Subscribe", "Read-Only Allow", "Read-Write Allow"; the
 -- userspace-readable allow of Tock's kernel), in the order in which they stand in a grant.
-use Rattle.std.specs.Prelude.{ℕ, ◌+◌, Bool, true, false, List, [], ◌∷◌, slice_index, take}
+use Rattle.std.specs.Prelude.{ℕ, Bool, true, false, List, [], ◌∷◌, slice_index, take}
 use Rattle.std.specs.List.{sum}
 use Rattle.tk_base.specs.declared.upcall.Counts.{Counts}
 use Rattle.tk_base.specs.declared.kinds.PairKind.{PairKind}
@@ -28,10 +28,6 @@ pairs_before kind counts = sum (take (rank_of kind) (pair_counts counts))
 -- how many pairs a driver has, of all kinds
 abbrev pub pair_count : Counts → ℕ
 pair_count counts = sum (pair_counts counts)
-
--- where pair n of a kind stands among all pairs of a driver
-abbrev pub pair_place : PairKind → ℕ → Counts → ℕ
-pair_place kind n counts = pairs_before kind counts + n
 
 -- whether a pair of a kind is a buffer: its address and its size
 abbrev pub is_buffer : PairKind → Bool

@@ -4,6 +4,7 @@ pub mod Bus
 pub mod Bytes
 pub mod Call
 pub mod Kinds
+pub mod Places
 pub mod Laws
 pub mod Limits
 pub mod Numbers

@@ -12,10 +12,8 @@ verb_text verbs.Start = codes "start"
 verb_text verbs.Terminate = codes "terminate"
 verb_text verbs.Restart = codes "restart"
 
--- all verbs
-abbrev pub all_verbs : List Verb
-all_verbs = verbs.List ∷ verbs.Stop ∷ verbs.Start ∷ verbs.Terminate ∷ verbs.Restart ∷ []
-
 -- the verb that a word is, if it is one
 unfoldable pub verb_of : List ℕ → Option Verb
-verb_of w = find (λ verb. bytes_eq w (verb_text verb)) all_verbs
+verb_of w =
+    let all = verbs.List ∷ verbs.Stop ∷ verbs.Start ∷ verbs.Terminate ∷ verbs.Restart ∷ [] in
+    find (λ verb. bytes_eq w (verb_text verb)) all

@@ -8,7 +8,8 @@ ghost use Rattle.tool_tasks.specs.Comes.{Running};
 ghost use Rattle.tool_tasks.specs.Causes.{told_by};
 ghost use Rattle.tool_tasks.specs.Ready.{IsWithinLimits, task_of};
 ghost use Rattle.tool_answers.specs.Accounts.{RunIsAccountedFor, RunIsPartitioned};
-ghost use Rattle.tool_answers.specs.Served.{Happens, TaskEnds, TaskIs, Serves, sink_account};
+ghost use Rattle.tool_answers.specs.Served.{Serves};
+ghost use Rattle.tool_answers.specs.Parts.{Happens, TaskEnds, TaskIs, sink_account};
 
 use board_core::Board;
 use board_opening::runs_from_boot_are_accounted_for;

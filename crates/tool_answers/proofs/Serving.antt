@@ -1,6 +1,6 @@
 -- From what happened to what the program's answer says.
 use Rattle.std.specs.Prelude.{⊤}
-use Rattle.std.proofs.Common.{◌≡◌, ℕ, zero, suc, List, [], Option, None, Some, IsSome, Ok, ◌↔◌, inl}
+use Rattle.std.proofs.Common.{◌≡◌, ◌≢◌, ◌≤◌, arith, ℕ, zero, suc, List, [], Option, None, Some, IsSome, Ok, ◌↔◌, inl}
 use Rattle.std.proofs.Common.{inr, refl, sym, subst}
 use Rattle.kernel_model.specs.World.{World}
 use Rattle.tool_words.specs.declared.refusal.File.{File}
@@ -12,9 +12,13 @@ use Rattle.tool_words.specs.Words.{Command}
 use Rattle.tool_words.specs.Refusals.{refusal_line}
 use Rattle.tool_tasks.specs.Comes.{Task, IsTask, comes_to, files_of, left_by}
 use Rattle.tool_tasks.specs.Causes.{ShelfAccount, Cause}
-use Rattle.tool_answers.specs.Served.{SinkAccount, All, Happens, exit_status_of, RefusalIs, TaskIs, TaskEnds}
+use Rattle.tool_answers.specs.Served.{SinkAccount, All}
+use Rattle.tool_answers.specs.Parts.{IsWritten, SinkRose}
+use Rattle.script_text.specs.declared.rule.ScriptRule.{ScriptRule}
+use Rattle.tool_words.specs.declared.refusal.ImageFault.{ImageFault}
+use Rattle.tool_answers.specs.Parts.{Happens, exit_status_of, RefusalIs, TaskIs, TaskEnds}
 use Rattle.tool_answers.specs.Served.{LeavesBoard, Decided}
-use Rattle.tool_answers.specs.Served.{ProgramDoes, TaskIsDone, TaskIsRefused, IsBadScript, SinkFault, IsBadImage}
+use Rattle.tool_answers.specs.Served.{ProgramDoes, TaskIsDone, TaskIsRefused, SinkFault}
 use Rattle.tool_answers.proofs.Tasks.{of_command}
 use Rattle.tool_tasks.proofs.Files.{all_texts}
 use Rattle.tool_answers.proofs.Decided.{by_task, by_refusal, by_fault, by_memory}
@@ -27,35 +31,41 @@ command_leaves : (command : Command) (texts : List (List ℕ)) (task : Task) →
     → LeavesAlike (left_by task) (LeavesBoard (Some command))
 command_leaves =
     of_command (λ command task. LeavesAlike (left_by task) (LeavesBoard (Some command)))
-    (λ words flash settings. (λ u. refl, λ s. tt)) (λ number turns settings. (λ u. refl, λ s. tt)) (λ name flash. none)
-    (λ names flash. none) (λ words flash. none)
+    (λ mode name script turns flash settings. (λ u. refl, λ s. tt))
+    (λ number turns settings. (λ u. refl, λ s. tt)) (λ name flash. none) (λ names flash. none)
+    (λ name offset edit flash. none)
   where
     none : LeavesAlike None ⊥
     none = (λ b. absurd b, λ s. cc)
 
 module _ (told : ShelfAccount) (sent : SinkAccount) (last : Option World) where
-  decided : (words : Option Command) (o : ServeOutcome) → Happens told sent words last o
-      → Decided told sent words (exit_status_of o)
-  decided None Done h = absurd h.given
+  -- where a part of a text was written, the sink's count rose
+  sink_rose : (words : Option Command) → SinkFault told sent words → SinkRose sent
+  sink_rose words (inl part) = part.2.rose
+  sink_rose words (inr part) = part.2.rose
+
+  decided : (words : Option Command) (o : ServeOutcome) → Happens told sent words last o → IsWritten sent
+      → Decided told words (exit_status_of o)
+  decided None Done h = absurd h.1
   decided None (Refused Usage) h = λ w. refl
-  decided None (Refused (Fault file)) h = absurd h.0.cause
-  decided None (Refused (TooLong file)) h = absurd h.0.cause
-  decided None (Refused (Script line rule)) h = absurd h.0.cause
-  decided None (Refused (Image fault)) h = absurd h.0.cause
-  decided None (Refused Memory) h = absurd h.0.cause
-  decided None SinkFailed h = λ w. absurd (w h.0.rose)
-  decided (Some command) Done h = λ w. by_task told command _ (files_of command) [] h.given
-  decided (Some command) (Refused Usage) h = absurd h.0.cause
+  decided None (Refused (Fault file)) h = absurd h.0.0
+  decided None (Refused (TooLong file)) h = absurd h.0.0
+  decided None (Refused (Script line rule)) h = absurd h.0.0
+  decided None (Refused (Image fault)) h = absurd h.0.0
+  decided None (Refused Memory) h = absurd h.0.0
+  decided None SinkFailed h = λ w. absurd (w (sink_rose None h.0))
+  decided (Some command) Done h = λ w. by_task told command _ (files_of command) [] h.1
+  decided (Some command) (Refused Usage) h = absurd h.0.0
   decided (Some command) (Refused (Fault file)) h =
-      λ w. by_fault told command 3 file h.0.cause.0 (files_of command) [] h.0.cause.1
+      λ w. by_fault told command 3 file h.0.0.0 (files_of command) [] h.0.0.1
   decided (Some command) (Refused (TooLong file)) h =
-      λ w. by_refusal told command (TooLong file) (files_of command) [] h.0.cause
+      λ w. by_refusal told command (TooLong file) (files_of command) [] h.0.0
   decided (Some command) (Refused (Script line rule)) h =
-      λ w. by_refusal told command (Script line rule) (files_of command) [] h.0.cause
+      λ w. by_refusal told command (Script line rule) (files_of command) [] h.0.0
   decided (Some command) (Refused (Image fault)) h =
-      λ w. by_refusal told command (Image fault) (files_of command) [] h.0.cause
+      λ w. by_refusal told command (Image fault) (files_of command) [] h.0.0
   decided (Some command) (Refused Memory) h = λ w. by_memory told command (files_of command) []
-  decided (Some command) SinkFailed h = λ w. absurd (w h.0.rose)
+  decided (Some command) SinkFailed h = λ w. absurd (w (sink_rose (Some command) h.0))
 
   none_left : last ≡ None → IsSome last → ⊥
   none_left e s = absurd (no_some last e s)
@@ -65,18 +75,18 @@ module _ (told : ShelfAccount) (sent : SinkAccount) (last : Option World) where
       no_some (Some w) e s = cc
 
   -- a board is left by a run
-  task_leaves : (words : Option Command) (task : Task) → IsTask told.bytes words task
+  task_leaves : (words : Option Command) (task : Task) → IsTask told.before.bytes words task
       → LeavesAlike (left_by task) (LeavesBoard words)
   task_leaves None task h = absurd h
   task_leaves (Some command) task h =
-      let all = all_texts told.bytes command _ (files_of command) [] h in
+      let all = all_texts told.before.bytes command _ (files_of command) [] h in
       command_leaves command all.0 task all.1
 
-  board_left : (words : Option Command) (task : Task) → IsTask told.bytes words task → last ≡ left_by task
+  board_left : (words : Option Command) (task : Task) → IsTask told.before.bytes words task → last ≡ left_by task
       → LeavesBoard words → IsSome last
   board_left words task h e b = subst (λ (o : Option World). IsSome o) (sym e) ((task_leaves words task h).0 b)
 
-  run_left : (words : Option Command) (task : Task) → IsTask told.bytes words task → last ≡ left_by task → IsSome last
+  run_left : (words : Option Command) (task : Task) → IsTask told.before.bytes words task → last ≡ left_by task → IsSome last
       → LeavesBoard words
   run_left words task h e s = (task_leaves words task h).1 (subst (λ (o : Option World). IsSome o) e s)
 
@@ -90,16 +100,34 @@ module _ (told : ShelfAccount) (sent : SinkAccount) (last : Option World) where
   Says words (suc (suc zero)) = TaskIsRefused told sent words Usage
   Says words (suc (suc (suc zero))) = (file : File) × TaskIsRefused told sent words (Fault file)
   Says words (suc (suc (suc (suc zero)))) = (file : File) × TaskIsRefused told sent words (TooLong file)
-  Says words (suc (suc (suc (suc (suc zero))))) = IsBadScript told sent words
+  Says words (suc (suc (suc (suc (suc zero))))) = (line : ℕ) × (rule : ScriptRule) × TaskIsRefused told sent words (Script line rule)
   Says words (suc (suc (suc (suc (suc (suc zero)))))) = SinkFault told sent words
   Says words (suc (suc (suc (suc (suc (suc (suc zero))))))) = TaskIsRefused told sent words Memory
-  Says words (suc (suc (suc (suc (suc (suc (suc (suc zero)))))))) = IsBadImage told sent words
+  Says words (suc (suc (suc (suc (suc (suc (suc (suc zero)))))))) = (fault : ImageFault) × TaskIsRefused told sent words (Image fault)
   Says words (suc (suc (suc (suc (suc (suc (suc (suc (suc n))))))))) = ⊤
+
+  -- no answer is 1
+  apart : (n : ℕ) → 2 ≤ n → n ≢ 1
+  apart n least e = omega (arith, least, e)
+
+  zero_apart : (n : ℕ) → n ≡ 0 → n ≢ 1
+  zero_apart n none e = omega (arith, none, e)
+
+  -- the answers that there are
+  listed : (o : ServeOutcome) → (exit_status_of o ≤ 8) × (exit_status_of o ≢ 1)
+  listed Done = let at : (0 ≤ 8) × (0 ≢ 1) = (omega arith, zero_apart 0 refl) in at
+  listed (Refused Usage) = let at : (2 ≤ 8) × (2 ≢ 1) = (omega arith, apart 2 (omega arith)) in at
+  listed (Refused (Fault file)) = let at : (3 ≤ 8) × (3 ≢ 1) = (omega arith, apart 3 (omega arith)) in at
+  listed (Refused (TooLong file)) = let at : (4 ≤ 8) × (4 ≢ 1) = (omega arith, apart 4 (omega arith)) in at
+  listed (Refused (Script line rule)) = let at : (5 ≤ 8) × (5 ≢ 1) = (omega arith, apart 5 (omega arith)) in at
+  listed (Refused (Image fault)) = let at : (8 ≤ 8) × (8 ≢ 1) = (omega arith, apart 8 (omega arith)) in at
+  listed (Refused Memory) = let at : (7 ≤ 8) × (7 ≢ 1) = (omega arith, apart 7 (omega arith)) in at
+  listed SinkFailed = let at : (6 ≤ 8) × (6 ≢ 1) = (omega arith, apart 6 (omega arith)) in at
 
   -- an answer says what its number says, and nothing of the other answers
   by_number : (words : Option Command) (o : ServeOutcome) → Says words (exit_status_of o)
-      → IsSome last ↔ ((exit_status_of o ≡ 0) × LeavesBoard words) → Decided told sent words (exit_status_of o)
-      → ProgramDoes told sent words last (exit_status_of o)
+      → IsSome last ↔ ((exit_status_of o ≡ 0) × LeavesBoard words)
+      → (IsWritten sent → Decided told words (exit_status_of o)) → ProgramDoes told sent words last (exit_status_of o)
   by_number words o says left decides = record {
     done = at 0;
     usage = at 2;
@@ -109,7 +137,7 @@ module _ (told : ShelfAccount) (sent : SinkAccount) (last : Option World) where
     sink = at 6;
     memory = at 7;
     image = at 8;
-    answers = (o, refl);
+    answers = listed o;
     left = left;
     decided = decides;
   }
@@ -122,8 +150,8 @@ module _ (told : ShelfAccount) (sent : SinkAccount) (last : Option World) where
       → ProgramDoes told sent words last (exit_status_of o)
   answers_at words Done h =
       by_number words Done h (
-        λ s. (refl, run_left words h.task h.given h.left s),
-        λ e. board_left words h.task h.given h.left e.1,
+        λ s. (refl, run_left words h.0 h.1 h.3 s),
+        λ e. board_left words h.0 h.1 h.3 e.1,
       ) (decided words Done h)
   answers_at words (Refused Usage) h =
       by_number words (Refused Usage) h.0 (no_board 2 words h.1 (λ e. cc)) (decided words (Refused Usage) h)
@@ -134,10 +162,10 @@ module _ (told : ShelfAccount) (sent : SinkAccount) (last : Option World) where
       by_number words (Refused (TooLong file)) (file, h.0) (no_board 4 words h.1 (λ e. cc))
       (decided words (Refused (TooLong file)) h)
   answers_at words (Refused (Script line rule)) h =
-      by_number words (Refused (Script line rule)) (record { line = line; rule = rule; refused = h.0 })
+      by_number words (Refused (Script line rule)) (line, rule, h.0)
       (no_board 5 words h.1 (λ e. cc)) (decided words (Refused (Script line rule)) h)
   answers_at words (Refused (Image fault)) h =
-      by_number words (Refused (Image fault)) (record { fault = fault; refused = h.0 })
+      by_number words (Refused (Image fault)) (fault, h.0)
       (no_board 8 words h.1 (λ e. cc)) (decided words (Refused (Image fault)) h)
   answers_at words (Refused Memory) h =
       by_number words (Refused Memory) h.0 (no_board 7 words h.1 (λ e. cc)) (decided words (Refused Memory) h)
@@ -150,43 +178,31 @@ pub refused_happens : (told : ShelfAccount) (sent : SinkAccount) (words : Option
     → Happens told sent words last o
 refused_happens told sent words last refusal Done c e r = absurd r
 refused_happens told sent words last refusal (Refused other) c e r = (
-  record {
-    cause = subst (λ (x : Refusal). Cause told words x) (sym r.0) c;
-    line = subst (λ (x : Refusal). All sent (refusal_line x)) (sym r.0) r.1;
-  },
+  (
+    subst (λ (x : Refusal). Cause told words x) (sym r.0) c,
+    subst (λ (x : Refusal). All sent (refusal_line x)) (sym r.0) r.1,
+  ),
   e,
 )
-refused_happens told sent words last refusal SinkFailed c e r = (
-  record {
-    rose = r.rose;
-    part = inr (record { refusal = refusal; cause = c; part = r });
-  },
-  e,
-)
+refused_happens told sent words last refusal SinkFailed c e r = (inr (refusal, c, r), e)
 
 -- what doing a task leads to
 pub task_happens : (told : ShelfAccount) (sent : SinkAccount) (words : Option Command) (last : Option World)
-    (task : Task) (o : ServeOutcome) → IsTask told.bytes words task → TaskIs sent task last o
+    (task : Task) (o : ServeOutcome) → IsTask told.before.bytes words task → TaskIs sent task last o
     → Happens told sent words last o
-task_happens told sent words last task Done h r = record { task = task; given = h; text = r.0; left = r.1 }
+task_happens told sent words last task Done h r = (task, h, r.0, r.1)
 task_happens told sent words last task (Refused refusal) h r = absurd r
-task_happens told sent words last task SinkFailed h r = (
-  record {
-    rose = r.0.rose;
-    part = inl (record { task = task; given = h; part = r.0 });
-  },
-  r.1,
-)
+task_happens told sent words last task SinkFailed h r = (inl (task, h, r.0), r.1)
 
 -- and where a board may have to be made first
 pub ends_happen : (told : ShelfAccount) (sent : SinkAccount) (words : Option Command) (last : Option World)
-    (task : Task) (o : ServeOutcome) → IsTask told.bytes words task → TaskEnds sent task last o
+    (task : Task) (o : ServeOutcome) → IsTask told.before.bytes words task → TaskEnds sent task last o
     → Happens told sent words last o
 ends_happen told sent words last task o h (inl r) = task_happens told sent words last task o h r
 ends_happen told sent words last task o h (inr r) =
     refused_happens told sent words last Memory o (no_memory words h) r.1 r.0
   where
-    no_memory : (words : Option Command) → IsTask told.bytes words task → Cause told words Memory
+    no_memory : (words : Option Command) → IsTask told.before.bytes words task → Cause told words Memory
     no_memory None h = absurd h
     no_memory (Some command) h = tt
 

@@ -10,18 +10,20 @@ use Rattle.board_opening.specs.Opening.{opening}
 use Rattle.tool_words.specs.declared.refusal.Refusal.{Refusal}
 use Rattle.run_text.specs.declared.mode.Mode.{Mode}
 use Rattle.run_text.specs.declared.mode.Mode.TheVariants.{Soak}
-use Rattle.tool_words.specs.Words.{Command, Runs, Lists, Soaks, Packs, Edits, EditWords, RunWords}
-use Rattle.tool_tasks.specs.Comes.{Task, Running, Listing, Making, comes_to, edit_made, edited_by, pack_made, run_under}
+use Rattle.tool_words.specs.Words.{Command, Edit, Runs, Lists, Soaks, Packs, Edits}
+use Rattle.tool_tasks.specs.Comes.{Task, Running, Listing, Making, comes_to, edited_by, run_under}
+use Rattle.tool_tasks.specs.Parts.{edit_made, pack_made}
 
 -- what holds of the tasks that each command may come to holds of the one that a command comes to
 module _ (P : Command → Task → Type 0)
-    (runs : (words : RunWords) (flash : List ℕ) (settings : ScriptSettings)
-    → P (Runs words) (Running words.mode words.turns (opening settings flash)))
+    (runs : (mode : Mode) (name script : List ℕ) (turns : ℕ) (flash : List ℕ) (settings : ScriptSettings)
+    → P (Runs mode name script turns) (Running mode turns (opening settings flash)))
     (soaks : (number turns : ℕ) (settings : ScriptSettings)
     → P (Soaks number turns) (Running Soak turns (opening settings (soak_flash number))))
     (lists : (name flash : List ℕ) → P (Lists name) (Listing flash))
     (packs : (names : List (List ℕ)) (flash : List ℕ) → P (Packs names) (Making flash))
-    (edits : (words : EditWords) (flash : List ℕ) → P (Edits words) (Making flash)) where
+    (edits : (name : List ℕ) (offset : ℕ) (edit : Edit) (flash : List ℕ)
+    → P (Edits name offset edit) (Making flash)) where
   at_task : (command : Command) (made task : Task) → P command made
       → ◌≡◌ {A = Option (Result Task Refusal)} (Some (Ok made)) (Some (Ok task)) → P command task
   at_task command made task holds e = let same : made ≡ task = cc in subst (P command) same holds
@@ -38,19 +40,20 @@ module _ (P : Command → Task → Type 0)
   of_pack names (Ok flash) task e = at_task (Packs names) (Making flash) task (packs names flash) e
   of_pack names (Err fault) task e = absurd (cc)
 
-  of_edit : (words : EditWords) (r : Result (List ℕ) EditFault) (task : Task) → Some (edit_made r) ≡ Some (Ok task)
-      → P (Edits words) task
-  of_edit words (Ok flash) task e = at_task (Edits words) (Making flash) task (edits words flash) e
-  of_edit words (Err fault) task e = absurd (cc)
+  of_edit : (name : List ℕ) (offset : ℕ) (edit : Edit) (r : Result (List ℕ) EditFault) (task : Task)
+      → Some (edit_made r) ≡ Some (Ok task) → P (Edits name offset edit) task
+  of_edit name offset edit (Ok flash) task e =
+      at_task (Edits name offset edit) (Making flash) task (edits name offset edit flash) e
+  of_edit name offset edit (Err fault) task e = absurd (cc)
 
   pub of_command : (command : Command) (texts : List (List ℕ)) (task : Task) → comes_to command texts ≡ Some (Ok task)
       → P command task
   unfolding comes_to
-  of_command (Runs words) [] task e = absurd (cc)
-  of_command (Runs words) (flash ∷ []) task e = absurd (cc)
-  of_command (Runs words) (flash ∷ script ∷ []) task e =
-      of_run (Runs words) words.mode words.turns flash (reading script) task (runs words flash) e
-  of_command (Runs words) (flash ∷ script ∷ more ∷ texts) task e = absurd (cc)
+  of_command (Runs mode name other turns) [] task e = absurd (cc)
+  of_command (Runs mode name other turns) (flash ∷ []) task e = absurd (cc)
+  of_command (Runs mode name other turns) (flash ∷ script ∷ []) task e =
+      of_run (Runs mode name other turns) mode turns flash (reading script) task (runs mode name other turns flash) e
+  of_command (Runs mode name other turns) (flash ∷ script ∷ more ∷ texts) task e = absurd (cc)
   of_command (Lists name) [] task e = absurd (cc)
   of_command (Lists name) (flash ∷ []) task e = at_task (Lists name) (Listing flash) task (lists name flash) e
   of_command (Lists name) (flash ∷ more ∷ texts) task e = absurd (cc)
@@ -59,6 +62,7 @@ module _ (P : Command → Task → Type 0)
       (soaks number turns) e
   of_command (Soaks number turns) (flash ∷ texts) task e = absurd (cc)
   of_command (Packs names) texts task e = of_pack names (pack texts) task e
-  of_command (Edits words) [] task e = absurd (cc)
-  of_command (Edits words) (flash ∷ []) task e = of_edit words (edited_by words.edit words.offset flash) task e
-  of_command (Edits words) (flash ∷ more ∷ texts) task e = absurd (cc)
+  of_command (Edits name offset edit) [] task e = absurd (cc)
+  of_command (Edits name offset edit) (flash ∷ []) task e =
+      of_edit name offset edit (edited_by edit offset flash) task e
+  of_command (Edits name offset edit) (flash ∷ more ∷ texts) task e = absurd (cc)

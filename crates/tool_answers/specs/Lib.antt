@@ -1,2 +1,3 @@
 pub mod Accounts
 pub mod Served
+pub mod Parts

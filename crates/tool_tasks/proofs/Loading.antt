@@ -17,11 +17,15 @@ use Rattle.tool_words.specs.declared.refusal.File.TheVariants.{Flash, Script as 
 use Rattle.tool_words.specs.declared.refusal.Refusal.{Refusal}
 use Rattle.tool_words.specs.declared.refusal.Refusal.TheVariants.{Usage, Fault, TooLong, Script, Image, Memory}
 use Rattle.run_text.specs.declared.mode.Mode.TheVariants.{Soak}
-use Rattle.tool_words.specs.Words.{Command, Runs, Lists, Soaks, Edits, RunWords, EditWords}
+use Rattle.tool_words.specs.Words.{Command, Lists, Soaks}
+use Rattle.tool_words.specs.Parts.{RunWords, EditWords, editing, running}
 use Rattle.tool_words.specs.Refusals.{limit_of, edit_refused}
-use Rattle.tool_tasks.specs.Comes.{Named, Task, Running, Listing, Making, IsTaskOf, IsText, comes_to, edit_made}
-use Rattle.tool_tasks.specs.Comes.{edited_by, flash_named, script_named, refusal_of_task, refused_at, run_under}
-use Rattle.tool_tasks.specs.Causes.{ShelfAccount, CauseOf, ReadingComesTo, IsRefusedFor, IsUnsound, told_by}
+use Rattle.tool_tasks.specs.Comes.{Named, Task, Running, Listing, Making, comes_to}
+use Rattle.tool_tasks.specs.Parts.{IsTaskOf, IsText, edit_made}
+use Rattle.tool_tasks.specs.Comes.{edited_by, flash_named, refused_at, run_under}
+use Rattle.tool_tasks.specs.Parts.{script_named, refusal_of_task}
+use Rattle.tool_tasks.specs.Causes.{ShelfAccount, CauseOf, IsRefusedFor, told_by}
+use Rattle.tool_tasks.specs.Parts.{ReadingComesTo, IsUnsound}
 use Rattle.tool_tasks.specs.Ready.{HasNoReading, IsUnread, KeepsShelf}
 
 not_past : (limit n : ℕ) → n ≤ limit → nat_lt limit n ≡ false
@@ -68,9 +72,9 @@ Reached told command f = (Holds : List (List ℕ) → Named → Type 0) → ((te
 
 module _ (told : ShelfAccount) (command : Command) (f : Named) where
   long_here : (texts : List (List ℕ)) (other : File) → other ≡ f.file
-      → IfSome (told.bytes f.name) (λ b. limit_of f.file < length b) → IsRefusedFor told command (TooLong other) texts f
+      → IfSome (told.before.bytes f.name) (λ b. limit_of f.file < length b) → IsRefusedFor told command (TooLong other) texts f
   long_here texts other e h =
-      let long = long_text (told.bytes f.name) (limit_of f.file) h in
+      let long = long_text (told.before.bytes f.name) (limit_of f.file) h in
       record {
         text = long.0;
         read = long.1;
@@ -120,26 +124,26 @@ list_unread told name refusal u = not_read told (Lists name) (flash_named name) 
 
 -- `boot` and `trace`
 module _ (words : RunWords) (flash : List ℕ) (short : length flash ≤ FLASH_LIMIT) where
-  flash_free : refused_at (Runs words) [] Flash flash ≡ None
+  flash_free : refused_at (running words) [] Flash flash ≡ None
   unfolding comes_to
-  flash_free = within_limit (Runs words) [] Flash flash short
+  flash_free = within_limit (running words) [] Flash flash short
 
   script_at : (script : List ℕ) → length script ≤ SCRIPT_LIMIT
-      → refused_at (Runs words) (flash ∷ []) ScriptFile script
+      → refused_at (running words) (flash ∷ []) ScriptFile script
       ≡ refusal_of_task (Some (run_under words.mode words.turns flash (reading script)))
   unfolding comes_to
-  script_at script h = within_limit (Runs words) (flash ∷ []) ScriptFile script h
+  script_at script h = within_limit (running words) (flash ∷ []) ScriptFile script h
 
-  pub run_unread : (told : ShelfAccount) (refusal : Refusal) → IsText told.bytes words.flash flash
-      → IsUnread told ScriptFile words.script refusal → CauseOf told (Runs words) refusal
+  pub run_unread : (told : ShelfAccount) (refusal : Refusal) → IsText told.before.bytes words.flash flash
+      → IsUnread told ScriptFile words.script refusal → CauseOf told (running words) refusal
   run_unread told refusal r u =
-      not_read told (Runs words) (script_named words.script) refusal
+      not_read told (running words) (script_named words.script) refusal
       (λ Holds h. inr (record { text = flash; read = r; free = flash_free; holds = inl (h (flash ∷ [])) })) u
 
   module _ (script : List ℕ) (h : length script ≤ SCRIPT_LIMIT) where
     pub run_task : (bytes : List ℕ → Option (List ℕ)) (settings : ScriptSettings) → IsText bytes words.flash flash
         → IsText bytes words.script script → reading script ≡ Ok settings
-        → IsTaskOf bytes (Runs words) (Running words.mode words.turns (opening settings flash))
+        → IsTaskOf bytes (running words) (Running words.mode words.turns (opening settings flash))
     unfolding comes_to
     run_task bytes settings f s is =
         let said = ap (run_under words.mode words.turns flash) is in
@@ -155,8 +159,8 @@ module _ (words : RunWords) (flash : List ℕ) (short : length flash ≤ FLASH_L
           };
         }
 
-    pub run_refused : (told : ShelfAccount) (refusal : Refusal) → IsText told.bytes words.flash flash
-        → IsText told.bytes words.script script → HasNoReading script refusal → CauseOf told (Runs words) refusal
+    pub run_refused : (told : ShelfAccount) (refusal : Refusal) → IsText told.before.bytes words.flash flash
+        → IsText told.before.bytes words.script script → HasNoReading script refusal → CauseOf told (running words) refusal
     run_refused told Usage f s n = absurd n
     run_refused told (Fault file) f s n = absurd n
     run_refused told (TooLong file) f s n = absurd n
@@ -176,9 +180,9 @@ module _ (words : RunWords) (flash : List ℕ) (short : length flash ≤ FLASH_L
     run_refused told Memory f s n = tt
 
 pub run_unread_flash : (told : ShelfAccount) (words : RunWords) (refusal : Refusal)
-    → IsUnread told Flash words.flash refusal → CauseOf told (Runs words) refusal
+    → IsUnread told Flash words.flash refusal → CauseOf told (running words) refusal
 run_unread_flash told words refusal u =
-    not_read told (Runs words) (flash_named words.flash) refusal (λ Holds h. inl (h [])) u
+    not_read told (running words) (flash_named words.flash) refusal (λ Holds h. inl (h [])) u
 
 -- `soak`
 pub soak_task : (bytes : List ℕ → Option (List ℕ)) (number turns : ℕ) (settings : ScriptSettings)
@@ -190,13 +194,13 @@ soak_task bytes number turns settings is =
 
 -- the edits
 module _ (words : EditWords) (flash : List ℕ) (short : length flash ≤ FLASH_LIMIT) where
-  edit_at : refused_at (Edits words) [] Flash flash
+  edit_at : refused_at (editing words) [] Flash flash
       ≡ refusal_of_task (Some (edit_made (edited_by words.edit words.offset flash)))
   unfolding comes_to
-  edit_at = within_limit (Edits words) [] Flash flash short
+  edit_at = within_limit (editing words) [] Flash flash short
 
   pub edit_task : (bytes : List ℕ → Option (List ℕ)) (new : List ℕ) → IsText bytes words.flash flash
-      → edited_by words.edit words.offset flash ≡ Ok new → IsTaskOf bytes (Edits words) (Making new)
+      → edited_by words.edit words.offset flash ≡ Ok new → IsTaskOf bytes (editing words) (Making new)
   unfolding comes_to
   edit_task bytes new r e = record {
     text = flash;
@@ -205,8 +209,8 @@ module _ (words : EditWords) (flash : List ℕ) (short : length flash ≤ FLASH_
     holds = ap (λ (x : Result (List ℕ) EditFault). Some (edit_made x)) e;
   }
 
-  pub edit_no_task : (told : ShelfAccount) (fault : EditFault) → IsText told.bytes words.flash flash
-      → edited_by words.edit words.offset flash ≡ Err fault → CauseOf told (Edits words) (Image (edit_refused fault))
+  pub edit_no_task : (told : ShelfAccount) (fault : EditFault) → IsText told.before.bytes words.flash flash
+      → edited_by words.edit words.offset flash ≡ Err fault → CauseOf told (editing words) (Image (edit_refused fault))
   edit_no_task told fault r e =
       inl (record {
         text = flash;
@@ -215,9 +219,9 @@ module _ (words : EditWords) (flash : List ℕ) (short : length flash ≤ FLASH_
       })
 
 pub edit_unread : (told : ShelfAccount) (words : EditWords) (refusal : Refusal)
-    → IsUnread told Flash words.flash refusal → CauseOf told (Edits words) refusal
+    → IsUnread told Flash words.flash refusal → CauseOf told (editing words) refusal
 edit_unread told words refusal u =
-    not_read told (Edits words) (flash_named words.flash) refusal (λ Holds h. inl (h [])) u
+    not_read told (editing words) (flash_named words.flash) refusal (λ Holds h. inl (h [])) u
 
 -- the whole of a vector is put back
 pub whole_back : (n : ℕ) (new old : List ℕ) → n ≡ length new → take n (new ++ drop (length new) old) ≡ new

@@ -9,17 +9,22 @@ use Rattle.flash_walk.specs.Image.{objects}
 use Rattle.image_make.specs.declared.packs.PackFault.{PackFault}
 use Rattle.image_make.specs.declared.packs.PackFault.TheVariants as packs
 use Rattle.image_make.specs.Images.{packed}
-use Rattle.image_make.specs.Packs.{pack, pack_from, pack_next, pack_refusal, IsPacked}
+use Rattle.image_make.specs.Packs.{pack, pack_from, pack_refusal, IsPacked}
+use Rattle.image_make.specs.Parts.{pack_next}
 use Rattle.tool_words.specs.declared.refusal.File.TheVariants.{Flash}
 use Rattle.tool_words.specs.declared.refusal.ImageFault.{ImageFault}
 use Rattle.tool_words.specs.declared.refusal.ImageFault.TheVariants.{TooMany, Size}
 use Rattle.tool_words.specs.declared.refusal.Refusal.{Refusal}
 use Rattle.tool_words.specs.declared.refusal.Refusal.TheVariants.{Image, Memory}
-use Rattle.tool_words.specs.Words.{Packs, argument_bytes}
+use Rattle.tool_words.specs.Words.{Packs}
+use Rattle.tool_words.specs.Parts.{argument_bytes}
 use Rattle.tool_words.specs.Refusals.{pack_refused}
-use Rattle.tool_tasks.specs.Comes.{Named, Making, IsTaskOf, IsText, Passes, ReadsAll, ReadsUpTo, comes_to}
-use Rattle.tool_tasks.specs.Comes.{flash_named, pack_made, refusal_of_task, refused_at}
-use Rattle.tool_tasks.specs.Causes.{CauseOf, ReadingComesTo, IsRefusedFor, told_by}
+use Rattle.tool_tasks.specs.Comes.{Named, Making, Passes, ReadsAll, ReadsUpTo, comes_to}
+use Rattle.tool_tasks.specs.Parts.{IsTaskOf, IsText}
+use Rattle.tool_tasks.specs.Comes.{flash_named, refused_at}
+use Rattle.tool_tasks.specs.Parts.{pack_made, refusal_of_task}
+use Rattle.tool_tasks.specs.Causes.{CauseOf, IsRefusedFor, told_by}
+use Rattle.tool_tasks.specs.Parts.{ReadingComesTo}
 use Rattle.tool_tasks.specs.Ready.{IsNotPacked, IsPackedFile, IsUnpacked, KeepsShelf}
 use Rattle.tool_tasks.proofs.Files.{all_on, up_to_on}
 use Rattle.tool_tasks.proofs.Loading.{not_read, text_later, unread_later, within_limit}

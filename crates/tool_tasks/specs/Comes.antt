@@ -1,13 +1,13 @@
 -- What a command comes to, by the bytes of the files that it names. The commands are this tool's own.
 use Rattle.std.specs.Prelude.{◌≡◌, ℕ, nat_lt, if◌then◌else◌, List, [], ◌∷◌, ◌++◌, length, map, Option, None, Some}
-use Rattle.std.specs.Prelude.{IfSome, Result, Ok, Err, ◌⊎◌}
+use Rattle.std.specs.Prelude.{option_and_then, IfSome, Result, Ok, Err, ◌⊎◌}
+use Rattle.std.specs.Result.{result_err, result_map_both}
 use Rattle.script_text.specs.Settings.{ScriptSettings}
 use Rattle.script_text.specs.Reading.{Fault as BadLine, reading}
 use Rattle.image_make.specs.declared.edits.EditFault.{EditFault}
-use Rattle.image_make.specs.declared.packs.PackFault.{PackFault}
 use Rattle.image_make.specs.Generator.{soak_flash, soak_script}
 use Rattle.image_make.specs.Outcomes.{enabling, renaming}
-use Rattle.image_make.specs.Packs.{pack}
+use Rattle.image_make.specs.Packs.{pack_from}
 use Rattle.kernel_model.specs.World.{World}
 use Rattle.kernel_model.specs.Run.{round}
 use Rattle.board_opening.specs.Opening.{opening}
@@ -49,17 +49,13 @@ pub record Named : Type 0 where
 abbrev pub flash_named : List ℕ → Named
 flash_named name = record { file = Flash; name = name }
 
--- a script of that name
-abbrev pub script_named : List ℕ → Named
-script_named name = record { file = ScriptFile; name = name }
-
 -- the files that a command names, in the order in which they are read
 abbrev pub files_of : Command → List Named
-files_of (Runs words) = flash_named words.flash ∷ (script_named words.script ∷ [])
+files_of (Runs mode flash script turns) = flash_named flash ∷ (record { file = ScriptFile; name = script } ∷ [])
 files_of (Lists flash) = flash_named flash ∷ []
 files_of (Soaks number turns) = []
 files_of (Packs names) = map flash_named names
-files_of (Edits words) = flash_named words.flash ∷ []
+files_of (Edits flash offset edit) = flash_named flash ∷ []
 
 -- a run of a flash image under a script, if the script has a reading
 abbrev pub run_under : Mode → ℕ → List ℕ → Result ScriptSettings BadLine → Result Task Refusal
@@ -71,51 +67,34 @@ abbrev pub edited_by : Edit → ℕ → List ℕ → Result (List ℕ) EditFault
 edited_by (Enables on) offset flash = enabling on offset flash
 edited_by (Renames name) offset flash = renaming name offset flash
 
--- the image of an edit is to be written, or the command is refused for the fault
-abbrev pub edit_made : Result (List ℕ) EditFault → Result Task Refusal
-edit_made (Ok flash) = Ok (Making flash)
-edit_made (Err fault) = Err (Image (edit_refused fault))
-
--- files one behind another, if they may be packed
-abbrev pub pack_made : Result (List ℕ) PackFault → Result Task Refusal
-pack_made (Ok flash) = Ok (Making flash)
-pack_made (Err fault) = Err (pack_refused fault)
-
 -- what a command comes to with the bytes of its files so far: its task, or why it is refused; nothing yet where more
--- files are to be read
+-- files are to be read. An image that is edited or packed is to be written.
 unfoldable pub comes_to : Command → List (List ℕ) → Option (Result Task Refusal)
-comes_to (Runs words) (flash ∷ script ∷ []) = Some (run_under words.mode words.turns flash (reading script))
+comes_to (Runs mode first second turns) (flash ∷ script ∷ []) = Some (run_under mode turns flash (reading script))
 comes_to (Lists name) (flash ∷ []) = Some (Ok (Listing flash))
 comes_to (Soaks number turns) [] = Some (run_under Soak turns (soak_flash number) (reading (soak_script number)))
-comes_to (Packs names) files = Some (pack_made (pack files))
-comes_to (Edits words) (flash ∷ []) = Some (edit_made (edited_by words.edit words.offset flash))
+comes_to (Packs names) files = Some (result_map_both Making pack_refused (pack_from 0 [] files))
+comes_to (Edits name offset edit) (flash ∷ []) =
+    Some (result_map_both Making (λ fault. Image (edit_refused fault)) (edited_by edit offset flash))
 comes_to command files = None
 
--- the refusal, where it came to one
-abbrev pub refusal_of_task : Option (Result Task Refusal) → Option Refusal
-refusal_of_task (Some (Err refusal)) = Some refusal
-refusal_of_task other = None
-
 -- why a command is refused where a file of it has these bytes, behind those that were read before: the file is too
--- long, or what the command comes to
+-- long, or that is what the command comes to
 unfoldable pub refused_at : Command → List (List ℕ) → File → List ℕ → Option Refusal
 refused_at command before file text =
     if nat_lt (limit_of file) (length text) then Some (TooLong file)
-    else refusal_of_task (comes_to command (before ++ (text ∷ [])))
+    else option_and_then result_err (comes_to command (before ++ (text ∷ [])))
 
 -- the bytes under each name, where they are told
 abbrev pub ByName : Type 0
 ByName = List ℕ → Option (List ℕ)
 
--- a text is the whole of the file of that name, where its bytes are told
-abbrev pub IsText : ByName → List ℕ → List ℕ → Type 0
-IsText bytes name text = IfSome (bytes name) (λ b. text ≡ b)
-
--- A file is read whole, and the command is not refused for it; so much holds of the bytes that are read by then.
+-- A file is read whole, a text that is its bytes where these are told, and the command is not refused for it; so much
+-- holds of the bytes that are read by then.
 pub record Passes (bytes : ByName) (command : Command) (before : List (List ℕ)) (f : Named)
     (Holding : List (List ℕ) → Type 0) : Type 0 where
   pub text : List ℕ
-  pub read : IsText bytes f.name text
+  pub read : IfSome (bytes f.name) (λ b. text ≡ b)
   pub free : refused_at command before f.file text ≡ None
   pub holds : Holding (before ++ (text ∷ []))
 
@@ -131,12 +110,8 @@ ReadsUpTo bytes command Holds before [] = ⊥
 ReadsUpTo bytes command Holds before (f ∷ files) =
     Holds before f ⊎ Passes bytes command before f (λ texts. ReadsUpTo bytes command Holds texts files)
 
--- the task of a command, by the bytes under each name
-abbrev pub IsTaskOf : ByName → Command → Task → Type 0
-IsTaskOf bytes command task =
-    ReadsAll bytes command (λ texts. comes_to command texts ≡ Some (Ok task)) [] (files_of command)
-
--- words that are no command give none
+-- the task of the words, by the bytes under each name; words that are no command give none
 abbrev pub IsTask : ByName → Option Command → Task → Type 0
 IsTask bytes None task = ⊥
-IsTask bytes (Some command) task = IsTaskOf bytes command task
+IsTask bytes (Some command) task =
+    ReadsAll bytes command (λ texts. comes_to command texts ≡ Some (Ok task)) [] (files_of command)

@@ -1,3 +1,4 @@
 pub mod Causes
 pub mod Comes
 pub mod Ready
+pub mod Parts

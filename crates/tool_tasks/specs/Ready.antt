@@ -19,7 +19,8 @@ use Rattle.tool_tasks.specs.declared.prepare.Ready.TheVariants as ready
 use Rattle.tool_words.specs.Refusals.{limit_of, pack_refused}
 use Rattle.tool_words.specs.declared.words.TheConstants.{MOST_TURNS}
 use Rattle.tool_words.specs.Words.{Command, Soaks}
-use Rattle.tool_tasks.specs.Comes.{ByName, Task, Running, Listing, Making, IsTask, IsTaskOf, IsText}
+use Rattle.tool_tasks.specs.Comes.{ByName, Task, Running, Listing, Making, IsTask}
+use Rattle.tool_tasks.specs.Parts.{IsTaskOf, IsText}
 use Rattle.tool_tasks.specs.Causes.{ShelfAccount}
 
 abbrev pub refusal_of : IntakeError → File → Refusal
@@ -63,8 +64,9 @@ HasNoReading script Memory = Unit {0}
 -- why a file was not read
 abbrev pub IsUnread : ShelfAccount → File → List ℕ → Refusal → Type 0
 IsUnread told file name Usage = ⊥
-IsUnread told file name (Fault other) = (other ≡ file) × told.rose × ¬ told.is_sound name
-IsUnread told file name (TooLong other) = (other ≡ file) × IfSome (told.bytes name) (λ b. limit_of file < length b)
+IsUnread told file name (Fault other) = (other ≡ file) × told.rose × ¬ told.before.is_sound name
+IsUnread told file name (TooLong other) =
+    (other ≡ file) × IfSome (told.before.bytes name) (λ b. limit_of file < length b)
 IsUnread told file name (BadScript line rule) = ⊥
 IsUnread told file name (Image fault) = ⊥
 IsUnread told file name Memory = Unit {0}
@@ -87,7 +89,7 @@ pub record IsUnpacked (bytes : ByName) (name : List ℕ) (n : ℕ) (xs : List �
 
 -- why a file was not packed: it was not read, or is refused
 abbrev pub IsNotPacked : ShelfAccount → List ℕ → ℕ → List ℕ → Refusal → Type 0
-IsNotPacked told name n xs refusal = IsUnread told Flash name refusal ⊎ IsUnpacked told.bytes name n xs refusal
+IsNotPacked told name n xs refusal = IsUnread told Flash name refusal ⊎ IsUnpacked told.before.bytes name n xs refusal
 
 -- what a shelf keeps over a call
 pub record KeepsShelf {H : Type 0} (tells : H → ShelfFacts) (old new : H) : Type 0 where

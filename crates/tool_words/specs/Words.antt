@@ -14,40 +14,20 @@ use Rattle.tool_words.specs.declared.words.Command.{Command as Given}
 use Rattle.tool_words.specs.declared.words.Command.TheVariants as given
 use Rattle.tool_words.specs.declared.words.TheConstants.{MOST_FILES, MOST_NUMBER, MOST_TURNS}
 
--- `boot FLASH SCRIPT --turns N` or `trace FLASH SCRIPT --turns N`, by what it writes of the run
-pub record RunWords : Type 0 where
-  pub mode : Mode
-  pub flash : List ℕ
-  pub script : List ℕ
-  pub turns : ℕ
-
 -- what is done to an object of a flash image: it is enabled or disabled, or gets another package name
 pub data Edit : Type 0 where
   Enables : Bool → Edit
   Renames : List ℕ → Edit
 
--- `enable FLASH OFFSET`, `disable FLASH OFFSET` or `rename FLASH OFFSET NAME`
-pub record EditWords : Type 0 where
-  pub flash : List ℕ
-  pub offset : ℕ
-  pub edit : Edit
-
--- a command: `boot` or `trace` with its words, `list` with the name of the flash file, `soak` with its number and the
--- number of turns, `pack` with the names of the files, or an edit with its words
+-- a command: `boot` or `trace`, by what it writes of the run, with its files and the number of turns; `list` with the
+-- flash file; `soak` with its number and the number of turns; `pack` with the files; or an edit of the object at an
+-- offset of a flash file
 pub data Command : Type 0 where
-  Runs : RunWords → Command
+  Runs : (mode : Mode) (flash script : List ℕ) (turns : ℕ) → Command
   Lists : List ℕ → Command
   Soaks : (number turns : ℕ) → Command
   Packs : List (List ℕ) → Command
-  Edits : EditWords → Command
-
--- the number of turns that a word gives
-abbrev pub turns_given : List ℕ → Option ℕ
-turns_given word = number_up_to MOST_TURNS word
-
--- the number of a soak run, or the offset of an object, that a word gives
-abbrev pub number_in : List ℕ → Option ℕ
-number_in word = number_up_to MOST_NUMBER word
+  Edits : (flash : List ℕ) (offset : ℕ) (edit : Edit) → Command
 
 -- what is written of the run of two files, by the name of the command
 abbrev pub mode_named : List ℕ → Option Mode
@@ -55,24 +35,18 @@ mode_named name =
     if bytes_eq name (codes "boot") then Some Boot
     else (if bytes_eq name (codes "trace") then Some Trace else None)
 
--- `list FLASH`
-unfoldable pub list_command_of : List ℕ → List ℕ → Option Command
-list_command_of name flash = if bytes_eq name (codes "list") then Some (Lists flash) else None
-
 -- `soak NUMBER --turns N`
 unfoldable pub soak_of : List ℕ → List ℕ → List ℕ → List ℕ → Option Command
 soak_of name number flag turns =
     if bytes_eq name (codes "soak") && bytes_eq flag (codes "--turns")
-    then option_and_then (λ n. option_map (Soaks n) (turns_given turns)) (number_in number)
+    then option_and_then (λ n. option_map (Soaks n) (number_up_to MOST_TURNS turns)) (number_up_to MOST_NUMBER number)
     else None
 
 -- `boot FLASH SCRIPT --turns N` or `trace FLASH SCRIPT --turns N`
 unfoldable pub run_of : List ℕ → List ℕ → List ℕ → List ℕ → List ℕ → Option Command
 run_of name flash script flag turns =
     if bytes_eq flag (codes "--turns")
-    then option_and_then (λ mode.
-    option_map (λ n. Runs (record { mode = mode; flash = flash; script = script; turns = n })) (turns_given turns))
-    (mode_named name)
+    then option_and_then (λ mode. option_map (Runs mode flash script) (number_up_to MOST_TURNS turns)) (mode_named name)
     else None
 
 -- `pack FILE ..`, with 1 to 64 files
@@ -89,27 +63,21 @@ switch_named name =
 -- `enable FLASH OFFSET` or `disable FLASH OFFSET`
 unfoldable pub enable_of : List ℕ → List ℕ → List ℕ → Option Command
 enable_of name flash offset =
-    option_and_then (λ on.
-    option_map (λ n. Edits (record { flash = flash; offset = n; edit = Enables on })) (number_in offset))
+    option_and_then (λ on. option_map (λ n. Edits flash n (Enables on)) (number_up_to MOST_NUMBER offset))
     (switch_named name)
 
 -- `rename FLASH OFFSET NAME`
 unfoldable pub rename_of : List ℕ → List ℕ → List ℕ → Option Command
-rename_of flash offset name =
-    option_map (λ n. Edits (record { flash = flash; offset = n; edit = Renames name })) (number_in offset)
-
--- the command of a name and three words
-unfoldable pub of_three : List ℕ → List ℕ → List ℕ → List ℕ → Option Command
-of_three name first second third =
-    if bytes_eq name (codes "rename") then rename_of first second third else soak_of name first second third
+rename_of flash offset name = option_map (λ n. Edits flash n (Renames name)) (number_up_to MOST_NUMBER offset)
 
 -- The words after a command's name are a file for `list`; a file and an offset for `enable` and `disable`; a file, an
 -- offset and a name for `rename`, or a number, `--turns` and a number for `soak`; two files, `--turns` and a number for
 -- `boot` and `trace`; in this order. Nothing else is accepted.
 abbrev pub of_few : List ℕ → List (List ℕ) → Option Command
-of_few name (flash ∷ []) = list_command_of name flash
+of_few name (flash ∷ []) = if bytes_eq name (codes "list") then Some (Lists flash) else None
 of_few name (flash ∷ offset ∷ []) = enable_of name flash offset
-of_few name (first ∷ second ∷ third ∷ []) = of_three name first second third
+of_few name (first ∷ second ∷ third ∷ []) =
+    if bytes_eq name (codes "rename") then rename_of first second third else soak_of name first second third
 of_few name (flash ∷ script ∷ flag ∷ turns ∷ []) = run_of name flash script flag turns
 of_few name words = None
 
@@ -118,35 +86,25 @@ abbrev pub accepted : List (List ℕ) → Option Command
 accepted (program ∷ name ∷ words) = if bytes_eq name (codes "pack") then pack_of words else of_few name words
 accepted words = None
 
--- words as lists of bytes
-abbrev pub argument_bytes : {Z : Type 0} → List (String Z) → List (List ℕ)
-argument_bytes words = map string_bytes words
-
 -- the command that the words of the command line are
 abbrev pub command_of : {Z : Type 0} → List (String Z) → Option Command
-command_of words = accepted (argument_bytes words)
+command_of words = accepted (map string_bytes words)
 
 -- the command that the words of a run are
-abbrev pub run_words : RunCommand → RunWords
-run_words c = record { mode = c.mode; flash = c.flash.now; script = c.script.now; turns = c.turns }
-
 abbrev pub runs_of : RunCommand → Command
-runs_of c = Runs (run_words c)
+runs_of c = Runs c.mode c.flash.now c.script.now c.turns
 
 -- the command that packs files, and what is done to an object
 abbrev pub packs_of : {Z : Type 0} → List (String Z) → Command
-packs_of files = Packs (argument_bytes files)
+packs_of files = Packs (map string_bytes files)
 
 abbrev pub edit_given : GivenEdit → Edit
 edit_given (edit.Enable on) = Enables on
 edit_given (edit.Rename name) = Renames name.now
 
 -- the command that the words of an edit are
-abbrev pub edit_words : EditCommand → EditWords
-edit_words c = record { flash = c.flash.now; offset = c.offset; edit = edit_given c.edit }
-
 abbrev pub edits_of : EditCommand → Command
-edits_of c = Edits (edit_words c)
+edits_of c = Edits c.flash.now c.offset (edit_given c.edit)
 
 abbrev pub shown_command : Given → Command
 shown_command (given.Run words) = runs_of words

@@ -1,10 +1,14 @@
 //! The words of the command line.
 ghost use Rattle.std.specs.Prelude.{◌≡◌, ◌≤◌, IfSome};
 ghost use Rattle.tool_words.specs.declared.words.TheConstants.{MOST_TURNS};
-ghost use Rattle.tool_words.specs.Words.{command_of, enable_of, list_command_of, mode_named};
-ghost use Rattle.tool_words.specs.Words.{number_in, of_few, of_three, pack_of, rename_of, run_of};
-ghost use Rattle.tool_words.specs.Words.{command_shown, soak_of, switch_named, turns_given};
-ghost use Rattle.tool_words.specs.Words.{argument_bytes, HasTurnsWithin};
+ghost use Rattle.tool_words.specs.Words.{command_of, enable_of, mode_named};
+ghost use Rattle.tool_words.specs.Parts.{list_command_of};
+ghost use Rattle.tool_words.specs.Words.{of_few, pack_of, rename_of, run_of};
+ghost use Rattle.tool_words.specs.Parts.{number_in, of_three};
+ghost use Rattle.tool_words.specs.Words.{command_shown, soak_of, switch_named};
+ghost use Rattle.tool_words.specs.Parts.{turns_given};
+ghost use Rattle.tool_words.specs.Words.{HasTurnsWithin};
+ghost use Rattle.tool_words.specs.Parts.{argument_bytes};
 
 use decimal_number::number_up_to;
 use run_text::Mode;
@@ -91,7 +95,6 @@ fn mode_named(name: &str) -> Option<Mode>
 }
 
 /// The command `list` of a file.
-#[tactic(auto, unfolding(crate::specs::Words::list_command_of))]
 fn list_of<'a>(name: &str, flash: &'a str) -> Option<Command<'a>>
     ensures words { command_shown result ≡ list_command_of name.now flash.entry.now }
     ensures turns { IfSome result HasTurnsWithin }
@@ -195,7 +198,6 @@ fn rename_of<'a>(flash: &'a str, offset: &str, name: &'a str) -> Option<Command<
 }
 
 /// The command `rename` or `soak`, each of which has three words after its name.
-#[tactic(auto, unfolding(crate::specs::Words::of_three))]
 fn of_three<'a>(name: &str, first: &'a str, second: &str, third: &'a str) -> Option<Command<'a>>
     ensures words { command_shown result
         ≡ of_three name.now first.entry.now second.now third.entry.now }

@@ -12,7 +12,9 @@ use Rattle.tk_base.specs.declared.process.Choice.TheVariants.{Run, Device, Pass}
 use Rattle.tk_base.specs.declared.process.Dev.{Dev}
 use Rattle.partition_turns.proofs.Found.{find-passes}
 use Rattle.turn_scheduler.specs.Situation.{Situation}
-use Rattle.turn_scheduler.specs.RoundRobin.{place_is_ready, device_place, device_order, slots_after, goes_on, next_slot}
+use Rattle.turn_scheduler.specs.RoundRobin.{device_place, device_order, slots_after, next_slot}
+use Rattle.turn_scheduler.specs.Parts.{place_is_ready}
+use Rattle.turn_scheduler.specs.Parts.{goes_on}
 use Rattle.turn_scheduler.specs.RoundRobin.{ready_device, choice, IsNextAhead}
 use Rattle.turn_scheduler.specs.Laws.{CanBeMade, ChoiceIsReady, PresentGoesOn}
 use Rattle.turn_scheduler.proofs.Order.{time_ahead}

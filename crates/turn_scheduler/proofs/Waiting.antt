@@ -14,7 +14,9 @@ use Rattle.tk_base.specs.declared.limits.TheConstants.{SLOT_COUNT}
 use Rattle.tk_base.specs.declared.process.Choice.TheVariants.{Run, Device, Pass}
 use Rattle.tk_base.specs.declared.process.Dev.{Dev}
 use Rattle.turn_scheduler.specs.Situation.{Situation}
-use Rattle.turn_scheduler.specs.RoundRobin.{place_is_ready, slots_after, goes_on, next_slot, ready_device, choice}
+use Rattle.turn_scheduler.specs.RoundRobin.{slots_after, next_slot, ready_device, choice}
+use Rattle.turn_scheduler.specs.Parts.{place_is_ready}
+use Rattle.turn_scheduler.specs.Parts.{goes_on}
 use Rattle.turn_scheduler.specs.RoundRobin.{used_after}
 use Rattle.turn_scheduler.specs.Turns.{GivesTurn, AreTurns, IsWindow, ReadyHasTurn}
 

@@ -4,7 +4,8 @@ use Rattle.tk_base.specs.declared.limits.TheConstants.{SLOT_COUNT}
 use Rattle.tk_base.specs.declared.process.Choice.{Choice}
 use Rattle.tk_base.specs.declared.process.Choice.TheVariants.{Run, Device, Pass}
 use Rattle.turn_scheduler.specs.Situation.{Situation}
-use Rattle.turn_scheduler.specs.RoundRobin.{place_is_ready, device_place, ready_device, choice, IsNextAhead}
+use Rattle.turn_scheduler.specs.RoundRobin.{device_place, ready_device, choice, IsNextAhead}
+use Rattle.turn_scheduler.specs.Parts.{place_is_ready}
 
 -- A choice can be made: the device step is ready; or no device step is, and the slot is ready; or nothing is ready, and
 -- the ticks, of which there are some, lead to the next time.

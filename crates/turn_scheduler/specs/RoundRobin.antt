@@ -3,7 +3,7 @@
 -- the present one last; else time passes until a device becomes ready. The turns are those of Tock's round robin; the
 -- devices' order and the passes are this board's own rule.
 use Rattle.std.specs.Prelude.{◌≡◌, ◌<◌, ◌^◌, ℕ, ◌+◌, ◌-◌, ◌==◌, Bool, false, ◌&&◌, nat_lt, if◌then◌else◌, List, [], ◌∷◌}
-use Rattle.std.specs.Prelude.{◌++◌, find, slice_index_or, Option, None, Some}
+use Rattle.std.specs.Prelude.{◌++◌, find, slice_index_or, unwrap_or, Option, None, Some}
 use Rattle.std.specs.List.{range_with_len}
 use Rattle.std.specs.Option.{option_map, option_or, ForSome}
 use Rattle.tk_base.specs.declared.limits.TheConstants.{SLOT_COUNT}
@@ -12,10 +12,6 @@ use Rattle.tk_base.specs.declared.process.Choice.TheVariants.{Run, Device, Pass}
 use Rattle.tk_base.specs.declared.process.Dev.{Dev}
 use Rattle.tk_base.specs.declared.process.Dev.TheVariants.{Event, Alarm, Uart, Receive, Random, Store}
 use Rattle.turn_scheduler.specs.Situation.{Situation}
-
--- what a table says of a place; what it lacks is not ready
-abbrev pub place_is_ready : List Bool → ℕ → Bool
-place_is_ready table place = slice_index_or table place false
 
 -- the device steps in the order in which they are asked
 abbrev pub device_order : List Dev
@@ -30,35 +26,27 @@ device_place Receive = 3
 device_place Random = 4
 device_place Store = 5
 
--- the first device step that is ready
+-- the first device step that is ready; what a table lacks is not ready
 unfoldable pub ready_device : List Bool → Option Dev
-ready_device devices = find (λ device. place_is_ready devices (device_place device)) device_order
+ready_device devices = find (λ device. slice_index_or devices (device_place device) false) device_order
 
 -- all slots in cyclic order after the present one, which is the last
 abbrev pub slots_after : Option ℕ → List ℕ
 slots_after None = range_with_len 0 SLOT_COUNT
 slots_after (Some present) = range_with_len (present + 1) (SLOT_COUNT - (present + 1)) ++ range_with_len 0 (present + 1)
 
--- the present slot is ready, and its slice lasts
-abbrev pub goes_on : List Bool → Option ℕ → ℕ → ℕ → Bool
-goes_on ready None used slice = false
-goes_on ready (Some present) used slice = place_is_ready ready present && nat_lt used slice
-
--- the slot that has the next turn of a process
+-- the slot that has the next turn of a process: the present one, where it is ready and its slice lasts; else the first
+-- that is ready
 unfoldable pub next_slot : List Bool → Option ℕ → ℕ → ℕ → Option ℕ
 next_slot ready present used slice =
-    if goes_on ready present used slice then present
-    else find (place_is_ready ready) (slots_after present)
-
--- that of a situation
-abbrev pub slot_in : Situation → Option ℕ
-slot_in s = next_slot s.ready s.present s.used s.slice
+    let goes_on = unwrap_or (option_map (λ slot. slice_index_or ready slot false && nat_lt used slice) present) false in
+    if goes_on then present else find (λ slot. slice_index_or ready slot false) (slots_after present)
 
 -- the next step, or none
 unfoldable pub choice : Situation → Option Choice
 choice s =
     option_or (option_map Device (ready_device s.devices))
-    (option_or (option_map Run (slot_in s))
+    (option_or (option_map Run (next_slot s.ready s.present s.used s.slice))
     (option_map (λ at. Pass (at - s.time)) s.next))
 
 -- a time lies ahead of another, and a Pass leads to it

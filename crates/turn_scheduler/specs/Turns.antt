@@ -3,7 +3,8 @@ use Rattle.std.specs.Prelude.{◌≡◌, ◌≤◌, ℕ, ◌*◌, true, List, []
 use Rattle.tk_base.specs.declared.limits.TheConstants.{SLOT_COUNT}
 use Rattle.tk_base.specs.declared.process.Choice.TheVariants.{Run}
 use Rattle.turn_scheduler.specs.Situation.{Situation}
-use Rattle.turn_scheduler.specs.RoundRobin.{place_is_ready, choice, used_after}
+use Rattle.turn_scheduler.specs.RoundRobin.{choice, used_after}
+use Rattle.turn_scheduler.specs.Parts.{place_is_ready}
 
 -- round robin gives the slot the turn
 abbrev pub GivesTurn : Situation → ℕ → Type 0

@@ -1,7 +1,8 @@
 //! What the choice of the next step rests on, read a part at a time.
 ghost use Rattle.std.specs.Prelude.{◌≡◌, ◌≤◌, ℕ, false, IfSome, None};
 ghost use Rattle.tk_base.specs.declared.limits.TheConstants.{SLOT_COUNT};
-ghost use Rattle.turn_scheduler.specs.RoundRobin.{LiesAhead, device_place, place_is_ready};
+ghost use Rattle.turn_scheduler.specs.RoundRobin.{LiesAhead, device_place};
+ghost use Rattle.turn_scheduler.specs.Parts.{place_is_ready};
 ghost use Rattle.turn_scheduler.specs.RoundRobin.{ready_device};
 
 use tk_base::{Dev, Slot};

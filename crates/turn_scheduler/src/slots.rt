@@ -2,7 +2,9 @@
 ghost use Rattle.std.specs.Prelude.{◌≡◌, ◌-◌, ◌≤◌, find};
 ghost use Rattle.std.specs.List.{range_with_len};
 ghost use Rattle.tk_base.specs.declared.limits.TheConstants.{SLOT_COUNT};
-ghost use Rattle.turn_scheduler.specs.RoundRobin.{place_is_ready, slots_after, slot_in, used_after};
+ghost use Rattle.turn_scheduler.specs.RoundRobin.{slots_after, used_after};
+ghost use Rattle.turn_scheduler.specs.Parts.{place_is_ready};
+ghost use Rattle.turn_scheduler.specs.Parts.{slot_in};
 
 use crate::situated::Situated;
 use tk_base::{SLOT_COUNT, Slot};

@@ -1,6 +1,6 @@
 //! What the choice of the next step rests on, as tables.
 ghost use Rattle.std.specs.Prelude.{◌≡◌};
-ghost use Rattle.turn_scheduler.specs.RoundRobin.{place_is_ready};
+ghost use Rattle.turn_scheduler.specs.Parts.{place_is_ready};
 
 use crate::situated::Situated;
 use arrayvec::ArrayVec;

@@ -6,7 +6,8 @@ use Rattle.app_placement.specs.declared.placed.Filled.{Filled}
 use Rattle.std.proofs.lemmas.List.Elements.{All-push}
 use Rattle.app_placement.specs.declared.placed.Placed.{Placed}
 use Rattle.app_placement.specs.Applications.{application_of, applications}
-use Rattle.app_placement.specs.Placement.{place_of, filled_after, places_from, placements, LiesInRam, LiesBefore}
+use Rattle.app_placement.specs.Placement.{place_of, filled_after, places_from, LiesInRam, LiesBefore}
+use Rattle.app_placement.specs.Parts.{placements}
 use Rattle.app_placement.specs.Placement.{LiesInFlash, IsLaidOut, AreNumbered, is_placed}
 use Rattle.app_placement.proofs.Objects.{one_found, few_found}
 use Rattle.app_placement.proofs.Laws.{IsFilled, filled_after-filled, place_of-in_flash, place_of-laid_out}

@@ -2,7 +2,8 @@ use Rattle.std.proofs.Common.{◌≡◌, ◌≤◌, ◌++◌, drop, All}
 use Rattle.std.specs.List.{filter_map}
 use Rattle.arrayvec.specs.ArrayVec.{array_vec_len}
 use Rattle.app_placement.specs.Applications.{application_of, applications}
-use Rattle.app_placement.specs.Placement.{places_from, placements, LiesInFlash, IsLaidOut}
+use Rattle.app_placement.specs.Placement.{places_from, LiesInFlash, IsLaidOut}
+use Rattle.app_placement.specs.Parts.{placements}
 use Rattle.app_placement.proofs.Laws.{IsFilled}
 use Rattle.app_placement.proofs.placing.place.Given as goal
 

@@ -1,5 +1,6 @@
 use Rattle.std.proofs.Common.{sym, ap, ◌∙◌, arith}
-use Rattle.board_opening.specs.Opening.{unplaced_at, unplaced_in}
+use Rattle.board_opening.specs.Opening.{unplaced_at}
+use Rattle.board_opening.specs.Parts.{unplaced_in}
 use Rattle.board_opening.proofs.Crews.{pass_none, pass_some}
 use Rattle.board_opening.proofs.boot.unplaced.Goals as goal
 

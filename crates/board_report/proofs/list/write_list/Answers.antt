@@ -1,10 +1,11 @@
 use Rattle.std.proofs.Common.{length}
 use Rattle.flash_walk.specs.Image.{objects}
-use Rattle.board_report.specs.FlashList.{count_text, list_text}
+use Rattle.board_report.specs.FlashList.{list_text}
+use Rattle.board_report.specs.Parts.{count_text}
 use Rattle.board_report.proofs.list.write_list.Goals as goal
 
 pub returns-in_err-write_objects : goal.returns-in_err-write_objects
-unfolding list_text
+unfolding list_text count_text
 returns-in_err-write_objects g c =
     let law = c.writes_compose.ensures in
     let e = c.in_err-write_objects.ensures in
@@ -12,7 +13,7 @@ returns-in_err-write_objects g c =
     (rw c.requires.found at e))
 
 pub returns : goal.returns
-unfolding list_text
+unfolding list_text count_text
 returns g c =
     let law = c.writes_compose.ensures in
     let lines = c.in_ok-write_objects.ensures in

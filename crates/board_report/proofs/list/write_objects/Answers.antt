@@ -1,5 +1,6 @@
 use Rattle.std.proofs.Common.{◌+◌, drop}
-use Rattle.board_report.specs.FlashList.{object_text, object_texts}
+use Rattle.board_report.specs.FlashList.{object_text}
+use Rattle.board_report.specs.Parts.{object_texts}
 use Rattle.board_report.proofs.Parts.{part_between, texts_around}
 use Rattle.board_report.proofs.list.write_objects.Goals as goal
 

@@ -1,6 +1,6 @@
 use Rattle.std.proofs.Common.{take}
 use Rattle.tk_outside.specs.Writes.{WroteAll}
-use Rattle.board_report.specs.FlashList.{object_texts}
+use Rattle.board_report.specs.Parts.{object_texts}
 use Rattle.board_report.proofs.list.write_objects.Given as goal
 
 -- the lines so far were written

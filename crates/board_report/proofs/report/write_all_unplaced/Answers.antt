@@ -1,5 +1,6 @@
 use Rattle.std.proofs.Common.{◌+◌, drop}
-use Rattle.board_report.specs.Report.{unplaced_text, unplaced_texts}
+use Rattle.board_report.specs.Report.{unplaced_text}
+use Rattle.board_report.specs.Parts.{unplaced_texts}
 use Rattle.board_report.proofs.Parts.{part_between, texts_around}
 use Rattle.board_report.proofs.report.write_all_unplaced.Goals as goal
 

@@ -1,6 +1,6 @@
 use Rattle.std.proofs.Common.{take}
 use Rattle.tk_outside.specs.Writes.{WroteAll}
-use Rattle.board_report.specs.Report.{unplaced_texts}
+use Rattle.board_report.specs.Parts.{unplaced_texts}
 use Rattle.board_report.proofs.report.write_all_unplaced.Given as goal
 
 -- the lines so far were written

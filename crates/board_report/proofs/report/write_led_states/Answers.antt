@@ -1,6 +1,7 @@
 use Rattle.std.proofs.Common.{◌+◌, ◌-◌, map}
 use Rattle.std.specs.List.{range_with_len}
-use Rattle.board_report.specs.Report.{led_text, led_texts}
+use Rattle.board_report.specs.Report.{led_text}
+use Rattle.board_report.specs.Parts.{led_texts}
 use Rattle.board_report.proofs.Parts.{part_between, leds_around, leds_more}
 use Rattle.board_report.proofs.report.write_led_states.Goals as goal
 

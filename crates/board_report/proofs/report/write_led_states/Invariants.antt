@@ -1,5 +1,5 @@
 use Rattle.tk_outside.specs.Writes.{WroteAll}
-use Rattle.board_report.specs.Report.{led_texts}
+use Rattle.board_report.specs.Parts.{led_texts}
 use Rattle.board_report.proofs.report.write_led_states.Given as goal
 
 -- the states so far were written

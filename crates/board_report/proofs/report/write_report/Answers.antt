@@ -1,5 +1,6 @@
 use Rattle.std.proofs.Common.{◌++◌}
-use Rattle.board_report.specs.Report.{unplaced_texts, leds_text, end_line, report_text}
+use Rattle.board_report.specs.Report.{leds_text, end_line, report_text}
+use Rattle.board_report.specs.Parts.{unplaced_texts}
 use Rattle.board_report.proofs.report.write_report.Goals as goal
 
 pub returns-in_err-write_slots : goal.returns-in_err-write_slots

@@ -1,5 +1,6 @@
 use Rattle.std.proofs.Common.{◌++◌}
-use Rattle.board_report.specs.Report.{state_text, turns_text, slot_text, dropped_text}
+use Rattle.board_report.specs.Report.{state_text, slot_text}
+use Rattle.board_report.specs.Parts.{turns_text, dropped_text}
 use Rattle.board_report.specs.Words.{newline}
 use Rattle.board_report.proofs.report.write_slot.Goals as goal
 

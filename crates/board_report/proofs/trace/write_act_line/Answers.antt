@@ -1,6 +1,6 @@
 use Rattle.std.proofs.Common.{◌++◌}
 use Rattle.board_report.specs.Words.{newline}
-use Rattle.board_report.specs.Trace.{act_line}
+use Rattle.board_report.specs.Parts.{act_line}
 use Rattle.tk_base.specs.Verbs.{verb_text}
 use Rattle.board_report.proofs.trace.write_act_line.Goals as goal
 

@@ -1,6 +1,6 @@
 use Rattle.std.proofs.Common.{◌+◌, drop}
 use Rattle.tk_outside.specs.Text.{hex_digits}
-use Rattle.board_report.specs.Trace.{bytes_text}
+use Rattle.board_report.specs.Parts.{bytes_text}
 use Rattle.board_report.proofs.Parts.{part_between, texts_around}
 use Rattle.board_report.proofs.trace.write_bytes.Goals as goal
 

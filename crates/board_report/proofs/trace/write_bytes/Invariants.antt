@@ -1,6 +1,6 @@
 use Rattle.std.proofs.Common.{take}
 use Rattle.tk_outside.specs.Writes.{WroteAll}
-use Rattle.board_report.specs.Trace.{bytes_text}
+use Rattle.board_report.specs.Parts.{bytes_text}
 use Rattle.board_report.proofs.trace.write_bytes.Given as goal
 
 -- the bytes so far were written

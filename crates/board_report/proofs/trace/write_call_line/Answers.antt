@@ -1,6 +1,7 @@
 use Rattle.std.proofs.Common.{◌++◌, decimal}
 use Rattle.board_report.specs.Words.{newline}
-use Rattle.board_report.specs.Trace.{call_line, registers_text, reply_text, refusal_text}
+use Rattle.board_report.specs.Trace.{registers_text, reply_text, refusal_text}
+use Rattle.board_report.specs.Parts.{call_line}
 use Rattle.board_report.proofs.trace.write_call_line.Goals as goal
 
 pub returns-in_err-write_head : goal.returns-in_err-write_head

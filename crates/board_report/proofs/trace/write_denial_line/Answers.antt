@@ -1,7 +1,7 @@
 use Rattle.std.proofs.Common.{◌++◌, Some}
 use Rattle.board_report.specs.Words.{newline}
 use Rattle.board_report.specs.Report.{denial_text}
-use Rattle.board_report.specs.Trace.{denial_line}
+use Rattle.board_report.specs.Parts.{denial_line}
 use Rattle.board_report.proofs.trace.write_denial_line.Goals as goal
 
 pub returns-in_err-write_head : goal.returns-in_err-write_head

@@ -1,6 +1,6 @@
 use Rattle.std.proofs.Common.{◌++◌}
 use Rattle.board_report.specs.Words.{newline}
-use Rattle.board_report.specs.Trace.{bytes_text, out_line}
+use Rattle.board_report.specs.Parts.{bytes_text, out_line}
 use Rattle.board_report.proofs.trace.write_out_line.Goals as goal
 
 pub returns-in_err-write_head : goal.returns-in_err-write_head

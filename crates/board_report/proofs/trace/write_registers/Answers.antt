@@ -1,5 +1,6 @@
 use Rattle.std.proofs.Common.{◌+◌, drop}
-use Rattle.board_report.specs.Trace.{register_text, registers_text}
+use Rattle.board_report.specs.Trace.{registers_text}
+use Rattle.board_report.specs.Parts.{register_text}
 use Rattle.board_report.proofs.Parts.{part_between, texts_around}
 use Rattle.board_report.proofs.trace.write_registers.Goals as goal
 

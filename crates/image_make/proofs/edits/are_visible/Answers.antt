@@ -1,7 +1,7 @@
 use Rattle.std.proofs.Common.{rules, tests}
 use Rattle.std.proofs.lemmas.Iterator.{YieldsList-from_slice}
 use Rattle.std.proofs.lemmas.Iterator.Search.{all_from_yields_List}
-use Rattle.image_make.specs.Outcomes.{is_visible}
+use Rattle.image_make.specs.Parts.{is_visible}
 use Rattle.image_make.proofs.edits.are_visible.Goals as goal
 
 pub returns : goal.returns

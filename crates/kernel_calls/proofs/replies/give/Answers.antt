@@ -1,7 +1,7 @@
 use Rattle.std.proofs.Common.{ap, sym, ◌∙◌}
 use Rattle.tk_base.specs.declared.call.ErrorCode.{ErrorCode}
 use Rattle.syscall_abi.specs.declared.reply.Reply.TheVariants.{Failure}
-use Rattle.kernel_model.specs.Record.{with_process}
+use Rattle.kernel_model.specs.Parts.{with_process}
 use Rattle.kernel_model.specs.Calls.{driver_answered, refused_with}
 use Rattle.kernel_calls.proofs.replies.give.Goals as goal
 

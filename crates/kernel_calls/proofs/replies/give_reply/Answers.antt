@@ -1,6 +1,6 @@
 use Rattle.std.proofs.Common.{Option, ap, ◌∙◌}
 use Rattle.tk_base.specs.declared.call.CallRule.{CallRule}
-use Rattle.kernel_model.specs.Record.{with_process}
+use Rattle.kernel_model.specs.Parts.{with_process}
 use Rattle.kernel_calls.specs.Given.{given}
 use Rattle.kernel_calls.proofs.replies.give_reply.Goals as goal
 

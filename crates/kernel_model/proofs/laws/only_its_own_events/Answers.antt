@@ -8,7 +8,8 @@ use Rattle.tk_base.specs.declared.process.Choice.TheVariants.{Run, Device, Pass}
 use Rattle.kernel_model.specs.Record.{Record}
 use Rattle.kernel_model.specs.Turn.{Turn}
 use Rattle.kernel_model.specs.Laws.{answer_by}
-use Rattle.kernel_model.specs.World.{DeviceStep, Stepped, World, carried_out, device_step_of, done, happens}
+use Rattle.kernel_model.specs.World.{DeviceStep, Stepped, World, carried_out, device_step_of, done}
+use Rattle.kernel_model.specs.Parts.{happens}
 use Rattle.kernel_model.specs.World.{Answer}
 use Rattle.kernel_model.proofs.Places.{ran-other, ran-own, stepped_else, stepped_ready}
 use Rattle.kernel_model.proofs.Told.{told_at}

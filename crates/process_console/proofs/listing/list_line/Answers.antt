@@ -9,7 +9,8 @@ use Rattle.tk_base.specs.declared.upcall.Wait.TheVariants.{No, For, Given}
 use Rattle.process_record.specs.declared.process.State.{State}
 use Rattle.process_record.specs.declared.process.State.TheVariants.{Running, Yielded, Faulted, Terminated}
 use Rattle.process_record.specs.declared.summary.SlotLine.{SlotLine}
-use Rattle.process_record.specs.Lines.{line_word, state_word}
+use Rattle.process_record.specs.Lines.{state_word}
+use Rattle.process_record.specs.Parts.{line_word}
 use Rattle.process_console.proofs.listing.list_line.Goals as goal
 
 -- a word is short

@@ -1,6 +1,6 @@
 use Rattle.std.proofs.Common.{◌≡◌, ◌++◌, not, map, drop, find, Some, None}
 use Rattle.script_text.specs.Rules.{is_hex}
-use Rattle.script_text.specs.Said.{hex_word}
+use Rattle.script_text.specs.Parts.{hex_word}
 use Rattle.script_text.specs.Text.{words}
 use Rattle.script_text.proofs.draft.add_words.Given as goal
 

@@ -2,7 +2,7 @@ use Rattle.std.proofs.Common.{ℕ, ◌<◌, take, arith, sym, subst, ap, ◌∙�
 use Rattle.std.proofs.lemmas.List.{length-take-le}
 use Rattle.tbf_headers.specs.Numbers.{half}
 use Rattle.tbf_headers.specs.Shown.{IsChecked}
-use Rattle.tbf_headers.specs.Tlv.{first_bad}
+use Rattle.tbf_headers.specs.Parts.{first_bad}
 use Rattle.tbf_headers.proofs.Known.{known, long_of}
 use Rattle.tbf_headers.proofs.header.known_header.Goals as goal
 

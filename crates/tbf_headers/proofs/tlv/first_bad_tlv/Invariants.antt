@@ -1,6 +1,7 @@
 use Rattle.std.proofs.Common.{◌≡◌, ◌-◌, ◌%◌, length}
 use Rattle.std.specs.List.{find}
-use Rattle.tbf_headers.specs.Tlv.{is_bad, first_bad, tlv_places_from}
+use Rattle.tbf_headers.specs.Tlv.{is_bad, tlv_places_from}
+use Rattle.tbf_headers.specs.Parts.{first_bad}
 use Rattle.tbf_headers.proofs.tlv.first_bad_tlv.Given as goal
 
 -- the first bad one among those that are left is the first of all

@@ -1,6 +1,6 @@
 use Rattle.std.proofs.Common.{sym, ◌∙◌, arith}
 use Rattle.std.proofs.lemmas.Bool.{eq-eqb, ne_eqb}
-use Rattle.tbf_headers.specs.Tlv.{is_of_type}
+use Rattle.tbf_headers.specs.Parts.{is_of_type}
 use Rattle.tbf_headers.proofs.Places.{find_here, find_later, find_none}
 use Rattle.tbf_headers.proofs.tlv.first_tlv.Goals as goal
 

@@ -1,6 +1,7 @@
 use Rattle.std.proofs.Common.{◌≡◌, ◌-◌, ◌%◌, length}
 use Rattle.std.specs.List.{find}
-use Rattle.tbf_headers.specs.Tlv.{is_of_type, first_of, tlv_places_from}
+use Rattle.tbf_headers.specs.Tlv.{first_of, tlv_places_from}
+use Rattle.tbf_headers.specs.Parts.{is_of_type}
 use Rattle.tbf_headers.proofs.tlv.first_tlv.Given as goal
 
 -- the first of the type among those that are left is the first of all

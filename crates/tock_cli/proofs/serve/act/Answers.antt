@@ -2,7 +2,7 @@ use Rattle.std.proofs.Common.{None, refl}
 use Rattle.tool_words.specs.Words.{command_of}
 use Rattle.tool_tasks.specs.Causes.{told_by}
 use Rattle.tool_tasks.specs.Ready.{task_of}
-use Rattle.tool_answers.specs.Served.{sink_account}
+use Rattle.tool_answers.specs.Parts.{sink_account}
 use Rattle.tool_answers.proofs.Serving.{ends_happen, refused_happens}
 use Rattle.tock_cli.proofs.serve.act.Goals as goal
 

@@ -1,5 +1,5 @@
 use Rattle.std.proofs.Common.{◌+◌, drop, take, rules, string_bytes, subst, sym, ap, ◌∙◌}
-use Rattle.tool_words.specs.Words.{argument_bytes}
+use Rattle.tool_words.specs.Parts.{argument_bytes}
 use Rattle.tool_tasks.proofs.Packing.{PacksOn, begins, one_more, pack_task, refused, words_all, words_more, words_split}
 use Rattle.tool_tasks.proofs.prepare.load_pack.Goals as goal
 

@@ -1,5 +1,5 @@
 use Rattle.std.proofs.Common.{take}
-use Rattle.tool_words.specs.Words.{argument_bytes}
+use Rattle.tool_words.specs.Parts.{argument_bytes}
 use Rattle.tool_tasks.proofs.Packing.{PacksOn}
 use Rattle.tool_tasks.proofs.prepare.load_pack.Given as goal
 

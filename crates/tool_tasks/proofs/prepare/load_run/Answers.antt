@@ -1,7 +1,7 @@
 use Rattle.std.proofs.Common.{rules, subst, sym, ap, ◌∙◌}
 use Rattle.script_text.specs.Reading.{reading}
 use Rattle.tool_words.specs.declared.refusal.File.TheVariants.{Script as ScriptFile}
-use Rattle.tool_words.specs.Words.{run_words}
+use Rattle.tool_words.specs.Parts.{run_words}
 use Rattle.tool_tasks.specs.Causes.{told_by}
 use Rattle.tool_tasks.specs.Ready.{HasNoReading}
 use Rattle.tool_tasks.proofs.Loading.{run_refused, run_task, run_unread, run_unread_flash, text_later, unread_later}

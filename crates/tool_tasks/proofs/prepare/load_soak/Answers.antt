@@ -2,7 +2,8 @@ use Rattle.std.proofs.Common.{◌∙◌, rules, subst, sym, ap, List, ℕ, None}
 use Rattle.script_text.specs.Reading.{reading}
 use Rattle.board_opening.specs.Opening.{opening}
 use Rattle.run_text.specs.declared.mode.Mode.TheVariants.{Soak}
-use Rattle.tool_tasks.specs.Comes.{IsTaskOf, Running}
+use Rattle.tool_tasks.specs.Comes.{Running}
+use Rattle.tool_tasks.specs.Parts.{IsTaskOf}
 use Rattle.tool_words.specs.Words.{Soaks}
 use Rattle.tool_tasks.proofs.Loading.{soak_task}
 use Rattle.tool_tasks.proofs.Soak.{only_memory}

@@ -1,7 +1,8 @@
 use Rattle.std.proofs.Common.{◌∙◌, rules, tests}
 use Rattle.std.proofs.lemmas.Iterator.{YieldsList-from_slice}
 use Rattle.std.proofs.lemmas.Iterator.Search.{find_from_yields_List}
-use Rattle.turn_scheduler.specs.RoundRobin.{place_is_ready, device_place, device_order, ready_device}
+use Rattle.turn_scheduler.specs.RoundRobin.{device_place, device_order, ready_device}
+use Rattle.turn_scheduler.specs.Parts.{place_is_ready}
 use Rattle.turn_scheduler.proofs.choice.ready_device.Goals as goal
 
 pub returns : goal.returns

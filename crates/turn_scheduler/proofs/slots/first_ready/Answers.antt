@@ -1,5 +1,5 @@
 use Rattle.std.proofs.Common.{sym, ap, ◌∙◌}
-use Rattle.turn_scheduler.specs.RoundRobin.{place_is_ready}
+use Rattle.turn_scheduler.specs.Parts.{place_is_ready}
 use Rattle.partition_turns.proofs.Found.{find-pass}
 use Rattle.turn_scheduler.proofs.slots.first_ready.Goals as goal
 

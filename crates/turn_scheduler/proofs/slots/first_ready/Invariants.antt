@@ -1,6 +1,6 @@
 use Rattle.std.proofs.Common.{◌≡◌, ◌-◌, find}
 use Rattle.std.specs.List.{range_with_len}
-use Rattle.turn_scheduler.specs.RoundRobin.{place_is_ready}
+use Rattle.turn_scheduler.specs.Parts.{place_is_ready}
 use Rattle.turn_scheduler.proofs.slots.first_ready.Given as goal
 
 -- what is first among the slots that are left is first among all

@@ -1,5 +1,5 @@
 use Rattle.std.proofs.Common.{◌≡◌, ◌+◌, ℕ, Bool, None, rules, sym, ◌∙◌}
-use Rattle.turn_scheduler.specs.RoundRobin.{place_is_ready}
+use Rattle.turn_scheduler.specs.Parts.{place_is_ready}
 use Rattle.turn_scheduler.proofs.Order.{none_past, slots_after-none, slots_after-some, slots_after-start}
 use Rattle.turn_scheduler.proofs.slots.next_in_order.Goals as goal
 

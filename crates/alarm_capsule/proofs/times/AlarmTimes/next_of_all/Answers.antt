@@ -1,7 +1,8 @@
 use Rattle.std.proofs.Common.{◌+◌, ◌-◌, ℕ, fold, Option, ap, ◌∙◌}
 use Rattle.std.specs.List.{range_with_len}
 use Rattle.tk_base.specs.declared.limits.TheConstants.{SLOT_COUNT}
-use Rattle.driver_model.specs.Alarm.{ticks_left_in, nearer, nearer_with}
+use Rattle.driver_model.specs.Alarm.{ticks_left_in, nearer}
+use Rattle.driver_model.specs.Parts.{nearer_with}
 use Rattle.alarm_capsule.proofs.Slots.{all_folded, folded}
 use Rattle.alarm_capsule.proofs.times.AlarmTimes.next_of_all.Goals as goal
 

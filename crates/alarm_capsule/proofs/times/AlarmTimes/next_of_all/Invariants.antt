@@ -1,7 +1,8 @@
 use Rattle.std.proofs.Common.{◌≡◌, ◌-◌, fold}
 use Rattle.std.specs.List.{range_with_len}
 use Rattle.tk_base.specs.declared.limits.TheConstants.{SLOT_COUNT}
-use Rattle.driver_model.specs.Alarm.{nearer_with, next_left}
+use Rattle.driver_model.specs.Alarm.{next_left}
+use Rattle.driver_model.specs.Parts.{nearer_with}
 use Rattle.alarm_capsule.proofs.times.AlarmTimes.next_of_all.Given as goal
 
 -- the slots that are left, folded in, lead to the least of all

@@ -1,4 +1,4 @@
-use Rattle.std.proofs.Common.{◌≡◌, ◌<◌, ◌-◌, ◌^◌, ℕ, List, Option, None, Some, rules, sym, subst, arith, ◌∙◌}
+use Rattle.std.proofs.Common.{◌≡◌, ℕ, List, Option, None, Some, rules, sym, subst, arith, ◌∙◌}
 use Rattle.alarm_capsule.specs.Times.{AllTell}
 use Rattle.alarm_capsule.proofs.Nearest.{nearest_is_near, nearest_is_next, none_is_next}
 use Rattle.alarm_capsule.proofs.times.AlarmTimes.next_of_any.Goals as goal

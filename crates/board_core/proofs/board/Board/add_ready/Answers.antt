@@ -1,5 +1,5 @@
 use Rattle.std.proofs.Common.{ap, arith, length, map, sym, ◌∙◌, ◌≡◌}
-use Rattle.turn_scheduler.specs.RoundRobin.{place_is_ready}
+use Rattle.turn_scheduler.specs.Parts.{place_is_ready}
 use Rattle.kernel_model.specs.Run.{ready_slots}
 use Rattle.kernel_model.specs.Turn.{may_turn}
 use Rattle.kernel_model.specs.World.{World, only_in}

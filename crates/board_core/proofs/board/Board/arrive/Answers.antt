@@ -1,4 +1,9 @@
-use Rattle.std.proofs.Common.{◌≡◌, None, true, sym, ap, ◌∙◌, arith}
+use Rattle.std.proofs.Common.{◌≡◌, ◌≤◌, List, length, None, true, sym, ap, subst, ◌∙◌, arith}
+use Rattle.std.specs.List.{zip}
+use Rattle.tk_base.specs.declared.limits.TheConstants.{SLOT_COUNT}
+use Rattle.process_record.specs.declared.process.Process.{Process}
+use Rattle.board_core.specs.ReadySlots.{NoneBeyond, TurnsTell}
+use Rattle.board_core.proofs.ReadySlots.{none_beyond}
 use Rattle.tk_base.specs.declared.process.Choice.TheVariants.{Device}
 use Rattle.tk_base.specs.declared.process.Dev.TheVariants.{Event}
 use Rattle.board_devices.specs.Arriving.{is_time}
@@ -43,11 +48,28 @@ look_ahead-self-inside-requires-clause-free c =
     (parts_then c.self.inside c.arrive.new.home c.arrive.new.self c.arrive.ensures c.lines_follow_answers.ensures
     c.self.invariant (below_shown c.self.inside c.args.self.now c.self.view_is c.requires)).driven.free
 
+pub look_at_all-requires-clause-owns : goal.look_at_all-requires-clause-owns
+look_at_all-requires-clause-owns c =
+    (parts_then c.self.inside c.arrive.new.home c.arrive.new.self c.arrive.ensures c.lines_follow_answers.ensures
+    c.self.invariant (below_shown c.self.inside c.args.self.now c.self.view_is c.requires)).owns
+    ∙ ap length (sym c.deref.ensures.value)
+
+pub look_at_all-requires-clause-few : goal.look_at_all-requires-clause-few
+look_at_all-requires-clause-few c =
+    subst (λ (ps : List Process). length ps ≤ SLOT_COUNT) (sym c.deref.ensures.value) c.self.invariant.few
+
+pub look_at_all-requires-clause-beyond : goal.look_at_all-requires-clause-beyond
+look_at_all-requires-clause-beyond c =
+    subst (λ (ps : List Process). NoneBeyond (length ps) c.self.inside.ready) (sym c.deref.ensures.value)
+    (none_beyond c.self.inside.ready c.self.inside.processes.items c.self.inside.machine.home.owns c.self.invariant.ready)
+
 pub invariant_of-self : goal.invariant_of-self
 invariant_of-self c =
     arrived_board c.self.inside c.arrive.new.home c.arrive.new.self c.arrive.ensures c.lines_follow_answers.ensures
     c.self.invariant (below_shown c.self.inside c.args.self.now c.self.view_is c.requires)
-    c.look_ahead-self-inside.result c.look_ahead-self-inside.ensures.calm
+    c.look_ahead-self-inside.result c.look_at_all.new.self
+    (subst (λ (ps : List Process). TurnsTell c.look_at_all.new.self (zip ps c.arrive.new.home.owns))
+    c.deref.ensures.value c.look_at_all.ensures) c.look_ahead-self-inside.ensures.calm
 
 pub returns : goal.returns
 returns c =

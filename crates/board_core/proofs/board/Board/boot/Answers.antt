@@ -17,7 +17,8 @@ use Rattle.kernel_model.specs.declared.settings.Settings.{Settings}
 use Rattle.board_drivers.specs.Driven.{AreDriven, AreFresh, HasLanes, devices_of}
 use Rattle.board_opening.specs.Settings.{visible_settings}
 use Rattle.board_opening.specs.Boot.{IsFirst, fresh_record, layout_at}
-use Rattle.board_opening.specs.Opening.{opening, placed_applications, record_placed, unplaced_at}
+use Rattle.board_opening.specs.Opening.{opening, record_placed}
+use Rattle.board_opening.specs.Opening.{placed_applications, unplaced_at}
 use Rattle.board_drivers.specs.Residents.{HasLost, IsResident, record_of}
 use Rattle.board_opening.specs.Alone.{OpensAlone}
 use Rattle.board_opening.proofs.Alone.{openings_are_alone}
@@ -26,6 +27,9 @@ use Rattle.board_opening.proofs.Crews.{opening_shown}
 use Rattle.board_opening.proofs.Fresh.{all_same, driven_first, lanes_first}
 use Rattle.kernel_model.specs.World.{World, lane_count}
 use Rattle.board_core.proofs.Boards.{first_tell}
+use Rattle.board_core.specs.ReadySlots.{NoneBeyond, TurnsTell}
+use Rattle.board_core.proofs.ReadySlots.{none_first}
+use Rattle.process_record.specs.declared.process.Process.{Process}
 use Rattle.board_core.proofs.board.Board.boot.Goals as goal
 use Rattle.board_core.proofs.board.Board.boot.Goals.{After-deref-4}
 
@@ -86,6 +90,23 @@ look_ahead-calm-requires-clause-alarms c =
     first_tell c.settings_of.result.start c.new-alarms.result c.in-Ok.home es (ap (λ (h : Homes). h.owns) home_is)
     c.new-alarms.ensures
 
+pub look_at_all-requires-clause-owns : goal.look_at_all-requires-clause-owns
+look_at_all-requires-clause-owns c =
+    let es = c.in_ok-processes.field-0.footprints.items in
+    ap (λ (h : Homes). length h.owns) c.in-Ok.ensures
+    ∙ ap (λ (fs : List Footprint). length (map opened fs)) c.deref-4.ensures.value
+    ∙ length-map es opened ∙ sym c.in_ok-processes.ensures.count ∙ ap length (sym c.deref-5.ensures.value)
+
+pub look_at_all-requires-clause-few : goal.look_at_all-requires-clause-few
+look_at_all-requires-clause-few c =
+    subst (λ (ps : List Process). length ps ≤ SLOT_COUNT) (sym c.deref-5.ensures.value)
+    (no_more_than_slots (goal.at.look_at_all-requires-clause-few c).After-deref-4)
+
+pub look_at_all-requires-clause-beyond : goal.look_at_all-requires-clause-beyond
+look_at_all-requires-clause-beyond c =
+    subst (NoneBeyond (length c.deref-5.result.now)) (sym c.new-ready.ensures)
+    (none_first SLOT_COUNT (length c.deref-5.result.now))
+
 pub invariant_of-result : goal.invariant_of-result
 invariant_of-result c =
     let crew = c.in_ok-processes.ensures in
@@ -120,6 +141,8 @@ invariant_of-result c =
       calm = c.look_ahead-calm.ensures.calm;
       alarms = first_tell c.settings_of.result.start c.new-alarms.result c.in-Ok.home es
           (ap (λ (h : Homes). h.owns) home_is) c.new-alarms.ensures;
+      ready = subst (λ (ps : List Process). TurnsTell c.look_at_all.new.self (zip ps c.in-Ok.home.owns))
+          c.deref-5.ensures.value c.look_at_all.ensures;
       slice = c.script.invariant.slice_least;
       used = omega arith;
     }
@@ -186,7 +209,7 @@ returns-clause-world c =
     crew.count
     (no_more_than_slots (goal.at.returns-clause-world c).After-deref-4)
     (shown ∙ ap (filter_map (record_placed script.storage flash)) (c.deref-3.ensures.0 ∙ placed))
-    (c.unplaced.ensures ∙ ap (filter_map unplaced_at) (c.deref-5.ensures.0 ∙ placed))
+    (c.unplaced.ensures ∙ ap (filter_map unplaced_at) (c.deref-6.ensures.0 ∙ placed))
     (c.settings_of.ensures
     ∙ ap visible_settings (sym c.script.view_is))
     (subst (λ (s : Script). AreFresh s c.in_ok-drivers.drivers) (sym c.script.view_is) c.in_ok-drivers.ensures)

@@ -1,7 +1,8 @@
 use Rattle.std.proofs.Common.{List, ap, slice_get, sym, ◌∙◌}
 use Rattle.std.specs.List.{zip}
 use Rattle.process_record.specs.declared.process.Process.{Process}
-use Rattle.kernel_model.specs.World.{World, can_run}
+use Rattle.kernel_model.specs.World.{World}
+use Rattle.kernel_model.specs.Named.{can_run}
 use Rattle.board_drivers.specs.Residents.{can_turn_in}
 use Rattle.board_core.proofs.Boards.{run_shown}
 use Rattle.board_core.proofs.board.Board.can_run_alone.Goals as goal

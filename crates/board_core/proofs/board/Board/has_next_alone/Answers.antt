@@ -1,5 +1,5 @@
 use Rattle.std.proofs.Common.{Some, ap, is_some, ◌∙◌}
-use Rattle.kernel_model.specs.Run.{work_for}
+use Rattle.kernel_model.specs.Parts.{work_for}
 use Rattle.kernel_model.specs.World.{Work, World}
 use Rattle.board_core.proofs.Ready.{work_shown}
 use Rattle.board_core.proofs.board.Board.has_next_alone.Goals as goal

@@ -1,6 +1,6 @@
 use Rattle.std.proofs.Common.{◌||◌, Bool, ap, sym, ◌∙◌}
 use Rattle.tk_base.specs.declared.process.Dev.TheVariants.{Receive, Random, Store}
-use Rattle.kernel_model.specs.Run.{work_for}
+use Rattle.kernel_model.specs.Parts.{work_for}
 use Rattle.board_core.proofs.AnyReady.{one_is_ready}
 use Rattle.board_core.proofs.board.Board.has_ready_alone.Goals as goal
 

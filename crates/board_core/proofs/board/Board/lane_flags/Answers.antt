@@ -4,7 +4,7 @@ use Rattle.std.proofs.lemmas.List.{length-map, map-append}
 use Rattle.tk_base.specs.declared.limits.TheConstants.{SLOT_COUNT}
 use Rattle.std.proofs.lemmas.List.FromFn.{length-map-range_with_len}
 use Rattle.kernel_laws.specs.Windows.{lane_order}
-use Rattle.kernel_model.specs.Run.{work_for}
+use Rattle.kernel_model.specs.Parts.{work_for}
 use Rattle.board_core.proofs.Tables.{slot_more}
 use Rattle.board_core.proofs.board.Board.lane_flags.Goals as goal
 

@@ -1,7 +1,7 @@
 use Rattle.std.proofs.Common.{◌≡◌, map}
 use Rattle.std.specs.List.{range_with_len}
 use Rattle.kernel_laws.specs.Windows.{lane_order}
-use Rattle.kernel_model.specs.Run.{work_for}
+use Rattle.kernel_model.specs.Parts.{work_for}
 use Rattle.board_core.proofs.board.Board.lane_flags.Given as goal
 
 -- those of the slots that were looked at

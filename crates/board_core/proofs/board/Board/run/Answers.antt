@@ -1,4 +1,6 @@
-use Rattle.std.proofs.Common.{◌≡◌, ◌+◌, ◌<◌, [], true, Some, refl, ap, sym, subst, ◌∙◌, arith, length}
+use Rattle.std.specs.List.{zip}
+use Rattle.process_record.specs.declared.process.Process.{Process}
+use Rattle.std.proofs.Common.{◌≡◌, ◌+◌, ◌<◌, List, [], true, Some, refl, ap, sym, subst, ◌∙◌, arith, length}
 use Rattle.tk_base.specs.declared.process.Choice.TheVariants.{Run}
 use Rattle.tk_base.specs.declared.limits.TheConstants.{STEP_LIMIT}
 use Rattle.grant_enter.specs.Homes.{Homes}
@@ -20,10 +22,13 @@ use Rattle.board_core.proofs.Changes.{turn_later, turn_shown, world_after}
 use Rattle.board_drivers.proofs.Records.{beside}
 use Rattle.board_core.proofs.Devices.{made_so}
 use Rattle.board_core.proofs.Boards.{may_turn_on}
-use Rattle.board_core.proofs.TurnLines.{alarms_later, lines_stay, may_serve, others_later}
+use Rattle.board_core.proofs.KnownEnds.{known_at}
+use Rattle.board_core.specs.KnownEnds.{IsKnownEnd}
+use Rattle.board_core.proofs.TurnLines.{alarms_later, lines_stay, may_serve, others_later, others_stay_able, owns_count}
+use Rattle.board_core.specs.ReadySlots.{OtherTurnsTell, TurnsTell}
 use Rattle.board_core.proofs.TurnLines.{turn_is_idle, turn_leaves_alarm, turned_board}
 use Rattle.board_core.proofs.board.Board.run.Goals as goal
-use Rattle.board_core.proofs.board.Board.run.Goals.{After-clear}
+use Rattle.board_core.proofs.board.Board.run.Goals.{After-clear, After-look}
 
 -- the slot is one that can have a turn
 can_run_is : (c : After-clear) → is_ready (world_of c.self.inside) (Run c.args.slot) ≡ true
@@ -43,6 +48,11 @@ pub turn_at-requires-clause-may : goal.turn_at-requires-clause-may
 turn_at-requires-clause-may c =
     may_serve c.self.inside c.args.slot c.self.invariant
     (omega (arith, (within (goal.at.turn_at-requires-clause-may c).After-clear).1, c.self.invariant.owns))
+
+pub turn_at-requires-clause-known : goal.turn_at-requires-clause-known
+turn_at-requires-clause-known c =
+    known_at c.self.inside c.args.slot c.args.end c.self.invariant
+    (subst (λ (w : World). IsKnownEnd w c.args.end (Run c.args.slot)) (sym c.self.view_is) c.requires.known)
 
 pub calm_after-self-inside-requires-clause-free : goal.calm_after-self-inside-requires-clause-free
 calm_after-self-inside-requires-clause-free c =
@@ -95,6 +105,25 @@ look_again-requires-clause-unarmed c unarmed =
     (turn_leaves_alarm b c.args.slot x processes shown c.self.invariant t
     c.alarms_change_at_their_commands.ensures.alarms unarmed))
 
+-- the table of processes, as it is looked at again
+looked : (c : After-look) → TurnsTell c.look.new.self (zip c.turn_at.new.processes.items c.turn_at.new.self.home.owns)
+looked c =
+    subst (λ (ps : List Process). TurnsTell c.look.new.self (zip ps c.turn_at.new.self.home.owns)) c.deref.ensures.value
+    c.look.ensures
+
+pub look-requires-clause-owns : goal.look-requires-clause-owns
+look-requires-clause-owns c =
+    owns_count c.self.inside c.args.slot c.turn_at.new.self c.turn_at.new.processes.items
+    (told_in_emit c.turn_at.new.emit) c.self.invariant c.turn_at.ensures.turn
+    ∙ ap length (sym c.deref.ensures.value)
+
+pub look-requires-clause-others : goal.look-requires-clause-others
+look-requires-clause-others c =
+    subst (λ (ps : List Process). OtherTurnsTell c.args.slot c.self.inside.ready
+    (zip ps c.turn_at.new.self.home.owns)) (sym c.deref.ensures.value)
+    (others_stay_able c.self.inside c.args.slot c.turn_at.new.self c.turn_at.new.processes.items
+    (told_in_emit c.turn_at.new.emit) c.self.invariant c.turn_at.ensures.turn)
+
 pub invariant_of-self : goal.invariant_of-self
 invariant_of-self c =
     let b = c.self.inside in
@@ -107,16 +136,19 @@ invariant_of-self c =
       processes = t.new.processes;
       calm = calm;
       alarms = times;
+      ready = c.look.new.self;
       present = Some c.args.slot;
       used = c.used_after-self-inside.result;
     })) (sym t.ensures.turn.moment)
     (turned_board b left c.args.slot (told_in_emit t.new.emit) c.self.invariant t.ensures.turn calm
-    c.used_after-self-inside.result times c.grants_change_at_calls.ensures.drops c.turns_keep_lines.ensures.lines
+    c.used_after-self-inside.result times c.look.new.self c.grants_change_at_calls.ensures.drops
+    c.turns_keep_lines.ensures.lines
     (can_run_is (goal.at.invariant_of-self c).After-clear)
     (subst (λ (m : Moment). IsCalm m.settings.start m.window (m.time + 1) calm t.new.self.home.owns t.new.self.drivers)
     t.ensures.turn.moment c.calm_after-self-inside.ensures)
     (subst (λ (m : Moment). AlarmsTell (turn_later m) times t.new.self.home.owns) t.ensures.turn.moment
     c.look_again.ensures)
+    (looked (goal.at.invariant_of-self c).After-look)
     (c.used_after-self-inside.ensures.within c.self.invariant.slice c.self.invariant.used))
 
 pub returns : goal.returns
@@ -135,6 +167,7 @@ returns c =
       processes = processes;
       calm = c.calm_after-self-inside.result;
       alarms = c.look_again.new.alarms;
+      ready = c.look.new.self;
       present = Some c.args.slot;
       used = c.used_after-self-inside.result;
     }) ≡ (carried_out (world_of b) (Run c.args.slot)).after) (sym t.moment)

@@ -1,5 +1,8 @@
-use Rattle.std.proofs.Common.{◌≡◌, ◌+◌, ◌<◌, ℕ, List, [], ◌∷◌, Some, true, false, All, slice_get, sym, ap, ap₂, subst, ◌∙◌, arith}
+use Rattle.std.proofs.Common.{◌≡◌, ◌+◌, ◌<◌, ℕ, List, [], ◌∷◌, Option, Some, true, false, All}
+use Rattle.std.proofs.Common.{slice_get, sym, ap, ap₂, subst, ◌∙◌, arith}
 use Rattle.std.specs.List.{zip}
+use Rattle.std.specs.Prelude.{IfSome}
+use Rattle.tk_base.specs.declared.process.Choice.{Choice}
 use Rattle.tk_base.specs.declared.process.Choice.TheVariants.{Run}
 use Rattle.process_record.specs.declared.process.Process.{Process}
 use Rattle.kernel_model.specs.Run.{next, ready_devices}
@@ -13,9 +16,10 @@ use Rattle.board_drivers.specs.declared.moment.Moment.{Moment}
 use Rattle.board_turns.specs.declared.machine.Machine.{Machine}
 use Rattle.board_core.specs.declared.board.Board.TheInside.{Inside}
 use Rattle.board_core.specs.Shows.{IsBoard, world_of}
+use Rattle.board_core.specs.KnownEnds.{IsKnownEnd}
 use Rattle.board_core.specs.Stretches.{slot_runs}
 use Rattle.board_core.proofs.Ready.{calm_shown}
-use Rattle.board_core.proofs.Stretches.{ends_shown, looked_ahead, next_stays, nothing_comes, rests_there}
+use Rattle.board_core.proofs.Stretches.{end_known, ends_shown, looked_ahead, next_stays, nothing_comes, rests_there}
 use Rattle.board_core.proofs.Stretches.{runs_within, still, stretch_shown, turns_later, used_within}
 use Rattle.board_core.proofs.Boards.{may_turn_on}
 use Rattle.board_core.proofs.board.Board.run_part.Goals as goal
@@ -34,8 +38,8 @@ returns-then-self-clause-ends c e h g =
     nothing_comes c.self.inside c.self.invariant g
     c.next_is_ready.ensures.ahead (c.calm_ahead-self-inside.ensures.come c.if-self.true)
 
-pub turns_at-made-requires : goal.turns_at-made-requires
-turns_at-made-requires c =
+pub turns_at-stretch-requires : goal.turns_at-stretch-requires
+turns_at-stretch-requires c =
     may_turn_on c.turns_left-left.result c.self.inside c.in-Some.slot c.self.invariant
     (runs_within c.self.inside.processes.items c.in-Some.slot
     (ap (λ (ps : List Process). slot_runs (slice_get ps c.in-Some.slot)) (sym c.deref.ensures.value)
@@ -57,10 +61,13 @@ left_machine : (old new : Machine) → new.drivers ≡ old.drivers → new.momen
 left_machine old new d m =
     ap₂ (λ (e : Drivers) (n : Moment). record new { drivers = e; moment = n }) d m
 
-same_machine : (c : After-is_over) → c.turns_at-made.new.self
-    ≡ record c.self.inside.machine { home = c.turns_at-made.new.self.home; guard = c.turns_at-made.new.self.guard }
-same_machine c = left_machine c.self.inside.machine c.turns_at-made.new.self c.turns_at-made.ensures.drivers
-    c.turns_at-made.ensures.quiet.moment
+same_machine : (c : After-is_over) → c.turns_at-stretch.new.self
+    ≡ record c.self.inside.machine {
+      home = c.turns_at-stretch.new.self.home;
+      guard = c.turns_at-stretch.new.self.guard;
+    }
+same_machine c = left_machine c.self.inside.machine c.turns_at-stretch.new.self c.turns_at-stretch.ensures.drivers
+    c.turns_at-stretch.ensures.quiet.moment
 
 -- a board with these turns made
 abbrev turned : After-is_over → Machine → Inside
@@ -71,47 +78,48 @@ turned c x = record c.self.inside {
       steps = x.moment.steps + c.from-ticks.result;
     };
   };
-  processes = c.turns_at-made.new.processes;
+  processes = c.turns_at-stretch.new.processes;
   calm = c.calm_ahead-self-inside.result;
   present = c.present_after-present.result.0;
   used = c.present_after-present.result.1;
 }
 
 -- is a board
-board_then : (c : After-is_over) → IsBoard (turned c c.turns_at-made.new.self)
+board_then : (c : After-is_over) → IsBoard (turned c c.turns_at-stretch.new.self)
 board_then c =
     let b = record c.self.inside { calm = c.calm_ahead-self-inside.result } in
     let board = looked_ahead c.self.inside c.calm_ahead-self-inside.result c.self.invariant
     c.calm_ahead-self-inside.ensures.calm in
-    let k = c.turns_at-made.result in
-    let x = c.turns_at-made.new.self in
-    let processes = c.turns_at-made.new.processes.items in
+    let k = c.turns_at-stretch.result.went in
+    let x = c.turns_at-stretch.new.self in
+    let processes = c.turns_at-stretch.new.processes.items in
     let left = c.turns_left-left.ensures in
     let ticks = c.from-ticks.ensures in
     let present = c.present_after-present in
     let holds = still b board c.in-Some.slot k c.turns_left-left.result present.result.1 present.result.0 x processes
-    c.turns_at-made.ensures.quiet in
+    c.turns_at-stretch.ensures.quiet in
     subst (λ (y : Machine). IsBoard (turned c y)) (sym (same_machine c)) (record {
       seated = subst (λ (n : ℕ). All (IsResident x.home.flash (b.machine.moment.steps + n)) (zip processes x.home.owns))
           (sym ticks) holds.seated;
       lost = subst (λ (n : ℕ). All (HasLost (b.machine.moment.steps + n)) x.home.owns) (sym ticks) holds.lost;
       owns = holds.owns;
       few = holds.few;
-      guard = c.turns_at-made.ensures.quiet.guard;
+      guard = c.turns_at-stretch.ensures.quiet.guard;
       driven = subst (λ (n : ℕ). AreDriven b.machine.moment.settings (b.machine.moment.time + n) x.home.owns
           b.machine.drivers) (sym ticks) holds.driven;
       lanes = board.lanes;
       served = few_still b.machine.moment.steps (b.machine.moment.steps + c.from-ticks.result)
           b.machine.drivers.stores.served (omega arith) board.served;
-      steps = omega (arith, ticks, left.limit, c.turns_at-made.ensures.most);
+      steps = omega (arith, ticks, left.limit, c.turns_at-stretch.ensures.most);
       time = omega (arith, board.time);
       calm = subst (λ (n : ℕ). IsCalm b.machine.moment.settings.start b.machine.moment.window (b.machine.moment.time + n) b.calm x.home.owns
           b.machine.drivers) (sym ticks) holds.calm;
       alarms = subst (λ (n : ℕ). AlarmsTell (turns_later n b.machine.moment) b.alarms x.home.owns) (sym ticks)
           (holds.alarms c.time_brings_an_alarm_nearer.ensures);
+      ready = holds.ready;
       slice = board.slice;
       used = used_within b.used b.slice c.used_before-before.result k present.result.1 board.used
-          (omega (arith, left.slice, c.turns_at-made.ensures.most)) (λ none. (present.ensures.none none).1)
+          (omega (arith, left.slice, c.turns_at-stretch.ensures.most)) (λ none. (present.ensures.none none).1)
           (λ some. (present.ensures.some some).1);
     })
 
@@ -119,14 +127,14 @@ pub invariant_of-self-2 : goal.invariant_of-self-2
 invariant_of-self-2 c = board_then (goal.at.invariant_of-self-2 c).After-is_over
 
 -- where turns were left no device step is ready then
-calm_then : (c : After-is_over) → c.turns_at-made.result < c.turns_left-left.result
-    → ready_devices (world_of (turned c c.turns_at-made.new.self))
+calm_then : (c : After-is_over) → c.turns_at-stretch.result.went < c.turns_left-left.result
+    → ready_devices (world_of (turned c c.turns_at-stretch.new.self))
     ≡ false ∷ false ∷ false ∷ false ∷ false ∷ false ∷ []
 calm_then c fewer =
-    let b = turned c c.turns_at-made.new.self in
+    let b = turned c c.turns_at-stretch.new.self in
     let board = board_then c in
     let until = c.turns_left-left.ensures.until in
-    let same = ap (λ (m : Moment). m.time) c.turns_at-made.ensures.quiet.moment in
+    let same = ap (λ (m : Moment). m.time) c.turns_at-stretch.ensures.quiet.moment in
     calm_shown b board (board.calm.none b.machine.moment.time (omega arith)
     (omega (arith, until, fewer, same, c.from-ticks.ensures)))
 
@@ -137,13 +145,13 @@ returns-clause-stretch c =
     let board = looked_ahead c.self.inside c.calm_ahead-self-inside.result c.self.invariant
     c.calm_ahead-self-inside.ensures.calm in
     let left = c.turns_left-left.ensures in
-    let most = c.turns_at-made.ensures.most in
+    let most = c.turns_at-stretch.ensures.most in
     let present = c.present_after-present in
-    let q = c.turns_at-made.ensures.quiet in
-    subst (λ (y : Machine). IsStretch c.turns_at-made.result c.args.self.now (world_of (turned a y)))
+    let q = c.turns_at-stretch.ensures.quiet in
+    subst (λ (y : Machine). IsStretch c.turns_at-stretch.result.went c.args.self.now (world_of (turned a y)))
     (sym (same_machine a))
-    (stretch_shown b board c.in-Some.slot c.turns_at-made.result c.turns_left-left.result present.result.1
-    present.result.0 c.turns_at-made.new.self c.turns_at-made.new.processes.items q
+    (stretch_shown b board c.in-Some.slot c.turns_at-stretch.result.went c.turns_left-left.result present.result.1
+    present.result.0 c.turns_at-stretch.new.self c.turns_at-stretch.new.processes.items q
     (chosen c) (ap slot_runs (sym q.at.was) ∙ runs_there c) c.used_before-before.result
     c.used_before-before.ensures.value (omega (arith, left.slice, most)) (omega (arith, left.until, most))
     (omega (arith, left.limit, most)) present.ensures.none present.ensures.some
@@ -158,11 +166,12 @@ returns-clause-ends c e h g =
     let board = looked_ahead c.self.inside c.calm_ahead-self-inside.result c.self.invariant
     c.calm_ahead-self-inside.ensures.calm in
     let left = c.turns_left-left.ensures in
-    let most = c.turns_at-made.ensures.most in
+    let most = c.turns_at-stretch.ensures.most in
     let present = c.present_after-present in
-    let q = c.turns_at-made.ensures.quiet in
-    ends_shown b board c.in-Some.slot c.turns_at-made.result c.turns_left-left.result present.result.1 present.result.0
-    c.turns_at-made.new.self c.turns_at-made.new.processes.items q
+    let q = c.turns_at-stretch.ensures.quiet in
+    ends_shown b board c.in-Some.slot c.turns_at-stretch.result.went c.turns_left-left.result present.result.1
+    present.result.0
+    c.turns_at-stretch.new.self c.turns_at-stretch.new.processes.items q
     (chosen c) (ap slot_runs (sym q.at.was) ∙ runs_there c) c.used_before-before.result
     c.used_before-before.ensures.value (omega (arith, left.slice, most)) (omega (arith, left.until, most))
     (omega (arith, left.limit, most)) present.ensures.none present.ensures.some
@@ -178,18 +187,33 @@ returns-clause-next c e =
     let board = looked_ahead c.self.inside c.calm_ahead-self-inside.result c.self.invariant
     c.calm_ahead-self-inside.ensures.calm in
     let left = c.turns_left-left.ensures in
-    let most = c.turns_at-made.ensures.most in
+    let most = c.turns_at-stretch.ensures.most in
     let present = c.present_after-present in
-    let q = c.turns_at-made.ensures.quiet in
+    let q = c.turns_at-stretch.ensures.quiet in
     c.in-Some.ensures.some
     ∙ subst (λ (y : Machine). Some (Run c.in-Some.slot) ≡ next (world_of (turned a y))) (sym (same_machine a))
-    (next_stays b board c.in-Some.slot c.turns_at-made.result c.turns_left-left.result present.result.1
-    present.result.0 c.turns_at-made.new.self c.turns_at-made.new.processes.items q
+    (next_stays b board c.in-Some.slot c.turns_at-stretch.result.went c.turns_left-left.result present.result.1
+    present.result.0 c.turns_at-stretch.new.self c.turns_at-stretch.new.processes.items q
     (chosen a) (ap slot_runs (sym q.at.was) ∙ runs_there a) c.used_before-before.result
     c.used_before-before.ensures.value (omega (arith, left.slice, most)) (omega (arith, left.until, most))
     (omega (arith, left.limit, most)) present.ensures.none present.ensures.some
     c.round_is_stretch.ensures.stays c.from-ticks.result c.turns_left-left.result c.from-ticks.ensures most
     (c.is_over.ensures.over e) left.slice left.until
-    (subst (λ (y : Machine). c.turns_at-made.result < c.turns_left-left.result
+    (subst (λ (y : Machine). c.turns_at-stretch.result.went < c.turns_left-left.result
     → ready_devices (world_of (turned a y)) ≡ false ∷ false ∷ false ∷ false ∷ false ∷ false ∷ []) (same_machine a)
     (calm_then a)))
+
+pub returns-clause-known : goal.returns-clause-known
+returns-clause-known c e =
+    let a = (goal.at.returns-clause-known c).After-is_over in
+    let b = record c.self.inside { calm = c.calm_ahead-self-inside.result } in
+    let board = looked_ahead c.self.inside c.calm_ahead-self-inside.result c.self.invariant
+    c.calm_ahead-self-inside.ensures.calm in
+    let end = c.turns_at-stretch.result.end in
+    let present = c.present_after-present in
+    subst (λ (o : Option Choice). IfSome o (IsKnownEnd (world_of (turned a c.turns_at-stretch.new.self)) end))
+    (sym c.in-Some.ensures.some)
+    (subst (λ (y : Machine). IsKnownEnd (world_of (turned a y)) end (Run c.in-Some.slot)) (sym (same_machine a))
+    (end_known b board c.in-Some.slot c.turns_at-stretch.result.went c.turns_left-left.result present.result.1
+    present.result.0 c.turns_at-stretch.new.self c.turns_at-stretch.new.processes.items
+    c.turns_at-stretch.ensures.quiet c.from-ticks.result c.from-ticks.ensures))

@@ -1,4 +1,5 @@
 use Rattle.std.proofs.Common.{◌+◌, refl, arith}
+use Rattle.board_core.proofs.KnownEnds.{nothing_known_next}
 use Rattle.board_core.proofs.board.Board.run_quietly.Goals as goal
 
 pub loop-made-init : goal.loop-made-init
@@ -35,3 +36,6 @@ returns-then-part-clause-accounted c =
 pub returns-clause-accounted : goal.returns-clause-accounted
 returns-clause-accounted c =
     c.steps_are_accounted_for.ensures.stretch c.loop-made.made c.args.self.now c.loop-made.self c.loop-made.invariant.1
+
+pub returns-clause-known : goal.returns-clause-known
+returns-clause-known c = nothing_known_next c.loop-made.self c.next_choice.result

@@ -1,15 +1,16 @@
-use Rattle.alarm_capsule.specs.Times.{AllTell, OthersTell}
-use Rattle.std.proofs.Common.{ℕ, Result, Err, ap₂, sym, subst, ◌∙◌}
+use Rattle.std.proofs.Common.{List, length, Result, Err, ap, ap₂, sym, subst, ◌∙◌}
+use Rattle.std.specs.List.{zip}
 use Rattle.tk_base.specs.declared.process.Choice.TheVariants.{Device}
 use Rattle.board_devices.specs.declared.answer.Answer.{Answer}
 use Rattle.tk_base.specs.declared.process.NotReady.{NotReady}
 use Rattle.grant_enter.specs.Homes.{Homes}
+use Rattle.process_record.specs.declared.process.Process.{Process}
 use Rattle.board_drivers.specs.declared.drivers.Drivers.{Drivers}
 use Rattle.board_core.specs.Shows.{IsBoard, world_of}
 use Rattle.board_drivers.specs.Tells.{Acted, DeviceTold}
-use Rattle.board_core.proofs.Devices.{below_shown, made_so, may_tell, not_acting, others_still, refused_so, told_board}
-use Rattle.board_core.proofs.Devices.{told_shown}
-use Rattle.board_core.proofs.Devices.{world_told}
+use Rattle.board_core.proofs.Devices.{all_still, below_shown, made_so, may_tell, not_acting, others_still, refused_so, told_board}
+use Rattle.board_core.proofs.Devices.{others_stay_ready, told_owns_count, told_shown, world_told}
+use Rattle.board_core.specs.ReadySlots.{OtherTurnsTell, TurnsTell}
 use Rattle.board_core.specs.PartsOf.{parts_of}
 use Rattle.board_core.proofs.PartsOf.{are_parts}
 use Rattle.board_core.proofs.board.Board.tell.Goals as goal
@@ -17,17 +18,17 @@ use Rattle.board_core.proofs.board.Board.tell.Goals.{In-Ok, In_default}
 
 -- it may not act
 idle : (c : In_default)
-    → Acted (parts_of c.self.inside) c.args.device (Err _) c.act.new.printed.items c.act.new.home c.act.new.self
+    → Acted (parts_of c.self.inside) c.args.device (Err _) c.act_by.new.printed.items c.act_by.new.home c.act_by.new.self
 idle c =
     let b = c.self.inside in
-    subst (λ (o : Result Answer NotReady). Acted (parts_of b) c.args.device o c.act.new.printed.items c.act.new.home
-    c.act.new.self) c.in_default.is (c.act.ensures (parts_of b) (are_parts b c.self.invariant))
+    subst (λ (o : Result Answer NotReady). Acted (parts_of b) c.args.device o c.act_by.new.printed.items c.act_by.new.home
+    c.act_by.new.self) c.in_default.is (c.act_by.ensures (parts_of b) (are_parts b c.self.invariant))
 
 pub invariant_of-self : goal.invariant_of-self
 invariant_of-self c =
     let b = c.self.inside in
     let none = idle c in
-    subst (λ (h : Homes). IsBoard (record b { machine = record b.machine { home = h; drivers = c.act.new.self } }))
+    subst (λ (h : Homes). IsBoard (record b { machine = record b.machine { home = h; drivers = c.act_by.new.self } }))
     (sym none.1)
     (subst (λ (d : Drivers). IsBoard (record b { machine = record b.machine { drivers = d } })) (sym none.2)
     c.self.invariant)
@@ -43,20 +44,39 @@ returns-in_default c =
 
 -- it told a process something
 told : (c : In-Ok)
-    → DeviceTold (parts_of c.self.inside) c.args.device c.in-Ok.answer.to.slot c.act.new.printed.items c.act.new.home
-    c.act.new.self
+    → DeviceTold (parts_of c.self.inside) c.args.device c.in-Ok.answer.to.slot c.act_by.new.printed.items c.act_by.new.home
+    c.act_by.new.self
 told c =
     let b = c.self.inside in
-    subst (λ (o : Result Answer NotReady). Acted (parts_of b) c.args.device o c.act.new.printed.items c.act.new.home
-    c.act.new.self) c.in-Ok.is (c.act.ensures (parts_of b) (are_parts b c.self.invariant))
+    subst (λ (o : Result Answer NotReady). Acted (parts_of b) c.args.device o c.act_by.new.printed.items c.act_by.new.home
+    c.act_by.new.self) c.in-Ok.is (c.act_by.ensures (parts_of b) (are_parts b c.self.invariant))
 
-pub note-requires-clause-others : goal.note-requires-clause-others
-note-requires-clause-others c =
+pub look-requires-clause-owns : goal.look-requires-clause-owns
+look-requires-clause-owns c =
     let b = c.self.inside in
-    subst (λ (now : ℕ). OthersTell c.in-Ok.answer.to.slot now b.machine.moment.time b.alarms c.act.new.home.owns)
-    (sym c.tick.ensures)
-    (others_still b c.args.device c.in-Ok.answer.to.slot c.act.new.printed.items c.act.new.home c.act.new.self
-    (told (goal.at.note-requires-clause-others c).In-Ok) c.self.invariant)
+    told_owns_count b c.args.device c.in-Ok.answer.to.slot c.act_by.new.printed.items c.act_by.new.home
+    c.act_by.new.self (told (goal.at.look-requires-clause-owns c).In-Ok) c.self.invariant
+    ∙ ap length (sym c.deref.ensures.value)
+
+pub look-requires-clause-others : goal.look-requires-clause-others
+look-requires-clause-others c =
+    let b = c.self.inside in
+    subst (λ (ps : List Process). OtherTurnsTell c.in-Ok.answer.to.slot b.ready (zip ps c.act_by.new.home.owns))
+    (sym c.deref.ensures.value)
+    (others_stay_ready b c.args.device c.in-Ok.answer.to.slot c.act_by.new.printed.items c.act_by.new.home
+    c.act_by.new.self (told (goal.at.look-requires-clause-others c).In-Ok) c.self.invariant)
+
+pub look_after-requires-clause-others : goal.look_after-requires-clause-others
+look_after-requires-clause-others c =
+    let b = c.self.inside in
+    others_still b c.args.device c.in-Ok.answer.to.slot c.act_by.new.printed.items c.act_by.new.home c.act_by.new.self
+    (told (goal.at.look_after-requires-clause-others c).In-Ok) c.self.invariant
+
+pub look_after-requires-clause-another : goal.look_after-requires-clause-another
+look_after-requires-clause-another c =
+    let b = c.self.inside in
+    all_still b c.args.device c.in-Ok.answer.to.slot c.act_by.new.printed.items c.act_by.new.home c.act_by.new.self
+    (told (goal.at.look_after-requires-clause-another c).In-Ok) c.self.invariant c.answers_leave_alarms.ensures
 
 pub look_ahead-self-inside-requires-clause-free : goal.look_ahead-self-inside-requires-clause-free
 look_ahead-self-inside-requires-clause-free c =
@@ -64,23 +84,24 @@ look_ahead-self-inside-requires-clause-free c =
 
 pub invariant_of-self-2 : goal.invariant_of-self-2
 invariant_of-self-2 c =
-    told_board c.self.inside c.args.device c.in-Ok.answer.to.slot c.act.new.printed.items c.act.new.home c.act.new.self
+    told_board c.self.inside c.args.device c.in-Ok.answer.to.slot c.act_by.new.printed.items c.act_by.new.home c.act_by.new.self
     (told (goal.at.invariant_of-self-2 c).In-Ok) c.self.invariant
-    c.look_ahead-self-inside.result c.note.new.self (below_shown c.self.inside c.args.self.now c.self.view_is
-    c.requires.limit)
-    (subst (λ (now : ℕ). AllTell now c.self.inside.machine.moment.time c.note.new.self c.act.new.home.owns)
-    c.tick.ensures c.note.ensures.tell) c.look_ahead-self-inside.ensures.calm
+    c.look_ahead-self-inside.result c.look_after.new.alarms c.look.new.self
+    (below_shown c.self.inside c.args.self.now c.self.view_is c.requires.limit)
+    c.look_after.ensures
+    (subst (λ (ps : List Process). TurnsTell c.look.new.self (zip ps c.act_by.new.home.owns)) c.deref.ensures.value
+    c.look.ensures) c.look_ahead-self-inside.ensures.calm
 
 pub returns : goal.returns
 returns c =
     let b = c.self.inside in
     let t = told (goal.at.returns c).In-Ok in
-    let printed = c.act.new.printed.items in
+    let printed = c.act_by.new.printed.items in
     made_so (world_of b) c.args.self.now _ (Device c.args.device) c.args.emit.now c.show.new.emit c.self.view_is
-    (may_tell b c.args.device c.in-Ok.answer.to.slot printed c.act.new.home c.act.new.self t c.self.invariant
+    (may_tell b c.args.device c.in-Ok.answer.to.slot printed c.act_by.new.home c.act_by.new.self t c.self.invariant
     (below_shown b c.args.self.now c.self.view_is c.requires.limit))
-    (world_told b c.args.device c.in-Ok.answer.to.slot printed c.act.new.home c.act.new.self t c.self.invariant
+    (world_told b c.args.device c.in-Ok.answer.to.slot printed c.act_by.new.home c.act_by.new.self t c.self.invariant
     c.devices_answer_one.ensures)
     (c.show.ensures
-    ∙ told_shown b c.args.device c.in-Ok.answer.to.slot printed c.act.new.home c.act.new.self t c.self.invariant
+    ∙ told_shown b c.args.device c.in-Ok.answer.to.slot printed c.act_by.new.home c.act_by.new.self t c.self.invariant
     c.devices_answer_one.ensures c.requires.tells)

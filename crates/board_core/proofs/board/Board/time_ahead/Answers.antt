@@ -1,7 +1,7 @@
 use Rattle.std.proofs.Common.{◌≡◌, if◌then◌else◌, Bool, true, None, Option, Some, ap, sym, ◌∙◌, ℕ}
 use Rattle.driver_model.specs.Alarm.{nearer}
 use Rattle.kernel_model.specs.Run.{is_left, next_time}
-use Rattle.kernel_model.specs.World.{work_of}
+use Rattle.kernel_model.specs.Parts.{work_of}
 use Rattle.board_core.proofs.Boards.{in_window, no_window}
 use Rattle.board_core.proofs.Ready.{next_shown}
 use Rattle.board_core.specs.Shows.{world_of}

@@ -1,6 +1,7 @@
 use Rattle.std.proofs.Common.{ap, arith, length, map, slice_get, sym, ◌∙◌, ◌≡◌}
 use Rattle.kernel_model.specs.Turn.{may_turn}
-use Rattle.kernel_model.specs.World.{World, can_run}
+use Rattle.kernel_model.specs.World.{World}
+use Rattle.kernel_model.specs.Named.{can_run}
 use Rattle.board_core.proofs.Boards.{turns_long}
 use Rattle.board_core.proofs.Tables.{all_flags, flag_more, turn_flag}
 use Rattle.board_core.proofs.board.Board.turns_ready.Goals as goal

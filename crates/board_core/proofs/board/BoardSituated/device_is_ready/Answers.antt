@@ -1,5 +1,6 @@
 use Rattle.std.proofs.Common.{Bool, List, ap, ◌∙◌}
-use Rattle.turn_scheduler.specs.RoundRobin.{device_place, place_is_ready}
+use Rattle.turn_scheduler.specs.RoundRobin.{device_place}
+use Rattle.turn_scheduler.specs.Parts.{place_is_ready}
 use Rattle.kernel_model.specs.Run.{ready_devices}
 use Rattle.kernel_model.specs.World.{World}
 use Rattle.board_drivers.specs.Calm.{work_in}

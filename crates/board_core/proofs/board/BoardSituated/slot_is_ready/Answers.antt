@@ -1,7 +1,5 @@
-use Rattle.std.proofs.Common.{◌&&◌, Bool, List, Option, ap, slice_get, sym, ◌∙◌, ℕ}
-use Rattle.std.specs.List.{zip}
-use Rattle.process_record.specs.declared.process.Process.{Process}
-use Rattle.turn_scheduler.specs.RoundRobin.{place_is_ready}
+use Rattle.std.proofs.Common.{◌&&◌, Bool, Option, ap, slice_get, sym, ◌∙◌, ℕ}
+use Rattle.turn_scheduler.specs.Parts.{place_is_ready}
 use Rattle.kernel_model.specs.Run.{ready_slots}
 use Rattle.kernel_model.specs.World.{World, is_let}
 use Rattle.board_drivers.specs.Residents.{can_turn_in}
@@ -16,8 +14,7 @@ returns-then-serves c =
     let can = can_turn_in (slice_get (residents b) slot) in
     let served = ap (λ (only : Option ℕ). is_let only slot) (sym c.served.ensures.only) ∙ sym c.serves.ensures
     ∙ c.if-serves.true in
-    c.can_run.ensures
-    ∙ ap (λ (ps : List Process). can_turn_in (slice_get (zip ps b.machine.home.owns) slot)) c.deref.ensures.value
+    c.has.ensures ∙ c.self.invariant.ready slot
     ∙ ap (λ (flag : Bool). flag && can) (sym served)
     ∙ sym (slot_shown b c.self.invariant slot)
     ∙ ap (λ (w : World). place_is_ready (ready_slots w) slot) c.self.view_is

@@ -1,5 +1,5 @@
 use Rattle.std.proofs.Common.{ℕ, Option, ap, subst, ◌∙◌}
-use Rattle.kernel_model.specs.World.{lane_by}
+use Rattle.kernel_model.specs.Named.{lane_by}
 use Rattle.board_devices.specs.Clock.{clock_at}
 use Rattle.tk_base.specs.declared.process.Dev.TheVariants.{Alarm, Uart, Receive, Random, Store}
 use Rattle.alarm_capsule.specs.Answers as alarm_capsule

@@ -8,7 +8,7 @@ use Rattle.board_turns.proofs.machine.Machine.run_on.Goals as goal
 
 pub returns-in-Went-clause-turns : goal.returns-in-Went-clause-turns
 returns-in-Went-clause-turns c =
-    let i = c.make_instruction-end in
+    let i = c.end_instruction-end in
     let x = c.args.self.now in
     subst (λ (s : Shown). TurnsOn c.args.slot x (record x { home = i.new.home; guard = i.new.guard }) c.args.process.now
     i.new.process s) (sym c.requires.quiet)
@@ -18,7 +18,7 @@ returns-in-Went-clause-turns c =
 
 pub returns-in-Went-clause-leaves : goal.returns-in-Went-clause-leaves
 returns-in-Went-clause-leaves c =
-    let i = c.make_instruction-end in
+    let i = c.end_instruction-end in
     let x = c.args.self.now in
     record {
       left = all_left x.moment c.args.slot x.home i.new.home c.args.process.now i.new.process i.ensures.made
@@ -31,7 +31,7 @@ returns-in-Went-clause-leaves c =
 -- what drivers ask of the process stays
 pub serve_call-shown-requires-clause-may : goal.serve_call-shown-requires-clause-may
 serve_call-shown-requires-clause-may c =
-    let i = c.make_instruction-end in
+    let i = c.end_instruction-end in
     let x = c.args.self.now in
     may_serve_still x.moment c.args.slot x.home i.new.home c.args.process.now i.new.process i.ensures.made
     i.ensures.rest
@@ -39,7 +39,7 @@ serve_call-shown-requires-clause-may c =
 
 pub returns-in-Call-clause-turns : goal.returns-in-Call-clause-turns
 returns-in-Call-clause-turns c =
-    let i = c.make_instruction-end in
+    let i = c.end_instruction-end in
     let s = c.serve_call-shown in
     let x = c.args.self.now in
     subst (λ (e : Emit). TurnsOn c.args.slot x s.new.self c.args.process.now s.new.process (told_in_emit e))
@@ -51,11 +51,11 @@ returns-in-Call-clause-turns c =
 pub returns-in-Call-clause-leaves : goal.returns-in-Call-clause-leaves
 returns-in-Call-clause-leaves c =
     leaves_on c.args.slot c.args.self.now _ _ c.serve_call-shown.new.self c.serve_call-shown.new.process
-    c.make_instruction-end.ensures.rest c.serve_call-shown.ensures.leaves
+    c.end_instruction-end.ensures.rest c.serve_call-shown.ensures.leaves
 
 pub returns-in-Trap-clause-turns : goal.returns-in-Trap-clause-turns
 returns-in-Trap-clause-turns c =
-    let i = c.make_instruction-end in
+    let i = c.end_instruction-end in
     let f = c.fault_at-shown in
     let x = c.args.self.now in
     subst (λ (e : Emit). TurnsOn c.args.slot x f.new.self c.args.process.now f.new.process (told_in_emit e))
@@ -67,4 +67,4 @@ returns-in-Trap-clause-turns c =
 pub returns-in-Trap-clause-leaves : goal.returns-in-Trap-clause-leaves
 returns-in-Trap-clause-leaves c =
     leaves_on c.args.slot c.args.self.now _ _ c.fault_at-shown.new.self c.fault_at-shown.new.process
-    c.make_instruction-end.ensures.rest c.fault_at-shown.ensures.leaves
+    c.end_instruction-end.ensures.rest c.fault_at-shown.ensures.leaves

@@ -11,15 +11,16 @@ returns-clause-quiet c =
     let own = own_of c.args.self.now.home c.args.slot in
     let after = own_of c.instruct_quietly-made.new.self c.args.slot in
     let e = c.instruct_quietly-made.ensures in
-    quietly c.instruct_quietly-made.result c.args.most c.args.self.now.home.flash c.args.process.now own after
-    c.instruct_quietly-made.new.regs c.requires.seated.own.object e.made e.stops
+    let made = c.instruct_quietly-made.result in
+    quietly made.went c.args.most made.end c.args.self.now.home.flash c.args.process.now own after
+    c.instruct_quietly-made.new.regs c.requires.seated.own.object e.made e.stops e.most e.all
 
 pub returns-clause-leaves : goal.returns-clause-leaves
 returns-clause-leaves c =
     let x = c.args.self.now in
     let own = own_of x.home c.args.slot in
     let after = own_of c.instruct_quietly-made.new.self c.args.slot in
-    let k = c.instruct_quietly-made.result in
+    let k = c.instruct_quietly-made.result.went in
     let later = c.instruct_quietly-made.new.regs in
     let same = left_own k x.home.flash c.args.process.now own after later c.requires.seated.own.object
     c.instruct_quietly-made.ensures.made in

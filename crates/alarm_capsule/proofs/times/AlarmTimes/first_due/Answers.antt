@@ -1,0 +1,24 @@
+use Rattle.std.proofs.Common.{◌≡◌, ℕ, List, Option, None, Some, rules, sym, subst, arith, ◌∙◌}
+use Rattle.alarm_capsule.specs.Times.{AllTell}
+use Rattle.alarm_capsule.proofs.Nearest.{none_is_due}
+use Rattle.alarm_capsule.proofs.times.AlarmTimes.first_due.Goals as goal
+
+pub returns-in_err-at-clause-slot : goal.returns-in_err-at-clause-slot
+returns-in_err-at-clause-slot c =
+    let owns = c.args.home.now.owns in
+    let tell = subst (λ (times : List (Option ℕ)). AllTell c.args.now c.args.time times owns) (sym c.self.view_is)
+    c.requires in
+    let none : c.self.inside.nearest ≡ None = search rules in
+    let is : c.from_residual.result ≡ None = search rules in
+    is ∙ none_is_due c.args.now c.args.time c.self.inside.times owns tell
+    c.an_alarm_is_due_where_no_ticks_are_left.ensures None (sym c.self.invariant ∙ none) tt
+
+pub returns-clause-slot : goal.returns-clause-slot
+returns-clause-slot c =
+    let owns = c.args.home.now.owns in
+    let tell = subst (λ (times : List (Option ℕ)). AllTell c.args.now c.args.time times owns) (sym c.self.view_is)
+    c.requires in
+    let some : c.self.inside.nearest ≡ Some c.in_ok-at.at = search rules in
+    none_is_due c.args.now c.args.time c.self.inside.times owns tell
+    c.an_alarm_is_due_where_no_ticks_are_left.ensures (Some c.in_ok-at.at) (sym c.self.invariant ∙ some)
+    (omega (arith, c.if-at-time.false))
