@@ -1,10 +1,12 @@
 -- What the nearest of the kept times says of the next alarm.
-use Rattle.std.proofs.Common.{◌≡◌, ℕ, ◌-◌, ◌^◌, ◌<◌, ◌≤◌, List, [], ◌∷◌, fold, slice_get, slice_index_or, slice_set}
-use Rattle.std.proofs.Common.{replicate, Bool, true, IsTrue, Option, None, Some, refl}
-use Rattle.std.proofs.Common.{sym, ap, ◌∙◌, arith}
+use Rattle.std.proofs.Common.{◌≡◌, ◌≢◌, ℕ, zero, suc, ◌+◌, ◌-◌, ◌^◌, ◌<◌, ◌≤◌, ◌==◌, List, [], ◌∷◌, fold}
+use Rattle.std.proofs.Common.{slice_get, slice_index_or, slice_set, length}
+use Rattle.std.proofs.Common.{replicate, Bool, true, false, IsTrue, Option, None, Some, refl}
+use Rattle.std.proofs.Common.{sym, ap, ◌∙◌, arith, eqb-true, eq-eqb}
 use Rattle.std.specs.Prelude.{IfSome, is_some, min}
 use Rattle.std.specs.List.{range_with_len}
-use Rattle.std.proofs.lemmas.List.{set-get_or}
+use Rattle.std.proofs.lemmas.Bool.{false≢true}
+use Rattle.std.proofs.lemmas.List.{get_or-set_same, get_or-set_other, set-get_or}
 use Rattle.tk_base.specs.declared.limits.TheConstants.{SLOT_COUNT}
 use Rattle.process_model.specs.Own.{Own}
 use Rattle.driver_model.specs.Alarm.{due_slot, nearer, next_left, ticks_left_in}
@@ -158,3 +160,77 @@ no_nearest = refl
 pub kept_again : (times : List (Option ℕ)) (slot : ℕ) (due : Option ℕ) → due ≡ slice_index_or times slot None
     → times ≡ slice_set times slot due
 kept_again times slot due is = sym (ap (slice_set times slot) is ∙ set-get_or times slot None)
+
+nearer_none : (o : Option ℕ) → nearer o None ≡ o
+nearer_none None = refl
+nearer_none (Some x) = refl
+
+-- of three times the last two may change places
+nearer_last : (o other last : Option ℕ) → nearer (nearer o other) last ≡ nearer (nearer o last) other
+nearer_last None None None = refl
+nearer_last None None (Some z) = refl
+nearer_last None (Some y) None = refl
+nearer_last None (Some y) (Some z) = ap Some (turned y z)
+  where
+    turned : (y z : ℕ) → min y z ≡ min z y
+    turned y z = omega arith
+nearer_last (Some x) None None = refl
+nearer_last (Some x) None (Some z) = refl
+nearer_last (Some x) (Some y) None = refl
+nearer_last (Some x) (Some y) (Some z) = ap Some (turned x y z)
+  where
+    turned : (x y z : ℕ) → min (min x y) z ≡ min (min x z) y
+    turned x y z = omega arith
+
+-- A time that is kept of a slot of which none was: the nearest is then the nearer of it and of the nearest before.
+module _ (times : List (Option ℕ)) (slot : ℕ) (due : Option ℕ) (within : slot < length times)
+    (none : slice_index_or times slot None ≡ None) where
+  after : List (Option ℕ)
+  after = slice_set times slot due
+
+  other_kept : (other : ℕ) → other ≢ slot → slice_index_or after other None ≡ slice_index_or times other None
+  unfolding after
+  other_kept other apart = get_or-set_other times slot other due None apart
+
+  -- of slots beyond it
+  nearest_beyond : (n from : ℕ) (so_far : Option ℕ) → slot < from
+      → fold (nearer_kept after) (nearer so_far due) (range_with_len from n)
+      ≡ nearer (fold (nearer_kept times) so_far (range_with_len from n)) due
+  nearest_beyond zero from so_far beyond = refl
+  nearest_beyond (suc n) from so_far beyond =
+      let kept = slice_index_or times from None in
+      ap (λ (o : Option ℕ). fold (nearer_kept after) o (range_with_len (from + 1) n))
+      (ap (nearer (nearer so_far due)) (other_kept from (λ same. omega (arith, beyond, same)))
+      ∙ nearer_last so_far due kept)
+      ∙ nearest_beyond n (from + 1) (nearer so_far kept) (omega (arith, beyond))
+
+  -- of slots of which it is one
+  nearest_among : (n from : ℕ) (so_far : Option ℕ) → from ≤ slot → slot < from + n
+      → fold (nearer_kept after) so_far (range_with_len from n)
+      ≡ nearer (fold (nearer_kept times) so_far (range_with_len from n)) due
+  unfolding after
+  nearest_among zero from so_far low high = absurd (omega (arith, low, high))
+  nearest_among (suc n) from so_far low high =
+      by_slot (from == slot) refl (λ apart. nearest_among n (from + 1) (nearer so_far (slice_index_or times from None))
+      (omega (arith, low, apart)) (omega (arith, high)))
+    where
+      by_slot : (b : Bool) → (from == slot) ≡ b
+          → (from ≢ slot → fold (nearer_kept after) (nearer so_far (slice_index_or times from None)) (range_with_len (from + 1) n)
+          ≡ nearer (fold (nearer_kept times) (nearer so_far (slice_index_or times from None)) (range_with_len (from + 1) n)) due)
+          → fold (nearer_kept after) so_far (range_with_len from (suc n))
+          ≡ nearer (fold (nearer_kept times) so_far (range_with_len from (suc n))) due
+      by_slot true e further =
+          let here : from ≡ slot = eqb-true from slot e in
+          ap (λ (k : Option ℕ). fold (nearer_kept after) (nearer so_far k) (range_with_len (from + 1) n))
+          (ap (λ (i : ℕ). slice_index_or after i None) here ∙ get_or-set_same times slot due None within)
+          ∙ nearest_beyond n (from + 1) so_far (omega (arith, here))
+          ∙ ap (λ (o : Option ℕ). nearer (fold (nearer_kept times) o (range_with_len (from + 1) n)) due)
+          (sym (ap (nearer so_far) (ap (λ (i : ℕ). slice_index_or times i None) here ∙ none) ∙ nearer_none so_far))
+      by_slot false e further =
+          let apart : from ≢ slot = λ same. false≢true (sym e ∙ eq-eqb from slot same) in
+          ap (λ (k : Option ℕ). fold (nearer_kept after) (nearer so_far k) (range_with_len (from + 1) n))
+          (other_kept from apart) ∙ further apart
+
+  pub nearest_with : slot < SLOT_COUNT → nearer (nearest_kept times) due ≡ nearest_kept (slice_set times slot due)
+  unfolding nearest_kept after
+  nearest_with there = sym (nearest_among SLOT_COUNT 0 None (omega arith) (omega (arith, there)))

@@ -5,6 +5,7 @@ ghost use Rattle.std.specs.List.{range_with_len};
 ghost use Rattle.std.specs.Option.{option_map};
 ghost use Rattle.grant_enter.specs.Homes.{own_of, ChangesOnly};
 ghost use Rattle.driver_requests.specs.Asking.{IsPresent};
+ghost use Rattle.driver_requests.specs.Answers.{kinds};
 ghost use Rattle.driver_model.specs.Alarm.{answered, due_alarm, due_for, due_slot, has_due};
 ghost use Rattle.driver_model.specs.Parts.{is_due};
 ghost use Rattle.driver_model.specs.Steps.{own_after};
@@ -44,7 +45,7 @@ fn due_alarm(home: &Home, id: &ProcessId, now: u32) -> Option<Armed>
 }
 
 /// The alarm of the process that lives in a slot, where it is due.
-fn due_in(home: &Home, slot: Slot, now: u32) -> Option<Due>
+pub(crate) fn due_in(home: &Home, slot: Slot, now: u32) -> Option<Due>
     ensures is { is_some result ≡ has_due now (slice_get home.now.owns slot) }
     ensures due { IfSome result (AlarmIsDue now slot home.now) }
 {
@@ -69,10 +70,11 @@ fn first_due(home: &Home, now: u32) -> Option<Due>
     None
 }
 
-/// Fires an alarm that is due.
-fn fire(home: &mut Home, due: &Due, now: u32)
+/// Fires an alarm that is due. The answer is whose it was, and the tick.
+pub(crate) fn fire(home: &mut Home, due: &Due, now: u32) -> Answer
     requires due { AlarmIsDue now due.now.id.slot home.old due.now }
     requires dropped { (own_of home.old due.now.id.slot).inbox.dropped + 1 < 2 ^ 32 }
+    ensures answer { result ≡ record { to = due.now.id; kind = kinds.alarmed now } }
     ensures own { own_of home.new due.now.id.slot
         ≡ own_after (answered now (own_of home.old due.now.id.slot)) }
     ensures rest { ChangesOnly due.now.id.slot home.old home.new }
@@ -82,6 +84,10 @@ fn fire(home: &mut Home, due: &Due, now: u32)
         expiration: expiration(&due.alarm),
     };
     let _ = alarms().visit(home, due.id, fire);
+    Answer {
+        to: due.id,
+        kind: Kind::Alarm(now),
+    }
 }
 
 /// The alarm that is due in the lowest slot, or in the one slot that is served.
@@ -105,9 +111,5 @@ pub(crate) fn fire_first(home: &mut Home, now: u32, only: Option<Slot>) -> Resul
     let Some(due) = due_for(home, now, only) else {
         return Err(NotReady);
     };
-    fire(home, &due, now);
-    Ok(Answer {
-        to: due.id,
-        kind: Kind::Alarm(now),
-    })
+    Ok(fire(home, &due, now))
 }

@@ -6,7 +6,7 @@ ghost use Rattle.driver_model.specs.Alarm.{command};
 ghost use Rattle.alarm_capsule.specs.Answers.{AlarmAnswers, AlarmReplies};
 ghost use Rattle.alarm_capsule.specs.Times.{AllTell};
 
-use crate::answers::fire_first;
+use crate::answers::{fire, fire_first};
 use crate::commands::obey;
 use crate::times::AlarmTimes;
 use board_devices::Answer;
@@ -80,10 +80,10 @@ impl AlarmCapsule {
         requires tell { AllTell now time alarms.now home.old.owns }
         ensures { AlarmAnswers only now home.old result home.new }
     {
-        let Some(slot) = alarms.due(home, now, time, only) else {
+        let Some(due) = alarms.due_alarm(home, now, time, only) else {
             return Err(NotReady);
         };
-        fire_first(home, now, Some(slot))
+        Ok(fire(home, &due, now))
     }
 
     /// The process of an id ended, or starts again. Its alarm went with its grant, and nothing

@@ -4,12 +4,14 @@ ghost use Rattle.std.specs.Prelude.{replicate, slice_get, slice_index_or, slice_
 ghost use Rattle.tk_base.specs.declared.limits.TheConstants.{SLOT_COUNT};
 ghost use Rattle.grant_enter.specs.Homes.{own_of};
 ghost use Rattle.driver_requests.specs.Asking.{IsPresent};
+ghost use Rattle.alarm_capsule.specs.Due.{AlarmIsDue};
 ghost use Rattle.driver_model.specs.Alarm.{alarm_in, due_for, due_slot, has_due, left_for, nearer};
 ghost use Rattle.driver_model.specs.Alarm.{next_left};
 ghost use Rattle.driver_model.specs.Alarm.{ticks_left};
 ghost use Rattle.driver_model.specs.Alarm.{ticks_left_in};
 ghost use Rattle.alarm_capsule.specs.Times.{AllTell, OthersTell, Tells, nearest_kept};
 
+use crate::answers::{Due, due_in};
 use crate::visits::alarms;
 use driver_model::an_alarm_is_due_where_no_ticks_are_left;
 use grant_enter::Home;
@@ -139,8 +141,15 @@ impl AlarmTimes {
         ensures tell { AllTell now time self.new home.now.owns }
     {
         let due = due_time(home, slot, now, time);
-        if due != self.times[slot.index()] {
-            self.times[slot.index()] = due;
+        let before = self.times[slot.index()];
+        if due == before {
+            return;
+        }
+        self.times[slot.index()] = due;
+        if before.is_none() {
+            // The others are as they were, so none of them is looked at.
+            self.nearest = nearer_time(self.nearest, due);
+        } else {
             self.nearest = nearest_of(&self.times);
         }
     }
@@ -148,14 +157,16 @@ impl AlarmTimes {
     /// The lowest slot whose alarm is due at a time at which the clock shows `now`, or the one slot
     /// which is served, where its alarm is. None exactly where no alarm of a process that lives and
     /// is served is due. It asks that the times that are kept tell of all alarms.
+    // Inlined, as are the two below: most often the nearest of the times lies ahead.
+    #[inline(always)]
     pub fn due(&self, home: &Home, now: u32, time: u64, only: Option<Slot>) -> Option<Slot>
         requires { AllTell now time self.now home.now.owns }
         ensures slot { result ≡ due_for only now home.now.owns }
         ensures due { IfSome result (λ slot. has_due now (slice_get home.now.owns slot) ≡ true) }
     {
-        match only {
-            None => self.first_due(home, now, time),
-            Some(slot) => self.due_in(home, slot, now, time),
+        match self.due_alarm(home, now, time, only) {
+            Some(due) => Some(due.id.slot),
+            None => None,
         }
     }
 
@@ -167,12 +178,31 @@ impl AlarmTimes {
         self.due(home, now, time, only).is_some()
     }
 
-    /// The lowest slot whose alarm is due. No slot is looked at before the nearest of the times has
-    /// come.
-    fn first_due(&self, home: &Home, now: u32, time: u64) -> Option<Slot>
+    /// The alarm that is due ([`AlarmTimes::due`]), and whose it is.
+    #[inline(always)]
+    pub(crate) fn due_alarm(
+        &self,
+        home: &Home,
+        now: u32,
+        time: u64,
+        only: Option<Slot>,
+    ) -> Option<Due>
         requires { AllTell now time self.now home.now.owns }
-        ensures slot { result ≡ due_slot now home.now.owns }
-        ensures due { IfSome result (λ slot. has_due now (slice_get home.now.owns slot) ≡ true) }
+        ensures slot { option_map (λ due. due.id.slot) result ≡ due_for only now home.now.owns }
+        ensures due { IfSome result (λ due. AlarmIsDue now due.id.slot home.now due) }
+    {
+        match only {
+            None => self.first_due(home, now, time),
+            Some(slot) => self.due_in(home, slot, now, time),
+        }
+    }
+
+    /// That in the lowest slot. No slot is looked at before the nearest of the times has come.
+    #[inline(always)]
+    fn first_due(&self, home: &Home, now: u32, time: u64) -> Option<Due>
+        requires { AllTell now time self.now home.now.owns }
+        ensures slot { option_map (λ due. due.id.slot) result ≡ due_slot now home.now.owns }
+        ensures due { IfSome result (λ due. AlarmIsDue now due.id.slot home.now due) }
     {
         an_alarm_is_due_where_no_ticks_are_left();
         let at = self.nearest?;
@@ -182,42 +212,35 @@ impl AlarmTimes {
         None
     }
 
-    /// The same, by a look at each slot: of its process no more is read where its time lies ahead.
+    /// The same, by a look at each slot.
     #[inline(never)]
     #[tactic(auto, unfolding(driver_model::specs::Alarm::due_slot), using(crate::proofs::Slots::passed))]
-    fn first_due_of_all(&self, home: &Home, now: u32, time: u64) -> Option<Slot>
+    fn first_due_of_all(&self, home: &Home, now: u32, time: u64) -> Option<Due>
         requires { AllTell now time self.now home.now.owns }
-        ensures slot { result ≡ due_slot now home.now.owns }
-        ensures due { IfSome result (λ slot. has_due now (slice_get home.now.owns slot) ≡ true) }
+        ensures slot { option_map (λ due. due.id.slot) result ≡ due_slot now home.now.owns }
+        ensures due { IfSome result (λ due. AlarmIsDue now due.id.slot home.now due) }
     {
         for slot in 0..SLOT_COUNT {
-            if self.is_due_in(home, Slot::new(slot), now, time) {
-                return Some(Slot::new(slot));
+            if let Some(due) = self.due_in(home, Slot::new(slot), now, time) {
+                return Some(due);
             }
         }
         None
     }
 
-    /// A slot, where the alarm of its process is due.
-    fn due_in(&self, home: &Home, slot: Slot, now: u32, time: u64) -> Option<Slot>
+    /// The alarm of the process in a slot, where it is due: no more of the process is read where its
+    /// time lies ahead.
+    fn due_in(&self, home: &Home, slot: Slot, now: u32, time: u64) -> Option<Due>
         requires { AllTell now time self.now home.now.owns }
-        ensures slot { result ≡ due_for (Some slot) now home.now.owns }
-        ensures due { IfSome result (λ slot. has_due now (slice_get home.now.owns slot) ≡ true) }
-    {
-        if self.is_due_in(home, slot, now, time) {
-            Some(slot)
-        } else {
-            None
-        }
-    }
-
-    /// Whether the alarm of the process in a slot is due.
-    fn is_due_in(&self, home: &Home, slot: Slot, now: u32, time: u64) -> bool
-        requires { AllTell now time self.now home.now.owns }
-        ensures { result ≡ has_due now (slice_get home.now.owns slot) }
+        ensures is { is_some result ≡ has_due now (slice_get home.now.owns slot) }
+        ensures due { IfSome result (AlarmIsDue now slot home.now) }
     {
         an_alarm_is_due_where_no_ticks_are_left();
-        matches!(self.left_in(home, slot, now, time), Some(0))
+        let at = self.times[slot.index()]?;
+        if time < at {
+            return None;
+        }
+        due_in(home, slot, now)
     }
 
     /// The ticks that are left of the alarm of the process in a slot.

@@ -1,9 +1,2 @@
-pub mod Looks
 pub mod Stretches
-pub mod Shows
-pub mod Makes
 pub mod Plays
-pub mod PartsOf
-pub mod LanesOf
-pub mod KnownEnds
-pub mod ReadySlots

@@ -1,91 +1,55 @@
 //! The board.
-ghost use Rattle.std.specs.Prelude.{◌≡◌, ◌+◌, ◌-◌, ◌*◌, ◌^◌, [], ◌∷◌, true, false, ◌≤◌, ◌<◌, ◌↔◌, All};
-ghost use Rattle.std.specs.Prelude.{map, length, slice_get, IsOk, IsTrue, IfOk, IfSome, Some, OnOk};
-ghost use Rattle.std.specs.Prelude.{OnErr, vec_len};
-ghost use Rattle.std.specs.List.{zip};
+ghost use Rattle.std.specs.Prelude.{◌≡◌, ◌+◌, ◌-◌, ◌^◌, [], ◌∷◌, true, ◌≤◌, ◌<◌, ◌↔◌, IsOk};
+ghost use Rattle.std.specs.Prelude.{IsTrue, IfOk, IfSome, Some, OnOk, OnErr, vec_len};
 ghost use Rattle.tk_base.specs.declared.process.Choice.TheVariants.{Run, Device, Pass};
-ghost use Rattle.tk_base.specs.declared.process.Dev.TheVariants.{Event, Alarm, Uart, Receive};
-ghost use Rattle.tk_base.specs.declared.process.Dev.TheVariants.{Random, Store};
-ghost use Rattle.tk_base.specs.declared.limits.TheConstants.{OBJECT_LIMIT};
+ghost use Rattle.tk_base.specs.declared.process.Dev.TheVariants.{Event};
 ghost use Rattle.tk_base.specs.declared.limits.TheConstants.{SLOT_COUNT, STEP_LIMIT};
-ghost use Rattle.turn_scheduler.specs.RoundRobin.{used_after};
 ghost use Rattle.turn_scheduler.specs.Status.{IsChoiceAhead, choice_by, lanes_told};
 ghost use Rattle.turn_scheduler.specs.Status.{situation_shown as status_situation};
-ghost use Rattle.process_record.specs.Emit.{nothing};
-ghost use Rattle.process_record.specs.Name.{name_of};
-ghost use Rattle.process_model.specs.Flash.{object_in};
 ghost use Rattle.partition_turns.specs.Windows.{window_choice};
 ghost use Rattle.kernel_laws.specs.Windows.{lanes_in};
-ghost use Rattle.kernel_model.specs.World.{is_ready, after, labels, listed};
+ghost use Rattle.kernel_model.specs.World.{is_ready, after, labels};
 ghost use Rattle.kernel_model.specs.Accounts.{IsAccountedFor};
 ghost use Rattle.kernel_model.specs.Causes.{AreWhole};
-ghost use Rattle.kernel_model.specs.Run.{next, next_time, ready_slots, situation_of};
+ghost use Rattle.kernel_model.specs.Run.{next, ready_slots, situation_of};
 ghost use Rattle.kernel_model.specs.Shown.{shown_by, summary_of};
 ghost use Rattle.board_opening.specs.Alone.{IsReplayed, OpensAlone};
 ghost use Rattle.board_opening.specs.Opening.{opening};
-ghost use Rattle.board_opening.specs.Settings.{visible_settings};
-ghost use Rattle.board_devices.specs.Clock.{clock_at};
-ghost use Rattle.alarm_capsule.specs.Times.{OthersTell};
-ghost use Rattle.board_drivers.specs.Calm.{AlarmsTell, IsCalm};
-ghost use Rattle.board_drivers.specs.Driven.{AreFreeSoon};
 ghost use Rattle.board_devices.specs.Arriving.{is_time};
-ghost use Rattle.board_core.specs.KnownEnds.{IsKnownEnd};
-ghost use Rattle.board_core.specs.LanesOf.{lanes_of};
-ghost use Rattle.board_core.specs.Makes.{MakesStep, act_meant, ready_in, shown_act, shown_printed};
-ghost use Rattle.board_drivers.specs.Tells.{is_alarm, tells_one};
-ghost use Rattle.board_drivers.specs.Residents.{InFlash, line_in, resident_turns, can_turn_in};
-ghost use Rattle.kernel_alarms.specs.Acting.{may_have_acted, may_have_armed};
+ghost use Rattle.board_drivers.specs.Tells.{tells_one};
+ghost use Rattle.board_state.specs.KnownEnds.{IsKnownEnd};
+ghost use Rattle.board_state.specs.LanesOf.{lanes_of};
+ghost use Rattle.board_state.specs.Makes.{MakesStep, act_meant};
 
-use crate::ready_slots::ReadySlots;
-use alarm_capsule::{AlarmTimes, nearer_time};
+use alarm_capsule::AlarmTimes;
 use arrayvec::ArrayVec;
 use board_drivers::{Drivers, Moment};
 use board_opening::{LoadedProcesses, first_crew, placed_in, unplaced};
-use board_turns::{ActivePmp, Machine, can_turn};
+use board_state::{
+    BoardState, ReadySlots, act_meant, devices_ready, hide, lanes, look_again, make_turn, operate,
+    settings_of, show, summary, time_ahead,
+};
+use board_turns::{ActivePmp, Machine};
 use driver_model::{lines_follow_answers, time_brings_an_alarm_nearer};
 use grant_enter::Home;
-use kernel_alarms::{alarms_change_at_their_commands, answers_leave_alarms, may_act, may_arm};
-use kernel_laws::{grants_change_at_calls, next_is_of_the_window, turns_keep_lines};
+use kernel_alarms::answers_leave_alarms;
+use kernel_laws::next_is_of_the_window;
 use kernel_lives::steps_are_accounted_for;
-use kernel_model::{
-    Settings, a_record_is_the_replay_of_its_events, devices_answer_one, next_is_ready,
-};
-use led_capsule::bits;
-use process_console::{find, list_line};
-use process_model::Object;
-use process_record::{Emit, Process, SlotLine, Summary, object_name};
+use kernel_model::{a_record_is_the_replay_of_its_events, devices_answer_one, next_is_ready};
+use process_record::{Emit, Summary};
 use rv32_model::TurnEnd;
 use script_text::Script;
 use std::alloc::Global;
 use std::marker::Model;
-use tbf_headers::object_at;
-use tk_base::{
-    Choice, Dev, FLASH_LIMIT, FLASH_START, NotReady, OBJECT_LIMIT, PRINT_LIMIT, PlaceFault,
-    SLOT_COUNT, STEP_LIMIT, Slot, Verb,
-};
+use tk_base::{Choice, Dev, FLASH_LIMIT, NotReady, SLOT_COUNT, STEP_LIMIT, Slot};
 use tk_outside::NoMemory;
-use turn_scheduler::{Situated, Status, next_choice_in, next_in_calm, used_after};
+use turn_scheduler::{Situated, Status, next_choice_in, next_in_calm};
 
 /// A board with its processes. Contracts see the world that it shows.
 #[derive(Drop)]
 pub struct Board {
-    /// The memory of the processes, the registers under which they run, the drivers and the moment.
-    pub(crate) machine: Machine,
-    /// The processes, slot 0 first.
-    pub(crate) processes: Vec<Process>,
-    /// The applications that have no place.
-    unplaced: ArrayVec<(u32, PlaceFault), OBJECT_LIMIT>,
-    /// A time up to which no device step is ready.
-    pub(crate) calm: u64,
-    /// When the alarm of each process becomes due.
-    pub(crate) alarms: AlarmTimes,
-    /// Whether each process can have a turn.
-    ready: ReadySlots,
-    /// How many turns a process may have in a row while another is ready.
-    pub(crate) slice: u32,
-    /// The slot that had the last turn, and how many turns of its slice it has used.
-    pub(crate) present: Option<Slot>,
-    pub(crate) used: u32,
+    /// What it is made of.
+    pub(crate) state: BoardState,
 }
 
 impl Model for Board {
@@ -93,235 +57,11 @@ impl Model for Board {
 
     ghost Value = { World };
 
-    ghost use Rattle.board_core.specs.Shows.{world_of, IsBoard};
+    ghost use Rattle.board_state.specs.Shows.{world_of, IsBoard};
 
-    ghost view = { world_of };
+    ghost view = { λ b. world_of b.state };
 
-    ghost invariant = { IsBoard };
-}
-
-/// Whether a slot can have a turn.
-pub(crate) fn can_run(home: &Home, processes: &[Process], slot: Slot) -> bool
-    requires { length home.now.owns ≡ length processes.now }
-    ensures { result ≡ can_turn_in (slice_get (zip processes.now home.now.owns) slot) }
-{
-    match processes.get(slot.index()) {
-        Some(process) => can_turn(home, process, slot),
-        None => false,
-    }
-}
-
-/// Takes back what the last step told, but for whose turn it was. What it printed, an act, a call
-/// or a denial is seldom there, and writing it takes time.
-#[inline(always)]
-fn clear(emit: &mut Emit)
-    ensures { emit.new ≡ record nothing { slot = emit.old.slot } }
-{
-    emit.printed.clear();
-    if emit.act.is_some() {
-        emit.act = None;
-    }
-    if emit.made.is_some() {
-        emit.made = None;
-    }
-    if emit.denial.is_some() {
-        emit.denial = None;
-    }
-}
-
-/// The step shows nothing.
-fn hide(emit: &mut Emit)
-    ensures { emit.new ≡ nothing }
-{
-    clear(emit);
-    emit.slot = None;
-}
-
-/// The step printed bytes for a slot's process, if it printed any.
-fn show(emit: &mut Emit, slot: Slot, printed: ArrayVec<u8, PRINT_LIMIT>)
-    ensures { emit.new ≡ shown_printed slot printed.items }
-{
-    hide(emit);
-    if !printed.is_empty() {
-        emit.slot = Some(slot);
-    }
-    emit.printed = printed;
-}
-
-/// An operator acted on a slot's process, and these bytes were printed.
-fn show_act(emit: &mut Emit, slot: Slot, verb: Verb, printed: ArrayVec<u8, PRINT_LIMIT>)
-    ensures { emit.new ≡ shown_act slot verb printed.items }
-{
-    hide(emit);
-    emit.slot = Some(slot);
-    emit.act = Some((slot, verb));
-    emit.printed = printed;
-}
-
-/// Which device steps are ready at a moment.
-fn devices_ready(
-    home: &Home,
-    alarms: &AlarmTimes,
-    drivers: &Drivers,
-    moment: &Moment,
-) -> ArrayVec<bool, 6>
-    requires { AlarmsTell moment.now alarms.now home.now.owns }
-    ensures { result.items ≡ ready_in moment.now home.now.owns drivers.now }
-{
-    ArrayVec::from([
-        moment.is_ready(home, alarms, drivers, Dev::Event),
-        moment.is_ready(home, alarms, drivers, Dev::Alarm),
-        moment.is_ready(home, alarms, drivers, Dev::Uart),
-        moment.is_ready(home, alarms, drivers, Dev::Receive),
-        moment.is_ready(home, alarms, drivers, Dev::Random),
-        moment.is_ready(home, alarms, drivers, Dev::Store),
-    ])
-}
-
-/// What of a script's settings processes can see.
-fn settings_of(script: &Script) -> Settings
-    ensures { result ≡ visible_settings script.now }
-{
-    Settings {
-        leds: script.leds,
-        buttons: script.buttons,
-        start: script.start,
-        storage: script.storage,
-        policy: script.policy,
-        strict: script.strict,
-    }
-}
-
-/// Whether a turn may have asked anything of the devices, changed what its process keeps for the
-/// alarm, or ended a life of it, by what it showed.
-#[inline(always)]
-fn may_have_acted(emit: &Emit) -> bool
-    ensures { result ≡ may_have_acted emit.now.made emit.now.denial }
-{
-    if emit.denial.is_some() {
-        return true;
-    }
-    match &emit.made {
-        Some(made) => may_act(made),
-        None => false,
-    }
-}
-
-/// Whether a turn may have changed what its process keeps for the alarm, or ended a life of it, by
-/// what it showed.
-#[inline(always)]
-fn may_have_armed(emit: &Emit) -> bool
-    ensures { result ≡ may_have_armed emit.now.made emit.now.denial }
-{
-    if emit.denial.is_some() {
-        return true;
-    }
-    match &emit.made {
-        Some(made) => may_arm(made),
-        None => false,
-    }
-}
-
-/// Looks again when the alarm of a process becomes due, where its turn may have armed one: what it
-/// keeps for the alarm, and that it lives, changes in no other turn.
-#[inline(always)]
-fn look_again(alarms: &mut AlarmTimes, moment: &Moment, home: &Home, slot: Slot, emit: &Emit)
-    requires time { moment.now.time + 2 ^ 32 ≤ 2 ^ 64 }
-    requires others { OthersTell slot (clock_at moment.now.settings.start moment.now.time)
-        moment.now.time alarms.old home.now.owns }
-    requires unarmed { may_have_armed emit.now.made emit.now.denial ≡ false
-        → AlarmsTell moment.now alarms.old home.now.owns }
-    ensures { AlarmsTell moment.now alarms.new home.now.owns }
-{
-    if may_have_armed(emit) {
-        alarms.note(home, slot, moment.tick(), moment.time);
-    }
-}
-
-/// Looks again when the alarm of a process becomes due which a device answered, where that was the
-/// alarm: no other one's answer changes it.
-#[inline(always)]
-fn look_after(alarms: &mut AlarmTimes, moment: &Moment, home: &Home, slot: Slot, device: Dev)
-    requires time { moment.now.time + 2 ^ 32 ≤ 2 ^ 64 }
-    requires others { OthersTell slot (clock_at moment.now.settings.start moment.now.time)
-        moment.now.time alarms.old home.now.owns }
-    requires another { is_alarm device ≡ false → AlarmsTell moment.now alarms.old home.now.owns }
-    ensures { AlarmsTell moment.now alarms.new home.now.owns }
-{
-    if device == Dev::Alarm {
-        alarms.note(home, slot, moment.tick(), moment.time);
-    }
-}
-
-/// A time up to which no device step is ready after a turn, by what it showed. It asks that the one
-/// so far holds on where the turn did not act.
-#[inline(always)]
-fn calm_after(
-    calm: u64,
-    moment: &Moment,
-    home: &Home,
-    alarms: &AlarmTimes,
-    drivers: &Drivers,
-    emit: &Emit,
-) -> u64
-    requires alarms { AlarmsTell moment.now alarms.now home.now.owns }
-    requires time { moment.now.time ≤ STEP_LIMIT * 2 ^ 32 }
-    requires free { AreFreeSoon moment.now.time drivers.now }
-    requires calm { may_have_acted emit.now.made emit.now.denial ≡ false
-        → IsCalm moment.now.settings.start moment.now.window moment.now.time calm home.now.owns
-        drivers.now }
-    ensures { IsCalm moment.now.settings.start moment.now.window moment.now.time result
-        home.now.owns drivers.now }
-{
-    if may_have_acted(emit) {
-        return moment.look_ahead(home, alarms, drivers);
-    }
-    calm
-}
-
-/// The name of the application whose object this is, as its line shows it.
-fn name_in(flash: &[u8], object: &Object) -> ArrayVec<u8, 32>
-    requires from { FLASH_START ≤ object.now.address }
-    requires to { object.now.address + object.now.size ≤ FLASH_START + length flash.now }
-    ensures { result.items ≡ name_of (object_in flash.now object.now) }
-{
-    object_name(object_at(flash, object.address - FLASH_START, object.size))
-}
-
-/// The same applications again.
-fn copied(unplaced: &[(u32, PlaceFault)]) -> ArrayVec<(u32, PlaceFault), OBJECT_LIMIT>
-    requires { length unplaced.now ≤ OBJECT_LIMIT }
-    ensures { result.items ≡ unplaced.now }
-{
-    let mut copy = ArrayVec::new();
-    let Ok(()) = copy.try_extend_from_slice(unplaced) else {
-        unreachable!()
-    };
-    copy
-}
-
-/// The line of each slot.
-fn slot_lines(home: &Home, processes: &[Process]) -> ArrayVec<SlotLine, SLOT_COUNT>
-    requires few { length processes.now ≤ SLOT_COUNT }
-    requires owns { length home.now.owns ≡ length processes.now }
-    requires objects { All (InFlash home.now.flash) processes.now }
-    ensures { result.items ≡ map (line_in home.now.flash) (zip processes.now home.now.owns) }
-{
-    let mut lines = ArrayVec::new();
-    for (place, process) in processes.iter().enumerate() {
-        let slot = Slot::new(place);
-        lines.push(SlotLine {
-            name: name_in(home.flash(), &process.object),
-            state: process.state,
-            held: process.held,
-            wait: home.wait(slot),
-            denial: process.denial,
-            turns: process.turns,
-            restarts: process.restarts,
-            dropped: home.dropped(slot),
-        });
-    }
-    lines
+    ghost invariant = { λ b. IsBoard b.state };
 }
 
 /// The board tells what the round robin reads of it, each part where it is asked for.
@@ -332,42 +72,47 @@ impl Situated for Board {
 
     ghost asks = { λ w. Unit {0} };
 
+    #[inline(always)]
     fn device_is_ready(&self, device: Dev) -> bool {
-        self.machine.moment.is_ready(
-            &self.machine.home,
-            &self.alarms,
-            &self.machine.drivers,
+        self.state.machine.moment.is_ready(
+            &self.state.machine.home,
+            &self.state.alarms,
+            &self.state.machine.drivers,
             device,
         )
     }
 
     fn slot_is_ready(&self, slot: Slot) -> bool {
-        self.machine.moment.served().serves(slot) && self.ready.has(slot)
+        self.state.machine.moment.served().serves(slot) && self.state.ready.has(slot)
     }
 
     fn slots(&self) -> usize {
-        self.processes.len()
+        if self.state.ready.has_any() {
+            self.state.processes.len()
+        } else {
+            0
+        }
     }
 
     fn next(&self) -> Option<u64> {
         next_is_ready();
-        self.time_ahead()
+        time_ahead(&self.state)
     }
 
     fn time(&self) -> u64 {
-        self.machine.moment.time
+        self.state.machine.moment.time
     }
 
     fn present(&self) -> Option<Slot> {
-        self.present
+        self.state.present
     }
 
     fn used(&self) -> u32 {
-        self.used
+        self.state.used
     }
 
     fn slice(&self) -> u32 {
-        self.slice
+        self.state.slice
     }
 }
 
@@ -410,136 +155,28 @@ impl Board {
             moment,
         };
         Ok(Board {
-            machine,
-            processes,
-            unplaced: unplaced(&placed),
-            calm,
-            alarms,
-            ready,
-            slice,
-            present: None,
-            used: 0,
+            state: BoardState {
+                machine,
+                processes,
+                unplaced: unplaced(&placed),
+                calm,
+                alarms,
+                ready,
+                slice,
+                present: None,
+                used: 0,
+            },
         })
     }
 
-    /// Up to when time passes where nothing is ready: to the nearest time at which a device step
-    /// becomes ready by itself; with time partitions no further than to the window's end, and as
-    /// long as anything is left to do for any slot.
-    fn time_ahead(&self) -> Option<u64>
-        ensures at { result ≡ next_time self.now }
-        ensures near { IfSome result (λ at. at - self.now.clock.time < 2 ^ 32) }
-    {
-        let moment = &self.machine.moment;
-        let next = moment.next_time(&self.machine.home, &self.alarms, &self.machine.drivers);
-        let Some(end) = moment.window_end() else {
-            return next;
-        };
-        if !self.is_left() {
-            return None;
-        }
-        nearer_time(next, Some(end))
-    }
-
-    /// Whether the process in a slot may have the next turn.
-    fn may_run(&self, slot: Slot) -> bool
-        requires { self.now.clock.steps < STEP_LIMIT }
-        ensures { result ≡ is_ready self.now (Run slot) }
-    {
-        self.ready.has(slot)
-    }
-
-    /// A turn of the process in a slot. When its alarm becomes due is looked at again where the turn
-    /// may have armed one, and when a device step is ready where it may have acted.
+    /// A turn of the process in a slot.
     #[inline(always)]
     fn run(&mut self, slot: Slot, end: TurnEnd, emit: &mut Emit) -> Result<(), NotReady>
         requires limit { self.old.clock.steps < STEP_LIMIT }
         requires known { IsKnownEnd self.old end (Run slot) }
         ensures { MakesStep (Run slot) self.old self.new emit.old emit.new result }
     {
-        grants_change_at_calls();
-        turns_keep_lines();
-        alarms_change_at_their_commands();
-        time_brings_an_alarm_nearer();
-        if !self.may_run(slot) {
-            return Err(NotReady);
-        }
-        clear(emit);
-        emit.slot = Some(slot);
-        self.machine.turn_at(&mut self.processes, slot, end, emit);
-        self.ready.look(&self.machine.home, &self.processes, slot);
-        self.used = used_after(self.present, self.used, self.slice, slot);
-        self.present = Some(slot);
-        self.machine.moment.time += 1;
-        self.machine.moment.steps += 1;
-        look_again(
-            &mut self.alarms,
-            &self.machine.moment,
-            &self.machine.home,
-            slot,
-            emit,
-        );
-        self.calm = calm_after(
-            self.calm,
-            &self.machine.moment,
-            &self.machine.home,
-            &self.alarms,
-            &self.machine.drivers,
-            emit,
-        );
-        Ok(())
-    }
-
-    /// The act of an operator that is next to come in, with the slot of the process that it means.
-    /// None where something else is next, or nobody has that name.
-    #[tactic(auto, unfolding(kernel_model::specs::Shown::summary_of))]
-    fn act_meant(&self) -> Option<(Slot, Verb)>
-        ensures { result ≡ act_meant self.now }
-    {
-        let act = self.machine.drivers.arrivals.next_act()?;
-        let slot = find(&self.summary(), &act.name)?;
-        Some((slot, act.verb))
-    }
-
-    /// What an operator's act on the process in a slot prints: its line, where it is listed.
-    #[tactic(auto, unfolding(kernel_model::specs::Shown::summary_of))]
-    fn listing(&self, slot: Slot, verb: Verb) -> ArrayVec<u8, PRINT_LIMIT>
-        requires { slot < length self.now.records }
-        ensures { IfSome (slice_get self.now.records slot)
-            (λ r. result.items ≡ listed verb slot r) }
-    {
-        if verb != Verb::List {
-            return ArrayVec::new();
-        }
-        list_line(slot, &self.summary().slots[slot.index()])
-    }
-
-    /// An operator acts on the process in a slot, which is next to come in.
-    fn operate(&mut self, slot: Slot, verb: Verb, emit: &mut Emit) -> Result<(), NotReady>
-        requires limit { self.old.clock.steps < STEP_LIMIT }
-        requires ready { is_time self.old.clock.time self.old.devices.arrivals ≡ true }
-        requires meant { act_meant self.old ≡ Some (slot, verb) }
-        ensures { MakesStep (Device Event) self.old self.new emit.old emit.new result }
-    {
-        devices_answer_one();
-        lines_follow_answers();
-        let printed = self.listing(slot, verb);
-        let slots = self.processes.len();
-        self.machine.drivers.arrive(&mut self.machine.home, slots);
-        self.machine.operate_at(&mut self.processes, slot, verb);
-        self.ready.look(&self.machine.home, &self.processes, slot);
-        show_act(emit, slot, verb, printed);
-        self.machine.moment.steps += 1;
-        self.alarms.note(
-            &self.machine.home,
-            slot,
-            self.machine.moment.tick(),
-            self.machine.moment.time,
-        );
-        self.calm = self
-            .machine
-            .moment
-            .look_ahead(&self.machine.home, &self.alarms, &self.machine.drivers);
-        Ok(())
+        make_turn(&mut self.state, slot, end, emit)
     }
 
     /// What is next to come in does: bytes on the serial line, an edge of a button, which every
@@ -552,25 +189,32 @@ impl Board {
         devices_answer_one();
         lines_follow_answers();
         if !self
+            .state
             .machine
             .drivers
             .arrivals
-            .is_time(self.machine.moment.time)
+            .is_time(self.state.machine.moment.time)
         {
             return Err(NotReady);
         }
-        if let Some((slot, verb)) = self.act_meant() {
-            return self.operate(slot, verb, emit);
+        if let Some((slot, verb)) = act_meant(&self.state) {
+            return operate(&mut self.state, slot, verb, emit);
         }
-        let slots = self.processes.len();
-        self.machine.drivers.arrive(&mut self.machine.home, slots);
-        self.ready.look_at_all(&self.machine.home, &self.processes);
-        hide(emit);
-        self.machine.moment.steps += 1;
-        self.calm = self
+        let slots = self.state.processes.len();
+        self.state
             .machine
-            .moment
-            .look_ahead(&self.machine.home, &self.alarms, &self.machine.drivers);
+            .drivers
+            .arrive(&mut self.state.machine.home, slots);
+        self.state
+            .ready
+            .look_at_all(&self.state.machine.home, &self.state.processes);
+        hide(emit);
+        self.state.machine.moment.steps += 1;
+        self.state.calm = self.state.machine.moment.look_ahead(
+            &self.state.machine.home,
+            &self.state.alarms,
+            &self.state.machine.drivers,
+        );
         Ok(())
     }
 
@@ -583,31 +227,34 @@ impl Board {
         devices_answer_one();
         answers_leave_alarms();
         let mut printed = ArrayVec::new();
-        let Ok(answer) = self.machine.drivers.act_by(
-            &mut self.machine.home,
-            &self.alarms,
+        let Ok(answer) = self.state.machine.drivers.act_by(
+            &mut self.state.machine.home,
+            &self.state.alarms,
             device,
-            &self.machine.moment,
+            &self.state.machine.moment,
             &mut printed,
         )
         else {
             return Err(NotReady);
         };
         let served = answer.to.slot;
-        self.ready.look(&self.machine.home, &self.processes, served);
+        self.state
+            .ready
+            .look(&self.state.machine.home, &self.state.processes, served);
         show(emit, served, printed);
-        self.machine.moment.steps += 1;
-        look_after(
-            &mut self.alarms,
-            &self.machine.moment,
-            &self.machine.home,
+        self.state.machine.moment.steps += 1;
+        look_again(
+            &mut self.state.alarms,
+            &self.state.machine.moment,
+            &self.state.machine.home,
             served,
-            device,
+            device == Dev::Alarm,
         );
-        self.calm = self
-            .machine
-            .moment
-            .look_ahead(&self.machine.home, &self.alarms, &self.machine.drivers);
+        self.state.calm = self.state.machine.moment.look_ahead(
+            &self.state.machine.home,
+            &self.state.alarms,
+            &self.state.machine.drivers,
+        );
         Ok(())
     }
 
@@ -645,8 +292,8 @@ impl Board {
         }
         time_brings_an_alarm_nearer();
         hide(emit);
-        self.machine.moment.time += u64::from(ticks);
-        self.machine.moment.steps += 1;
+        self.state.machine.moment.time += u64::from(ticks);
+        self.state.machine.moment.steps += 1;
         Ok(())
     }
 
@@ -656,8 +303,8 @@ impl Board {
     fn owns_are_whole(&self)
         ensures { AreWhole self.now }
     {
-        self.machine.home.held_buffers_lie_in_place();
-        self.machine.home.owns_lie_in_place();
+        self.state.machine.home.held_buffers_lie_in_place();
+        self.state.machine.home.owns_lie_in_place();
     }
 
     /// Makes one step, and shows it in `emit`. Afterwards the board shows the world after the
@@ -708,7 +355,7 @@ impl Board {
         self.owns_are_whole();
         steps_are_accounted_for();
         a_record_is_the_replay_of_its_events();
-        if self.machine.moment.steps >= STEP_LIMIT {
+        if self.state.machine.moment.steps >= STEP_LIMIT {
             return Err(NotReady);
         }
         match choice {
@@ -724,7 +371,7 @@ impl Board {
         requires { ready.old.items ≡ [] }
         ensures { ready.new.items ≡ ready_slots self.now }
     {
-        for slot in 0..self.processes.len() {
+        for slot in 0..self.state.processes.len() {
             ready.push(self.slot_is_ready(Slot::new(slot)));
         }
     }
@@ -746,17 +393,17 @@ impl Board {
         let mut status = Status {
             ready: ArrayVec::new(),
             devices: devices_ready(
-                &self.machine.home,
-                &self.alarms,
-                &self.machine.drivers,
-                &self.machine.moment,
+                &self.state.machine.home,
+                &self.state.alarms,
+                &self.state.machine.drivers,
+                &self.state.machine.moment,
             ),
-            next: self.time_ahead(),
-            time: self.machine.moment.time,
-            present: self.present,
-            used: self.used,
-            slice: self.slice,
-            lanes: self.lanes(),
+            next: time_ahead(&self.state),
+            time: self.state.machine.moment.time,
+            present: self.state.present,
+            used: self.state.used,
+            slice: self.state.slice,
+            lanes: lanes(&self.state),
         };
         self.add_ready(&mut status.ready);
         status
@@ -777,7 +424,7 @@ impl Board {
         next_is_ready();
         next_is_of_the_window();
         // What comes most often needs no look at the devices.
-        if self.machine.moment.time < self.calm {
+        if self.state.machine.moment.time < self.state.calm {
             return next_in_calm(self);
         }
         next_choice_in(self)
@@ -787,13 +434,6 @@ impl Board {
     pub fn summary(&self) -> Summary
         ensures { result ≡ summary_of self.now }
     {
-        Summary {
-            slots: slot_lines(&self.machine.home, &self.processes),
-            unplaced: copied(&self.unplaced),
-            leds: bits(&self.machine.drivers.leds),
-            led_count: self.machine.moment.settings.leds,
-            steps: self.machine.moment.steps,
-            time: self.machine.moment.time,
-        }
+        summary(&self.state)
     }
 }

@@ -3,11 +3,8 @@
 #![tactic(auto)]
 
 mod board;
-mod lanes;
-mod left;
 mod look;
 mod play;
-mod ready_slots;
 mod stretch;
 
 pub use board::Board;

@@ -3,7 +3,7 @@ ghost use Rattle.std.specs.Prelude.{◌≡◌, All, map, slice_get};
 ghost use Rattle.std.specs.Option.{option_copied, option_map};
 ghost use Rattle.process_model.specs.Own.{block_of, layout_of};
 ghost use Rattle.grant_enter.specs.Homes.{living};
-ghost use Rattle.board_core.specs.Looks.{LivesThere, waiting_for};
+ghost use Rattle.board_state.specs.Looks.{LivesThere, waiting_for};
 
 use crate::board::Board;
 use driver_requests::Waiting;
@@ -16,7 +16,7 @@ impl Board {
     pub fn time(&self) -> u64
         ensures { result ≡ self.now.clock.time }
     {
-        self.machine.moment.time
+        self.state.machine.moment.time
     }
 
     /// The process in a slot: its registers, its state, its counts, its last denial and its last
@@ -24,7 +24,7 @@ impl Board {
     pub fn process(&self, slot: Slot) -> Option<Process>
         ensures { result ≡ option_map (λ r. r.process) (slice_get self.now.records slot) }
     {
-        match self.processes.get(slot.index()) {
+        match self.state.processes.get(slot.index()) {
             Some(process) => Some(*process),
             None => None,
         }
@@ -34,10 +34,10 @@ impl Board {
     pub fn layout(&self, slot: Slot) -> Option<Layout>
         ensures { result ≡ option_map (λ r. layout_of r.own) (slice_get self.now.records slot) }
     {
-        if slot.index() >= self.processes.len() {
+        if slot.index() >= self.state.processes.len() {
             return None;
         }
-        Some(self.machine.home.layout(slot))
+        Some(self.state.machine.home.layout(slot))
     }
 
     /// The block of the process in a slot, as it lies in memory: the bytes of its record, and then
@@ -47,10 +47,10 @@ impl Board {
         ensures { option_copied result
             ≡ option_map (λ r. block_of r.own) (slice_get self.now.records slot) }
     {
-        if slot.index() >= self.processes.len() {
+        if slot.index() >= self.state.processes.len() {
             return None;
         }
-        Some(self.machine.home.block(slot))
+        Some(self.state.machine.home.block(slot))
     }
 
     /// The bytes of storage of the process in a slot.
@@ -58,10 +58,10 @@ impl Board {
         ensures { option_copied result
             ≡ option_map (λ r. r.storage) (slice_get self.now.records slot) }
     {
-        if slot.index() >= self.processes.len() {
+        if slot.index() >= self.state.processes.len() {
             return None;
         }
-        Some(self.machine.drivers.stores.bytes(slot))
+        Some(self.state.machine.drivers.stores.bytes(slot))
     }
 
     /// The upcalls that wait to be delivered to the process in a slot, the first one first.
@@ -69,20 +69,20 @@ impl Board {
         ensures { option_copied result
             ≡ option_map (λ r. r.own.inbox.pending) (slice_get self.now.records slot) }
     {
-        if slot.index() >= self.processes.len() {
+        if slot.index() >= self.state.processes.len() {
             return None;
         }
-        Some(self.machine.home.pending(slot))
+        Some(self.state.machine.home.pending(slot))
     }
 
     /// How many upcalls of the process in a slot were dropped.
     pub fn dropped(&self, slot: Slot) -> Option<u32>
         ensures { result ≡ option_map (λ r. r.own.inbox.dropped) (slice_get self.now.records slot) }
     {
-        if slot.index() >= self.processes.len() {
+        if slot.index() >= self.state.processes.len() {
             return None;
         }
-        Some(self.machine.home.dropped(slot))
+        Some(self.state.machine.home.dropped(slot))
     }
 
     /// The process that lives in a slot, by its present life. None exactly where none lives there.
@@ -90,7 +90,7 @@ impl Board {
         ensures { result
             ≡ living slot (option_map (λ r. r.own) (slice_get self.now.records slot)) }
     {
-        self.machine.home.id(slot)
+        self.state.machine.home.id(slot)
     }
 
     /// The processes that wait for a device step, the one that waits longest first. Each lives in
@@ -102,10 +102,10 @@ impl Board {
     {
         match device {
             Dev::Event | Dev::Alarm => &[],
-            Dev::Uart => self.machine.drivers.console.writes.as_slice(),
-            Dev::Receive => self.machine.drivers.console.reads.as_slice(),
-            Dev::Random => self.machine.drivers.random.waiting.as_slice(),
-            Dev::Store => self.machine.drivers.storage.waiting.as_slice(),
+            Dev::Uart => self.state.machine.drivers.console.writes.as_slice(),
+            Dev::Receive => self.state.machine.drivers.console.reads.as_slice(),
+            Dev::Random => self.state.machine.drivers.random.waiting.as_slice(),
+            Dev::Store => self.state.machine.drivers.storage.waiting.as_slice(),
         }
     }
 }

@@ -81,6 +81,8 @@ impl Moment {
     /// Whether a device step is ready for those who are served: something is to come in; an alarm is
     /// due; a write waits and the UART is free; a read waits and bytes came in; a request for random
     /// bytes waits; one for storage waits.
+    // Inlined, as is what finds the next time: the device is known where they are called.
+    #[inline(always)]
     #[tactic(auto, using(crate::proofs::Waiting::waits_if_first))]
     pub fn is_ready_for(
         &self,
@@ -104,6 +106,7 @@ impl Moment {
     }
 
     /// Whether a device step is ready ([`Moment::is_ready_for`]) for those who are served now.
+    #[inline(always)]
     pub fn is_ready(&self, home: &Home, alarms: &AlarmTimes, drivers: &Drivers, device: Dev) -> bool
         requires { AlarmsTell self.now alarms.now home.now.owns }
         ensures { result ≡ (work_in self.now home.now.owns drivers.now).ready device }
@@ -123,6 +126,7 @@ impl Moment {
     }
 
     /// The time after so many ticks, if that is a number of ticks.
+    #[inline(always)]
     fn after(&self, ticks: Option<u32>) -> Option<u64>
         requires { self.now.time + 2 ^ 32 ≤ 2 ^ 64 }
         ensures at { result ≡ option_map (λ n. self.now.time + n) ticks }
@@ -133,6 +137,7 @@ impl Moment {
     }
 
     /// The time at which the next alarm of those who are served becomes due.
+    #[inline(always)]
     pub fn due_time(&self, home: &Home, alarms: &AlarmTimes, served: &Served) -> Option<u64>
         requires alarms { AlarmsTell self.now alarms.now home.now.owns }
         requires time { self.now.time + 2 ^ 32 ≤ 2 ^ 64 }
@@ -145,6 +150,7 @@ impl Moment {
     /// The nearest time at which a device step becomes ready by itself for those who are served:
     /// something comes in, an alarm becomes due, or the UART is free for a write that waits. None
     /// exactly where none of these is to come.
+    #[inline(always)]
     pub fn next_time_for(
         &self,
         home: &Home,
@@ -166,6 +172,7 @@ impl Moment {
     }
 
     /// The nearest such time ([`Moment::next_time_for`]) for those who are served now.
+    #[inline(always)]
     pub fn next_time(&self, home: &Home, alarms: &AlarmTimes, drivers: &Drivers) -> Option<u64>
         requires alarms { AlarmsTell self.now alarms.now home.now.owns }
         requires time { self.now.time + 2 ^ 32 ≤ 2 ^ 64 }

@@ -1,7 +1,6 @@
 -- What an operator's act leaves of a machine.
-use Rattle.std.proofs.Common.{◌≡◌, ◌≢◌, ◌≤◌, ◌<◌, ◌==◌, ℕ, ◌+◌, Bool, true, false, cond, List, [], length, slice_get}
-use Rattle.std.proofs.Common.{slice_set, slice_index_or, Option, Some, refl, sym, ap, ap₂, subst, ◌∙◌, arith}
-use Rattle.std.specs.List.{zip}
+use Rattle.std.proofs.Common.{◌≡◌, ◌≢◌, ℕ, ◌+◌, List}
+use Rattle.std.proofs.Common.{slice_set, slice_index_or, sym, ap, ap₂, subst, ◌∙◌, arith}
 use Rattle.std.proofs.lemmas.List.{get_or-set_other}
 use Rattle.tk_base.specs.declared.process.Verb.{Verb}
 use Rattle.tk_base.specs.declared.process.Verb.TheVariants as verbs
@@ -9,24 +8,19 @@ use Rattle.process_model.specs.Own.{Own}
 use Rattle.process_model.specs.Flash.{object_in}
 use Rattle.process_model.specs.declared.place.Object.{Object}
 use Rattle.process_record.specs.declared.process.Process.{Process}
-use Rattle.process_record.specs.Process.{is_alive}
-use Rattle.process_record.specs.Parts.{with_held}
-use Rattle.process_record.specs.Operator.{own_operated, process_operated}
 use Rattle.grant_enter.specs.Homes.{ChangesOnly, Homes, nobody, own_of}
 use Rattle.process_restart.specs.Own.{IsOwn, KeepsObject, LivesOn}
 use Rattle.process_console.specs.Acts.{Operates as Acts}
-use Rattle.kernel_model.specs.Turn.{operated}
 use Rattle.kernel_calls.specs.Own.{Beside, record_in}
 use Rattle.kernel_calls.proofs.Starts.{starts_again}
 use Rattle.board_memory.specs.Registers.{Protect}
-use Rattle.board_drivers.specs.Residents.{IsResident, Resident, resident}
+use Rattle.board_drivers.specs.Residents.{IsResident}
 use Rattle.board_turns.specs.declared.guard.ActivePmp.{ActivePmp}
 use Rattle.board_turns.specs.declared.machine.Machine.{Machine}
 use Rattle.board_turns.specs.Guards.{GuardsOnly, GuardsOthers}
 use Rattle.board_turns.specs.Operating.{MayOperateAt, MayOperateOn, Operates, OperatesAt, OperatesOn}
 use Rattle.board_turns.specs.Turning.{LeavesOn, MayTurnAt}
 use Rattle.board_turns.proofs.Tables.{changed_at, may_turn}
-use Rattle.board_turns.proofs.Turns.{only_flash}
 
 -- a change of one slot leaves what is another's own
 other_own : (slot other : ℕ) (a b : Homes) → ChangesOnly slot a b → other ≢ slot → own_of b other ≡ own_of a other

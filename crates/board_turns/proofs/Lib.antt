@@ -5,3 +5,4 @@ pub mod Sight
 pub mod Turns
 pub mod Quiet
 pub mod Stopped
+mod Replies

@@ -1,12 +1,17 @@
 -- The turns of a process with what is its own. Only proofs use this.
 use Rattle.std.specs.Prelude.{◌≡◌, ◌≢◌, ℕ, ◌+◌, ◌≤◌, ◌<◌, true, List, [], length, slice_get, slice_set, All, IfSome}
-use Rattle.std.specs.Prelude.{None, Some}
+use Rattle.std.specs.Prelude.{Option, None, Some}
 use Rattle.std.specs.List.{zip}
 use Rattle.tk_base.specs.declared.limits.TheConstants.{STEP_LIMIT}
 use Rattle.rv32_model.specs.UserTurn.{MemoryAccess, UserTurn}
 use Rattle.rv32_model.specs.declared.turn_end.TurnEnd.{TurnEnd}
 use Rattle.rv32_model.specs.declared.turn_end.TurnEnd.TheVariants.{Went}
+use Rattle.tk_base.specs.Regs.{Registers}
+use Rattle.tk_base.specs.declared.call.CallRule.{CallRule}
 use Rattle.syscall_abi.specs.Call.{call_of}
+use Rattle.syscall_abi.specs.Reply.{put_reply}
+use Rattle.syscall_abi.specs.declared.reply.Reply.{Reply}
+use Rattle.process_record.specs.declared.outcome.Outcome.TheVariants.{Replied}
 use Rattle.process_model.specs.Own.{Own}
 use Rattle.process_model.specs.Instruction.{with_write}
 use Rattle.process_record.specs.Process.{after_turn}
@@ -18,7 +23,7 @@ use Rattle.tk_base.specs.declared.access.Denial.{Denial}
 use Rattle.fault_policy.specs.Policy.{decision}
 use Rattle.fault_policy.specs.declared.Policy.{Policy}
 use Rattle.kernel_model.specs.Record.{instruction}
-use Rattle.kernel_model.specs.Turn.{Turned, settled, surroundings, turned}
+use Rattle.kernel_model.specs.Turn.{Turned, arguments, settled, surroundings, turned}
 use Rattle.kernel_model.specs.Parts.{calls}
 use Rattle.kernel_calls.specs.Own.{Beside, record_in}
 use Rattle.kernel_calls.specs.Outcomes.{record_of_slot}
@@ -86,6 +91,12 @@ abbrev pub ServesCall : Moment → ℕ → List ℕ → Resident → Resident �
 ServesCall m slot flash old new shown d d_after = (accesses : List MemoryAccess) →
     Does (λ beside. calls m.settings m.time (record_in flash old.0 old.1 beside) accesses (call_of old.0.regs))
     slot flash old new shown d d_after
+
+-- where a call is replied to, these registers have the reply in its place in those before it
+abbrev pub ReplyStands : Registers → Outcome → Registers → Type 0
+ReplyStands before outcome after =
+    (reply : Reply) (rule : Option CallRule) → outcome ≡ Replied reply rule →
+    arguments after ≡ arguments (put_reply reply before)
 
 -- a fault of a process is settled as a policy decides, whatever the process has beside
 abbrev pub Settles : Policy → List ℕ → Process → Own → Denial → Resident → Type 0

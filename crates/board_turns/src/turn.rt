@@ -17,7 +17,7 @@ ghost use Rattle.board_drivers.specs.Residents.{id_of, resident, resident_turns}
 ghost use Rattle.board_turns.specs.Turning.{InTurn, InTurnOn, FinishesOn, IsMade, LeavesOn};
 ghost use Rattle.board_turns.specs.Turning.{LeavesSlot, MayServeOn, MayTurn, MayTurnOn};
 ghost use Rattle.board_turns.specs.Turning.{ServesCallOn, Settles, TurnsOn, next_instruction};
-ghost use Rattle.board_turns.specs.Turning.{nothing_shown, told_in_emit, with_shown, MayTurnAt};
+ghost use Rattle.board_turns.specs.Turning.{nothing_shown, told_in_emit, with_shown, MayTurnAt, ReplyStands};
 ghost use Rattle.board_turns.specs.Turning.{IsKnownEnd, IsKnownEndAt, TurnsAt};
 ghost use Rattle.rv32_model.specs.declared.turn_end.TurnEnd.TheVariants.{Went};
 
@@ -41,7 +41,8 @@ pub struct Shown {
 }
 
 /// Tells in `emit` what a turn showed.
-#[inline(never)]
+// Inlined, what was shown is written there and nowhere before.
+#[inline(always)]
 fn tell(emit: &mut Emit, shown: Shown)
     ensures { emit.new ≡ with_shown emit.old shown }
 {
@@ -56,16 +57,14 @@ fn arguments_of(regs: &Regs) -> [u32; 4]
     [regs.get(10), regs.get(11), regs.get(12), regs.get(13)]
 }
 
-/// The call as a step shows it, from the registers before it and what came of it.
-fn call_shown(before: &Regs, outcome: Outcome) -> CallMade
+/// The call as a step shows it, from the registers before it and what came of it. Its reply stands
+/// in the registers after it.
+fn call_shown(before: &Regs, outcome: Outcome, after: &Regs) -> CallMade
+    requires { ReplyStands before.now outcome after.now }
     ensures { result ≡ made before.now outcome }
 {
     let (reply, rule) = match outcome {
-        Outcome::Replied(reply, rule) => {
-            let mut after = *before;
-            reply.put(&mut after);
-            (Some(arguments_of(&after)), rule)
-        }
+        Outcome::Replied(_reply, rule) => (Some(arguments_of(after)), rule),
         Outcome::ToDriver
         | Outcome::Waits
         | Outcome::Delivered
@@ -336,7 +335,7 @@ impl Machine {
         };
         let outcome = self.serve(process, slot, &call);
         Shown {
-            call: Some(call_shown(&before, outcome)),
+            call: Some(call_shown(&before, outcome, &process.regs)),
             denial: None,
         }
     }

@@ -1,16 +1,14 @@
 -- Only proofs use this: parts of the definitions by name, for the contracts of inner functions.
 use Rattle.std.specs.Prelude.{ℕ, ◌+◌, ◌/◌, ◌^◌, ◌==◌, ◌&&◌, nat_le, Bool, if◌then◌else◌, List, ◌++◌, codes, decimal}
-use Rattle.std.specs.Prelude.{find, length, Option, Some, None, Result, Ok, Err}
+use Rattle.std.specs.Prelude.{find, length, Option, Some, None, Result, Err}
 use Rattle.std.specs.Option.{option_map_or}
 use Rattle.tk_base.specs.Numbers.{rounded_up}
 use Rattle.tbf_headers.specs.Meaning.{header_of}
 use Rattle.tbf_headers.specs.Tlv.{first_of, length_at}
 use Rattle.flash_walk.specs.declared.found.Found.{Found}
-use Rattle.image_make.specs.declared.edits.EditFault.{EditFault}
-use Rattle.image_make.specs.declared.edits.EditFault.TheVariants.{NoObject, Length}
 use Rattle.image_make.specs.declared.packs.PackFault.{PackFault}
 use Rattle.image_make.specs.Generator.{next_draw}
-use Rattle.image_make.specs.Outcomes.{has_fault, with_name}
+use Rattle.image_make.specs.Outcomes.{has_fault}
 
 -- the draw after four
 abbrev pub fourth : ℕ → ℕ
@@ -28,10 +26,6 @@ object_found offset found = find (λ f. f.offset == offset) found
 abbrev pub unless_faulty : Found → Option Found
 unless_faulty f = if has_fault f.verdict then None else Some f
 
--- an edit of the object at an offset
-abbrev pub edit_found : Option Found → (Found → Result (List ℕ) EditFault) → Result (List ℕ) EditFault
-edit_found found edit = option_map_or edit found (Err NoObject)
-
 -- a byte of a package name that may be given
 abbrev pub is_visible : ℕ → Bool
 is_visible byte = nat_le 0x21 byte && nat_le byte 0x7E
@@ -44,10 +38,6 @@ name_place object = first_of 3 (header_of object)
 abbrev pub if_as_long : List ℕ → List ℕ → ℕ → Option ℕ
 if_as_long name object at =
     if rounded_up (length name) == rounded_up (length_at (header_of object) at) then Some at else None
-
--- the object at its place gets the name, or is refused where its own has another length
-abbrev pub giving : List ℕ → List ℕ → Found → Option ℕ → Result (List ℕ) EditFault
-giving name flash f place = option_map_or (λ at. Ok (with_name name flash f at)) place (Err Length)
 
 -- an image with a file packed behind it and then others, or refused for that file
 abbrev pub pack_next : Option PackFault → Result (List ℕ) PackFault → Result (List ℕ) PackFault

@@ -1,19 +1,19 @@
 -- What a refused call leaves (TRD 104, "Return Values").
-use Rattle.std.specs.Prelude.{◌≡◌, ℕ, Some, All, option_and_then, slice_get}
+use Rattle.std.specs.Prelude.{◌≡◌, ℕ, ◌+◌, Some, All, option_and_then, slice_get, slice_set}
 use Rattle.tk_base.specs.declared.call.CallRule.{CallRule}
 use Rattle.tk_base.specs.declared.process.Choice.{Choice}
+use Rattle.turn_scheduler.specs.RoundRobin.{used_after}
 use Rattle.syscall_abi.specs.declared.call.Call.{Call as SystemCall}
 use Rattle.syscall_abi.specs.Call.{call_of, form_of}
 use Rattle.process_record.specs.Process.{after_refusal, after_turn}
 use Rattle.kernel_model.specs.Record.{Record}
 use Rattle.kernel_model.specs.Calls.{failure_of}
-use Rattle.kernel_model.specs.Turn.{idle}
-use Rattle.kernel_model.specs.World.{World, Label, after, after_turn_of, labels}
+use Rattle.kernel_model.specs.World.{World, Label, after, labels}
 
 -- Of the process: the turn counts, the failure of the rule stands in the reply registers, pc is past the `ecall`, and
--- the refusal is recorded. Its memory, its grants, its upcalls and its storage are as they were. Of the world: what a
--- turn changes that leaves this record and asks the board for nothing, which is beside that record the time, the steps,
--- the present slot and its used turns. So no device and no list of those that wait has changed.
+-- the refusal is recorded. Its memory, its grants, its upcalls and its storage are as they were. Of the world: beside
+-- that record the time, the steps, the present slot and its used turns. So no device and no list of those that wait has
+-- changed.
 pub record LeavesRefused (w v : World) (slot : ℕ) (rule : CallRule) : Type 0 where
   pub before : Record
   pub after : Record
@@ -23,7 +23,11 @@ pub record LeavesRefused (w v : World) (slot : ℕ) (rule : CallRule) : Type 0 w
   pub refused : after ≡ record before {
     process = after_refusal (after_turn before.process) rule (failure_of (form_of call) rule);
   }
-  pub world : v ≡ after_turn_of w slot (idle after)
+  pub world : v ≡ record w {
+    records = slice_set w.records slot after;
+    clock = record { time = w.clock.time + 1; steps = w.clock.steps + 1 };
+    present = record { slot = Some slot; used = used_after w.present.slot w.present.used w.pace.slice slot };
+  }
 
 -- this of a label that tells a call which was refused by a rule, in a step from one world to another
 abbrev pub IfRefused : World → World → Label → Type 0

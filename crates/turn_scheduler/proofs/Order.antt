@@ -1,6 +1,6 @@
 -- The first ready slot, in parts.
-use Rattle.std.proofs.Common.{◌≡◌, ℕ, zero, suc, ◌+◌, ◌-◌, ◌<◌, ◌≤◌, Bool, true, false, find, Option, None, Some, sym, ap, ◌∙◌, refl}
-use Rattle.std.proofs.Common.{arith, ◌^◌}
+use Rattle.std.proofs.Common.{◌≡◌, ℕ, zero, suc, ◌+◌, ◌-◌, ◌<◌, ◌≤◌, Bool, true, false, cond, List, [], ◌∷◌, find}
+use Rattle.std.proofs.Common.{Option, None, Some, sym, ap, ◌∙◌, refl, arith, ◌^◌}
 use Rattle.std.specs.List.{range_with_len}
 use Rattle.std.specs.Option.{option_or}
 use Rattle.std.proofs.lemmas.List.Folds.{find-append}
@@ -72,6 +72,17 @@ slots_after-none p o present i r e f h k =
     k ∙ ap (λ (n : ℕ). find p (range_with_len 0 n)) length_is
     ∙ sym (ap (λ (q : Option ℕ). find p (slots_after q)) e ∙ find-append p after up_to
     ∙ ap (λ (q : Option ℕ). option_or q (find p up_to)) none)
+
+-- where none is ready from slot 0 on, none is the next
+pub nobody_ready : (p : ℕ → Bool) (slots : List ℕ) (bound : ℕ) → bound ≡ 0 → ((slot : ℕ) → bound ≤ slot → p slot ≡ false)
+    → None ≡ find p slots
+nobody_ready p [] bound is none = refl
+nobody_ready p (slot ∷ slots) bound is none =
+    by_first (p slot) (none slot (omega (arith, is))) (nobody_ready p slots bound is none)
+  where
+    by_first : (b : Bool) → b ≡ false → None ≡ find p slots → None ≡ cond b (Some slot) (find p slots)
+    by_first true e rest = cc
+    by_first false e rest = rest
 
 -- with no present slot, the first from slot 0 on
 pub slots_after-start : (p : ℕ → Bool) (o : Option ℕ) (r : Option ℕ) → o ≡ None

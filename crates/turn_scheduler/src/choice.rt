@@ -6,30 +6,37 @@ ghost use Rattle.turn_scheduler.specs.Status.{IsChoiceAhead, choice_by, lanes_to
 ghost use Rattle.turn_scheduler.specs.Status.{situation_shown};
 
 use crate::situated::Situated;
-use crate::slots::next_slot;
+use crate::slots::{next_slot, slot_going_on};
 use crate::status::Status;
 use partition_turns::next_in_window;
 use tk_base::{Choice, Dev};
 
-/// The device steps in the order in which they are asked.
-const DEVICES: [Dev; 6] = [
-    Dev::Event,
-    Dev::Alarm,
-    Dev::Uart,
-    Dev::Receive,
-    Dev::Random,
-    Dev::Store,
-];
-
-/// The first device step that is ready.
+/// The first device step that is ready. The devices are asked one by one, not in a loop: so what is
+/// asked is known where the code is made.
+#[inline(always)]
 #[tactic(auto, unfolding(crate::specs::RoundRobin::ready_device))]
 fn ready_device<S: Situated>(situated: &S) -> Option<Dev>
     ensures { result ≡ ready_device (S.situation situated.now).devices }
 {
-    DEVICES
-        .iter()
-        .find(|device| situated.device_is_ready(**device))
-        .copied()
+    if situated.device_is_ready(Dev::Event) {
+        return Some(Dev::Event);
+    }
+    if situated.device_is_ready(Dev::Alarm) {
+        return Some(Dev::Alarm);
+    }
+    if situated.device_is_ready(Dev::Uart) {
+        return Some(Dev::Uart);
+    }
+    if situated.device_is_ready(Dev::Receive) {
+        return Some(Dev::Receive);
+    }
+    if situated.device_is_ready(Dev::Random) {
+        return Some(Dev::Random);
+    }
+    if situated.device_is_ready(Dev::Store) {
+        return Some(Dev::Store);
+    }
+    None
 }
 
 /// The ticks that pass until a time that lies ahead.
@@ -43,8 +50,24 @@ fn pass_to(at: u64, time: u64) -> Choice
 
 /// The next choice in a situation in which no device step is ready, as [`next_choice_in`] says it.
 /// It asks what the situation is told under.
-#[tactic(auto, unfolding(crate::specs::RoundRobin::choice))]
+// Most often the present slot goes on: that is inlined, and the rest is not.
+#[inline(always)]
+#[tactic(auto, unfolding(crate::specs::RoundRobin::choice, crate::specs::RoundRobin::next_slot))]
 pub fn next_in_calm<S: Situated>(situated: &S) -> Option<Choice>
+    requires none { ready_device (S.situation situated.now).devices ≡ None }
+    requires asks { S.asks situated.now }
+    ensures { result ≡ choice (S.situation situated.now) }
+{
+    match slot_going_on(situated) {
+        Some(slot) => Some(Choice::Run(slot)),
+        None => next_in_turn(situated),
+    }
+}
+
+/// The same: the slot that has the next turn of a process, or a Pass.
+#[inline(never)]
+#[tactic(auto, unfolding(crate::specs::RoundRobin::choice))]
+fn next_in_turn<S: Situated>(situated: &S) -> Option<Choice>
     requires none { ready_device (S.situation situated.now).devices ≡ None }
     requires asks { S.asks situated.now }
     ensures { result ≡ choice (S.situation situated.now) }

@@ -4,7 +4,7 @@ ghost use Rattle.std.specs.List.{range_with_len};
 ghost use Rattle.tk_base.specs.declared.limits.TheConstants.{SLOT_COUNT};
 ghost use Rattle.turn_scheduler.specs.RoundRobin.{slots_after, used_after};
 ghost use Rattle.turn_scheduler.specs.Parts.{place_is_ready};
-ghost use Rattle.turn_scheduler.specs.Parts.{slot_in};
+ghost use Rattle.turn_scheduler.specs.Parts.{goes_on_in, slot_in};
 
 use crate::situated::Situated;
 use tk_base::{SLOT_COUNT, Slot};
@@ -30,6 +30,9 @@ fn next_in_order<S: Situated>(situated: &S, present: Option<Slot>) -> Option<Slo
         ≡ find (place_is_ready (S.situation situated.now).ready) (slots_after present) }
 {
     let slots = situated.slots();
+    if slots == 0 {
+        return None;
+    }
     let Some(present) = present else {
         return first_ready(situated, 0, slots);
     };
@@ -40,6 +43,19 @@ fn next_in_order<S: Situated>(situated: &S, present: Option<Slot>) -> Option<Slo
     }
 }
 
+/// The present slot, where it has the next turn: it is ready, and has used fewer turns than its
+/// slice.
+#[inline(always)]
+pub(crate) fn slot_going_on<S: Situated>(situated: &S) -> Option<Slot>
+    ensures { result ≡ goes_on_in (S.situation situated.now) }
+{
+    let present = situated.present()?;
+    if situated.used() < situated.slice() && situated.slot_is_ready(present) {
+        return Some(present);
+    }
+    None
+}
+
 /// The slot that has the next turn of a process: the present one, if it is ready and has used fewer
 /// turns than its slice; else the next ready one after it in cyclic order, the present one last
 /// (with none present, from slot 0). None exactly where no slot is ready.
@@ -47,14 +63,10 @@ fn next_in_order<S: Situated>(situated: &S, present: Option<Slot>) -> Option<Slo
 pub fn next_slot<S: Situated>(situated: &S) -> Option<Slot>
     ensures { result ≡ slot_in (S.situation situated.now) }
 {
-    let present = situated.present();
-    if let Some(slot) = present
-        && situated.used() < situated.slice()
-        && situated.slot_is_ready(slot)
-    {
-        return Some(slot);
+    match slot_going_on(situated) {
+        Some(slot) => Some(slot),
+        None => next_in_order(situated, situated.present()),
     }
-    next_in_order(situated, present)
 }
 
 /// How many turns of its slice a slot has used after one more turn, after which it is the present

@@ -1,7 +1,13 @@
 use Rattle.std.proofs.Common.{◌≡◌, ◌+◌, ℕ, Bool, None, rules, sym, ◌∙◌}
+use Rattle.turn_scheduler.specs.RoundRobin.{slots_after}
 use Rattle.turn_scheduler.specs.Parts.{place_is_ready}
-use Rattle.turn_scheduler.proofs.Order.{none_past, slots_after-none, slots_after-some, slots_after-start}
+use Rattle.turn_scheduler.proofs.Order.{nobody_ready, none_past, slots_after-none, slots_after-some, slots_after-start}
 use Rattle.turn_scheduler.proofs.slots.next_in_order.Goals as goal
+
+pub returns-then-slots-eq0 : goal.returns-then-slots-eq0
+returns-then-slots-eq0 g c =
+    nobody_ready (place_is_ready (g.S.Situated.situation c.args.situated.now).ready) (slots_after c.args.present)
+    c.slots-slots.result (search rules) c.slots-slots.ensures.none
 
 pub returns-in-Some-first_ready : goal.returns-in-Some-first_ready
 returns-in-Some-first_ready g c =

@@ -1,4 +1,5 @@
-use Rattle.std.proofs.Common.{◌≡◌, ℕ, List, Option, None, Some, rules, sym, subst, arith, ◌∙◌}
+use Rattle.std.proofs.Common.{◌≡◌, ℕ, List, Option, None, Some, option_map, rules, ap, sym, subst, arith, ◌∙◌}
+use Rattle.alarm_capsule.specs.declared.answers.Due.{Due}
 use Rattle.alarm_capsule.specs.Times.{AllTell}
 use Rattle.alarm_capsule.proofs.Nearest.{none_is_due}
 use Rattle.alarm_capsule.proofs.times.AlarmTimes.first_due.Goals as goal
@@ -10,7 +11,8 @@ returns-in_err-at-clause-slot c =
     c.requires in
     let none : c.self.inside.nearest ≡ None = search rules in
     let is : c.from_residual.result ≡ None = search rules in
-    is ∙ none_is_due c.args.now c.args.time c.self.inside.times owns tell
+    ap (λ (o : Option Due). option_map (λ (d : Due). d.id.slot) o) is
+    ∙ none_is_due c.args.now c.args.time c.self.inside.times owns tell
     c.an_alarm_is_due_where_no_ticks_are_left.ensures None (sym c.self.invariant ∙ none) tt
 
 pub returns-clause-slot : goal.returns-clause-slot

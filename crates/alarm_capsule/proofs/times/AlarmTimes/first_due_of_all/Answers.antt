@@ -4,11 +4,11 @@ use Rattle.driver_model.specs.Alarm.{has_due}
 use Rattle.alarm_capsule.proofs.Slots.{found, none_left}
 use Rattle.alarm_capsule.proofs.times.AlarmTimes.first_due_of_all.Goals as goal
 
-pub returns-then-is_due_in-clause-slot : goal.returns-then-is_due_in-clause-slot
-returns-then-is_due_in-clause-slot c =
+pub returns-in-Some-clause-slot : goal.returns-in-Some-clause-slot
+returns-in-Some-clause-slot c =
     let p : ℕ → Bool = λ slot. has_due c.args.now (slice_get c.args.home.now.owns slot) in
-    let is : p c.loop-slot.slot ≡ true = ap p (sym c.new.ensures) ∙ sym c.is_due_in.ensures ∙ c.if-is_due_in.true in
-    ap Some c.new-then-is_due_in.ensures
+    let is : p c.loop-slot.slot ≡ true = ap p (sym c.new.ensures) ∙ sym c.in-Some.ensures.is in
+    ap Some (c.in-Some.ensures.due.is_slot ∙ c.new.ensures)
     ∙ sym (found p c.loop-slot.slot SLOT_COUNT c.loop-slot-test.true is) ∙ c.loop-slot.invariant
 
 pub returns-clause-slot : goal.returns-clause-slot

@@ -26,9 +26,9 @@ use Rattle.board_opening.proofs.Crews.{all_apart, all_move_in, all_ordered, all_
 use Rattle.board_opening.proofs.Crews.{opening_shown}
 use Rattle.board_opening.proofs.Fresh.{all_same, driven_first, lanes_first}
 use Rattle.kernel_model.specs.World.{World, lane_count}
-use Rattle.board_core.proofs.Boards.{first_tell}
-use Rattle.board_core.specs.ReadySlots.{NoneBeyond, TurnsTell}
-use Rattle.board_core.proofs.ReadySlots.{none_first}
+use Rattle.board_state.proofs.Boards.{first_tell}
+use Rattle.board_state.specs.ReadySlots.{NoneBeyond, TurnsTell}
+use Rattle.board_state.proofs.TurnsKept.{none_first}
 use Rattle.process_record.specs.declared.process.Process.{Process}
 use Rattle.board_core.proofs.board.Board.boot.Goals as goal
 use Rattle.board_core.proofs.board.Board.boot.Goals.{After-deref-4}

@@ -1,13 +1,13 @@
 use Rattle.std.proofs.Common.{◌≡◌, ap, sym, arith, ◌∙◌}
 use Rattle.kernel_model.specs.Run.{next, ready_devices}
-use Rattle.board_core.proofs.Boards.{next_may, none_in_calm}
-use Rattle.board_core.proofs.Ready.{calm_shown}
+use Rattle.board_state.proofs.Boards.{next_may, none_in_calm}
+use Rattle.board_state.proofs.Ready.{calm_shown}
 use Rattle.board_core.proofs.board.Board.next_choice.Goals as goal
 use Rattle.board_core.proofs.board.Board.next_choice.Goals.{After-next_choice_in, After-next_in_calm}
 
 pub next_in_calm-requires-clause-none : goal.next_in_calm-requires-clause-none
 next_in_calm-requires-clause-none c =
-    let b = c.self.inside in
+    let b = c.self.inside.state in
     none_in_calm c.args.self.now (ap ready_devices (sym c.self.view_is)
     ∙ calm_shown b c.self.invariant
     (c.self.invariant.calm.none b.machine.moment.time (omega arith) (omega (arith, c.if-self.true))))

@@ -14,20 +14,20 @@ use Rattle.board_drivers.specs.Residents.{HasLost, IsResident}
 use Rattle.board_drivers.specs.declared.drivers.Drivers.{Drivers}
 use Rattle.board_drivers.specs.declared.moment.Moment.{Moment}
 use Rattle.board_turns.specs.declared.machine.Machine.{Machine}
-use Rattle.board_core.specs.declared.board.Board.TheInside.{Inside}
-use Rattle.board_core.specs.Shows.{IsBoard, world_of}
-use Rattle.board_core.specs.KnownEnds.{IsKnownEnd}
-use Rattle.board_core.specs.Stretches.{slot_runs}
-use Rattle.board_core.proofs.Ready.{calm_shown}
-use Rattle.board_core.proofs.Stretches.{end_known, ends_shown, looked_ahead, next_stays, nothing_comes, rests_there}
-use Rattle.board_core.proofs.Stretches.{runs_within, still, stretch_shown, turns_later, used_within}
-use Rattle.board_core.proofs.Boards.{may_turn_on}
+use Rattle.board_state.specs.declared.state.BoardState.{BoardState}
+use Rattle.board_state.specs.Shows.{IsBoard, world_of}
+use Rattle.board_state.specs.KnownEnds.{IsKnownEnd}
+use Rattle.board_state.specs.Stretches.{slot_runs}
+use Rattle.board_state.proofs.Ready.{calm_shown}
+use Rattle.board_state.proofs.Stretches.{end_known, ends_shown, looked_ahead, next_stays, nothing_comes, rests_there}
+use Rattle.board_state.proofs.Stretches.{runs_within, still, stretch_shown, turns_later, used_within}
+use Rattle.board_state.proofs.Boards.{may_turn_on}
 use Rattle.board_core.proofs.board.Board.run_part.Goals as goal
 use Rattle.board_core.proofs.board.Board.run_part.Goals.{After-is_over}
 
 pub returns-then-not-runs-clause-ends : goal.returns-then-not-runs-clause-ends
 returns-then-not-runs-clause-ends c e h g =
-    rests_there c.self.inside c.self.invariant c.in-Some.slot (ap next c.self.view_is
+    rests_there c.self.inside.state c.self.invariant c.in-Some.slot (ap next c.self.view_is
     ∙ sym c.next_choice-next_choice.ensures.next ∙ c.in-Some.ensures.some)
     (ap (λ (ps : List Process). slot_runs (slice_get ps c.in-Some.slot)) (sym c.deref.ensures.value)
     ∙ sym c.runs.ensures ∙ c.if-not-runs.true)
@@ -35,23 +35,23 @@ returns-then-not-runs-clause-ends c e h g =
 
 pub returns-then-self-clause-ends : goal.returns-then-self-clause-ends
 returns-then-self-clause-ends c e h g =
-    nothing_comes c.self.inside c.self.invariant g
+    nothing_comes c.self.inside.state c.self.invariant g
     c.next_is_ready.ensures.ahead (c.calm_ahead-self-inside.ensures.come c.if-self.true)
 
 pub turns_at-stretch-requires : goal.turns_at-stretch-requires
 turns_at-stretch-requires c =
-    may_turn_on c.turns_left-left.result c.self.inside c.in-Some.slot c.self.invariant
-    (runs_within c.self.inside.processes.items c.in-Some.slot
+    may_turn_on c.turns_left-left.result c.self.inside.state c.in-Some.slot c.self.invariant
+    (runs_within c.self.inside.state.processes.items c.in-Some.slot
     (ap (λ (ps : List Process). slot_runs (slice_get ps c.in-Some.slot)) (sym c.deref.ensures.value)
     ∙ sym c.runs.ensures ∙ c.if-not-runs.false))
     c.turns_left-left.ensures.limit
 
 -- the slot has the next turn, and its process runs
-chosen : (c : After-is_over) → next (world_of c.self.inside) ≡ Some (Run c.in-Some.slot)
+chosen : (c : After-is_over) → next (world_of c.self.inside.state) ≡ Some (Run c.in-Some.slot)
 chosen c = ap next c.self.view_is
     ∙ sym c.next_choice-next_choice.ensures.next ∙ c.in-Some.ensures.some
 
-runs_there : (c : After-is_over) → slot_runs (slice_get c.self.inside.processes.items c.in-Some.slot) ≡ true
+runs_there : (c : After-is_over) → slot_runs (slice_get c.self.inside.state.processes.items c.in-Some.slot) ≡ true
 runs_there c = ap (λ (ps : List Process). slot_runs (slice_get ps c.in-Some.slot)) (sym c.deref.ensures.value)
     ∙ sym c.runs.ensures ∙ c.if-not-runs.false
 
@@ -62,16 +62,16 @@ left_machine old new d m =
     ap₂ (λ (e : Drivers) (n : Moment). record new { drivers = e; moment = n }) d m
 
 same_machine : (c : After-is_over) → c.turns_at-stretch.new.self
-    ≡ record c.self.inside.machine {
+    ≡ record c.self.inside.state.machine {
       home = c.turns_at-stretch.new.self.home;
       guard = c.turns_at-stretch.new.self.guard;
     }
-same_machine c = left_machine c.self.inside.machine c.turns_at-stretch.new.self c.turns_at-stretch.ensures.drivers
+same_machine c = left_machine c.self.inside.state.machine c.turns_at-stretch.new.self c.turns_at-stretch.ensures.drivers
     c.turns_at-stretch.ensures.quiet.moment
 
 -- a board with these turns made
-abbrev turned : After-is_over → Machine → Inside
-turned c x = record c.self.inside {
+abbrev turned : After-is_over → Machine → BoardState
+turned c x = record c.self.inside.state {
   machine = record x {
     moment = record x.moment {
       time = x.moment.time + c.from-ticks.result;
@@ -87,8 +87,8 @@ turned c x = record c.self.inside {
 -- is a board
 board_then : (c : After-is_over) → IsBoard (turned c c.turns_at-stretch.new.self)
 board_then c =
-    let b = record c.self.inside { calm = c.calm_ahead-self-inside.result } in
-    let board = looked_ahead c.self.inside c.calm_ahead-self-inside.result c.self.invariant
+    let b = record c.self.inside.state { calm = c.calm_ahead-self-inside.result } in
+    let board = looked_ahead c.self.inside.state c.calm_ahead-self-inside.result c.self.invariant
     c.calm_ahead-self-inside.ensures.calm in
     let k = c.turns_at-stretch.result.went in
     let x = c.turns_at-stretch.new.self in
@@ -141,8 +141,8 @@ calm_then c fewer =
 pub returns-clause-stretch : goal.returns-clause-stretch
 returns-clause-stretch c =
     let a = (goal.at.returns-clause-stretch c).After-is_over in
-    let b = record c.self.inside { calm = c.calm_ahead-self-inside.result } in
-    let board = looked_ahead c.self.inside c.calm_ahead-self-inside.result c.self.invariant
+    let b = record c.self.inside.state { calm = c.calm_ahead-self-inside.result } in
+    let board = looked_ahead c.self.inside.state c.calm_ahead-self-inside.result c.self.invariant
     c.calm_ahead-self-inside.ensures.calm in
     let left = c.turns_left-left.ensures in
     let most = c.turns_at-stretch.ensures.most in
@@ -162,8 +162,8 @@ returns-clause-stretch c =
 pub returns-clause-ends : goal.returns-clause-ends
 returns-clause-ends c e h g =
     let a = (goal.at.returns-clause-ends c).After-is_over in
-    let b = record c.self.inside { calm = c.calm_ahead-self-inside.result } in
-    let board = looked_ahead c.self.inside c.calm_ahead-self-inside.result c.self.invariant
+    let b = record c.self.inside.state { calm = c.calm_ahead-self-inside.result } in
+    let board = looked_ahead c.self.inside.state c.calm_ahead-self-inside.result c.self.invariant
     c.calm_ahead-self-inside.ensures.calm in
     let left = c.turns_left-left.ensures in
     let most = c.turns_at-stretch.ensures.most in
@@ -183,8 +183,8 @@ returns-clause-ends c e h g =
 pub returns-clause-next : goal.returns-clause-next
 returns-clause-next c e =
     let a = (goal.at.returns-clause-next c).After-is_over in
-    let b = record c.self.inside { calm = c.calm_ahead-self-inside.result } in
-    let board = looked_ahead c.self.inside c.calm_ahead-self-inside.result c.self.invariant
+    let b = record c.self.inside.state { calm = c.calm_ahead-self-inside.result } in
+    let board = looked_ahead c.self.inside.state c.calm_ahead-self-inside.result c.self.invariant
     c.calm_ahead-self-inside.ensures.calm in
     let left = c.turns_left-left.ensures in
     let most = c.turns_at-stretch.ensures.most in
@@ -206,8 +206,8 @@ returns-clause-next c e =
 pub returns-clause-known : goal.returns-clause-known
 returns-clause-known c e =
     let a = (goal.at.returns-clause-known c).After-is_over in
-    let b = record c.self.inside { calm = c.calm_ahead-self-inside.result } in
-    let board = looked_ahead c.self.inside c.calm_ahead-self-inside.result c.self.invariant
+    let b = record c.self.inside.state { calm = c.calm_ahead-self-inside.result } in
+    let board = looked_ahead c.self.inside.state c.calm_ahead-self-inside.result c.self.invariant
     c.calm_ahead-self-inside.ensures.calm in
     let end = c.turns_at-stretch.result.end in
     let present = c.present_after-present in

@@ -1,4 +1,4 @@
-use Rattle.std.proofs.Common.{List, length, Result, Err, ap, ap₂, sym, subst, ◌∙◌}
+use Rattle.std.proofs.Common.{List, length, arith, Result, Err, ap, ap₂, sym, subst, ◌∙◌}
 use Rattle.std.specs.List.{zip}
 use Rattle.tk_base.specs.declared.process.Choice.TheVariants.{Device}
 use Rattle.board_devices.specs.declared.answer.Answer.{Answer}
@@ -6,27 +6,29 @@ use Rattle.tk_base.specs.declared.process.NotReady.{NotReady}
 use Rattle.grant_enter.specs.Homes.{Homes}
 use Rattle.process_record.specs.declared.process.Process.{Process}
 use Rattle.board_drivers.specs.declared.drivers.Drivers.{Drivers}
-use Rattle.board_core.specs.Shows.{IsBoard, world_of}
+use Rattle.board_state.specs.Shows.{IsBoard, world_of}
 use Rattle.board_drivers.specs.Tells.{Acted, DeviceTold}
-use Rattle.board_core.proofs.Devices.{all_still, below_shown, made_so, may_tell, not_acting, others_still, refused_so, told_board}
-use Rattle.board_core.proofs.Devices.{others_stay_ready, told_owns_count, told_shown, world_told}
-use Rattle.board_core.specs.ReadySlots.{OtherTurnsTell, TurnsTell}
-use Rattle.board_core.specs.PartsOf.{parts_of}
-use Rattle.board_core.proofs.PartsOf.{are_parts}
+use Rattle.board_state.proofs.Devices.{all_still, below_shown, made_so, may_tell, not_acting, others_still, refused_so, told_board}
+use Rattle.board_state.proofs.Devices.{told_at, told_shown, world_told}
+use Rattle.board_state.proofs.Changes.{others_stay_ready, owns_after}
+use Rattle.board_turns.specs.Turning.{ChangesSlot}
+use Rattle.board_state.specs.ReadySlots.{OtherTurnsTell, TurnsTell}
+use Rattle.board_state.specs.PartsOf.{parts_of}
+use Rattle.board_state.proofs.PartsOf.{are_parts}
 use Rattle.board_core.proofs.board.Board.tell.Goals as goal
 use Rattle.board_core.proofs.board.Board.tell.Goals.{In-Ok, In_default}
 
 -- it may not act
 idle : (c : In_default)
-    → Acted (parts_of c.self.inside) c.args.device (Err _) c.act_by.new.printed.items c.act_by.new.home c.act_by.new.self
+    → Acted (parts_of c.self.inside.state) c.args.device (Err _) c.act_by.new.printed.items c.act_by.new.home c.act_by.new.self
 idle c =
-    let b = c.self.inside in
+    let b = c.self.inside.state in
     subst (λ (o : Result Answer NotReady). Acted (parts_of b) c.args.device o c.act_by.new.printed.items c.act_by.new.home
     c.act_by.new.self) c.in_default.is (c.act_by.ensures (parts_of b) (are_parts b c.self.invariant))
 
 pub invariant_of-self : goal.invariant_of-self
 invariant_of-self c =
-    let b = c.self.inside in
+    let b = c.self.inside.state in
     let none = idle c in
     subst (λ (h : Homes). IsBoard (record b { machine = record b.machine { home = h; drivers = c.act_by.new.self } }))
     (sym none.1)
@@ -35,7 +37,7 @@ invariant_of-self c =
 
 pub returns-in_default : goal.returns-in_default
 returns-in_default c =
-    let b = c.self.inside in
+    let b = c.self.inside.state in
     let none = idle (goal.at.returns-in_default c).In_default in
     refused_so (world_of b) _ c.args.self.now (Device c.args.device) c.args.emit.now
     (ap₂ (λ (h : Homes) (d : Drivers). world_of (record b { machine = record b.machine { home = h; drivers = d } }))
@@ -44,39 +46,45 @@ returns-in_default c =
 
 -- it told a process something
 told : (c : In-Ok)
-    → DeviceTold (parts_of c.self.inside) c.args.device c.in-Ok.answer.to.slot c.act_by.new.printed.items c.act_by.new.home
+    → DeviceTold (parts_of c.self.inside.state) c.args.device c.in-Ok.answer.to.slot c.act_by.new.printed.items c.act_by.new.home
     c.act_by.new.self
 told c =
-    let b = c.self.inside in
+    let b = c.self.inside.state in
     subst (λ (o : Result Answer NotReady). Acted (parts_of b) c.args.device o c.act_by.new.printed.items c.act_by.new.home
     c.act_by.new.self) c.in-Ok.is (c.act_by.ensures (parts_of b) (are_parts b c.self.invariant))
 
+-- the change of its process
+change : (c : In-Ok) → ChangesSlot c.in-Ok.answer.to.slot c.self.inside.state.machine.home c.act_by.new.home
+    c.self.inside.state.processes.items c.self.inside.state.processes.items
+change c = told_at c.self.inside.state c.args.device c.in-Ok.answer.to.slot c.act_by.new.printed.items c.act_by.new.home
+    c.act_by.new.self (told c) c.self.invariant
+
 pub look-requires-clause-owns : goal.look-requires-clause-owns
 look-requires-clause-owns c =
-    let b = c.self.inside in
-    told_owns_count b c.args.device c.in-Ok.answer.to.slot c.act_by.new.printed.items c.act_by.new.home
-    c.act_by.new.self (told (goal.at.look-requires-clause-owns c).In-Ok) c.self.invariant
-    ∙ ap length (sym c.deref.ensures.value)
+    let b = c.self.inside.state in
+    owns_after c.in-Ok.answer.to.slot b.machine.home c.act_by.new.home b.processes.items b.processes.items
+    (change (goal.at.look-requires-clause-owns c).In-Ok) c.self.invariant.owns ∙ ap length (sym c.deref.ensures.value)
 
 pub look-requires-clause-others : goal.look-requires-clause-others
 look-requires-clause-others c =
-    let b = c.self.inside in
+    let b = c.self.inside.state in
     subst (λ (ps : List Process). OtherTurnsTell c.in-Ok.answer.to.slot b.ready (zip ps c.act_by.new.home.owns))
     (sym c.deref.ensures.value)
-    (others_stay_ready b c.args.device c.in-Ok.answer.to.slot c.act_by.new.printed.items c.act_by.new.home
-    c.act_by.new.self (told (goal.at.look-requires-clause-others c).In-Ok) c.self.invariant)
+    (others_stay_ready c.in-Ok.answer.to.slot b.machine.home c.act_by.new.home b.processes.items b.processes.items
+    (change (goal.at.look-requires-clause-others c).In-Ok) b.ready c.self.invariant.ready)
 
-pub look_after-requires-clause-others : goal.look_after-requires-clause-others
-look_after-requires-clause-others c =
-    let b = c.self.inside in
+pub look_again-requires-clause-others : goal.look_again-requires-clause-others
+look_again-requires-clause-others c =
+    let b = c.self.inside.state in
     others_still b c.args.device c.in-Ok.answer.to.slot c.act_by.new.printed.items c.act_by.new.home c.act_by.new.self
-    (told (goal.at.look_after-requires-clause-others c).In-Ok) c.self.invariant
+    (told (goal.at.look_again-requires-clause-others c).In-Ok) c.self.invariant
 
-pub look_after-requires-clause-another : goal.look_after-requires-clause-another
-look_after-requires-clause-another c =
-    let b = c.self.inside in
+pub look_again-requires-clause-unarmed : goal.look_again-requires-clause-unarmed
+look_again-requires-clause-unarmed c unarmed =
+    let b = c.self.inside.state in
     all_still b c.args.device c.in-Ok.answer.to.slot c.act_by.new.printed.items c.act_by.new.home c.act_by.new.self
-    (told (goal.at.look_after-requires-clause-another c).In-Ok) c.self.invariant c.answers_leave_alarms.ensures
+    (told (goal.at.look_again-requires-clause-unarmed c).In-Ok) c.self.invariant c.answers_leave_alarms.ensures
+    (grind (arith, sym c.eq.ensures ∙ unarmed))
 
 pub look_ahead-self-inside-requires-clause-free : goal.look_ahead-self-inside-requires-clause-free
 look_ahead-self-inside-requires-clause-free c =
@@ -84,17 +92,17 @@ look_ahead-self-inside-requires-clause-free c =
 
 pub invariant_of-self-2 : goal.invariant_of-self-2
 invariant_of-self-2 c =
-    told_board c.self.inside c.args.device c.in-Ok.answer.to.slot c.act_by.new.printed.items c.act_by.new.home c.act_by.new.self
+    told_board c.self.inside.state c.args.device c.in-Ok.answer.to.slot c.act_by.new.printed.items c.act_by.new.home c.act_by.new.self
     (told (goal.at.invariant_of-self-2 c).In-Ok) c.self.invariant
-    c.look_ahead-self-inside.result c.look_after.new.alarms c.look.new.self
-    (below_shown c.self.inside c.args.self.now c.self.view_is c.requires.limit)
-    c.look_after.ensures
+    c.look_ahead-self-inside.result c.look_again.new.alarms c.look.new.self
+    (below_shown c.self.inside.state c.args.self.now c.self.view_is c.requires.limit)
+    c.look_again.ensures
     (subst (λ (ps : List Process). TurnsTell c.look.new.self (zip ps c.act_by.new.home.owns)) c.deref.ensures.value
     c.look.ensures) c.look_ahead-self-inside.ensures.calm
 
 pub returns : goal.returns
 returns c =
-    let b = c.self.inside in
+    let b = c.self.inside.state in
     let t = told (goal.at.returns c).In-Ok in
     let printed = c.act_by.new.printed.items in
     made_so (world_of b) c.args.self.now _ (Device c.args.device) c.args.emit.now c.show.new.emit c.self.view_is

@@ -3,13 +3,13 @@ use Rattle.turn_scheduler.specs.Parts.{place_is_ready}
 use Rattle.kernel_model.specs.Run.{ready_slots}
 use Rattle.kernel_model.specs.World.{World, is_let}
 use Rattle.board_drivers.specs.Residents.{can_turn_in}
-use Rattle.board_core.specs.Shows.{residents}
-use Rattle.board_core.proofs.Boards.{slot_shown}
+use Rattle.board_state.specs.Shows.{residents}
+use Rattle.board_state.proofs.Boards.{slot_shown}
 use Rattle.board_core.proofs.board.BoardSituated.slot_is_ready.Goals as goal
 
 pub returns-then-serves : goal.returns-then-serves
 returns-then-serves c =
-    let b = c.self.inside in
+    let b = c.self.inside.state in
     let slot = c.args.slot in
     let can = can_turn_in (slice_get (residents b) slot) in
     let served = ap (λ (only : Option ℕ). is_let only slot) (sym c.served.ensures.only) ∙ sym c.serves.ensures
@@ -21,7 +21,7 @@ returns-then-serves c =
 
 pub returns-else-serves : goal.returns-else-serves
 returns-else-serves c =
-    let b = c.self.inside in
+    let b = c.self.inside.state in
     let slot = c.args.slot in
     let can = can_turn_in (slice_get (residents b) slot) in
     let served = ap (λ (only : Option ℕ). is_let only slot) (sym c.served.ensures.only) ∙ sym c.serves.ensures

@@ -1,4 +1,4 @@
-use Rattle.std.proofs.Common.{◌≡◌, ap, subst}
+use Rattle.std.proofs.Common.{ap, subst}
 use Rattle.grant_enter.specs.Homes.{Homes, own_of}
 use Rattle.board_drivers.specs.Residents.{resident}
 use Rattle.board_turns.specs.declared.machine.Machine.{Machine}

@@ -1,0 +1,17 @@
+pub mod Arrivals
+pub mod Boards
+pub mod Changes
+pub mod Devices
+pub mod Ready
+pub mod Stretches
+pub mod SameAlarms
+pub mod TurnsKept
+pub mod TurnLines
+pub mod Looks
+pub mod PartsOf
+pub mod Operating
+pub mod AnyReady
+pub mod Tables
+pub mod InWindows
+pub mod KnownEnds
+mod Counted

@@ -1,0 +1,18 @@
+-- What holds of a board holds of its parts.
+use Rattle.board_drivers.specs.Parts.{AreBoardParts}
+use Rattle.board_state.specs.declared.state.BoardState.{BoardState}
+use Rattle.board_state.specs.PartsOf.{parts_of}
+use Rattle.board_state.specs.Shows.{IsBoard}
+
+pub are_parts : (b : BoardState) → IsBoard b → AreBoardParts (parts_of b)
+are_parts b board = record {
+  seated = board.seated;
+  lost = board.lost;
+  owns = board.owns;
+  few = board.few;
+  driven = board.driven;
+  lanes = board.lanes;
+  served = board.served;
+  steps = board.steps;
+  time = board.time;
+}

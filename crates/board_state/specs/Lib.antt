@@ -1,0 +1,8 @@
+pub mod Looks
+pub mod Stretches
+pub mod Shows
+pub mod Makes
+pub mod PartsOf
+pub mod LanesOf
+pub mod KnownEnds
+pub mod ReadySlots

@@ -1,0 +1,14 @@
+-- The parts of a board that a device works on. Only proofs use this.
+use Rattle.board_drivers.specs.Parts.{BoardParts}
+use Rattle.board_state.specs.declared.state.BoardState.{BoardState}
+use Rattle.board_state.specs.Shows.{world_of}
+
+-- those of a board
+abbrev pub parts_of : BoardState → BoardParts
+parts_of b = record {
+  processes = b.processes.items;
+  home = b.machine.home;
+  drivers = b.machine.drivers;
+  moment = b.machine.moment;
+  rest = world_of b;
+}

@@ -1,0 +1,80 @@
+//! A turn of the process in a slot, and what it leaves of all that is kept of it.
+ghost use Rattle.std.specs.Prelude.{◌≡◌, ◌<◌};
+ghost use Rattle.tk_base.specs.declared.limits.TheConstants.{STEP_LIMIT};
+ghost use Rattle.tk_base.specs.declared.process.Choice.TheVariants.{Run};
+ghost use Rattle.kernel_model.specs.World.{is_ready};
+ghost use Rattle.board_state.specs.KnownEnds.{IsKnownEnd};
+ghost use Rattle.board_state.specs.Makes.{MakesStep};
+ghost use Rattle.board_state.specs.Shows.{IsBoard, world_of};
+
+use crate::ahead::{calm_after, look_again, may_have_armed};
+use crate::shown::clear;
+use crate::state::BoardState;
+use driver_model::time_brings_an_alarm_nearer;
+use kernel_alarms::alarms_change_at_their_commands;
+use kernel_laws::{grants_change_at_calls, turns_keep_lines};
+use process_record::Emit;
+use rv32_model::TurnEnd;
+use tk_base::{NotReady, STEP_LIMIT, Slot};
+use turn_scheduler::used_after;
+
+/// Whether the process in a slot may have the next turn.
+fn may_run(state: &BoardState, slot: Slot) -> bool
+    requires board { IsBoard state.now }
+    requires limit { (world_of state.now).clock.steps < STEP_LIMIT }
+    ensures { result ≡ is_ready (world_of state.now) (Run slot) }
+{
+    state.ready.has(slot)
+}
+
+/// A turn of the process in a slot; `NotReady` where it can have none, and nothing has changed then.
+/// When its alarm becomes due is looked at again where the turn may have armed one, and when a
+/// device step is ready where it may have acted.
+#[inline(always)]
+pub fn make_turn(
+    state: &mut BoardState,
+    slot: Slot,
+    end: TurnEnd,
+    emit: &mut Emit,
+) -> Result<(), NotReady>
+    requires board { IsBoard state.old }
+    requires limit { (world_of state.old).clock.steps < STEP_LIMIT }
+    requires known { IsKnownEnd (world_of state.old) end (Run slot) }
+    ensures board { IsBoard state.new }
+    ensures step { MakesStep (Run slot) (world_of state.old) (world_of state.new) emit.old emit.new
+        result }
+{
+    grants_change_at_calls();
+    turns_keep_lines();
+    alarms_change_at_their_commands();
+    time_brings_an_alarm_nearer();
+    if !may_run(state, slot) {
+        return Err(NotReady);
+    }
+    clear(emit);
+    emit.slot = Some(slot);
+    state.machine.turn_at(&mut state.processes, slot, end, emit);
+    state
+        .ready
+        .look(&state.machine.home, &state.processes, slot);
+    state.used = used_after(state.present, state.used, state.slice, slot);
+    state.present = Some(slot);
+    state.machine.moment.time += 1;
+    state.machine.moment.steps += 1;
+    look_again(
+        &mut state.alarms,
+        &state.machine.moment,
+        &state.machine.home,
+        slot,
+        may_have_armed(emit),
+    );
+    state.calm = calm_after(
+        state.calm,
+        &state.machine.moment,
+        &state.machine.home,
+        &state.alarms,
+        &state.machine.drivers,
+        emit,
+    );
+    Ok(())
+}
