@@ -1,10 +1,11 @@
 -- What a visit that fires, or stops, an alarm leaves of a process.
-use Rattle.std.proofs.Common.{◌≡◌, ℕ, Bool, true, false, cond, List, [], ◌∷◌, Option, None, Some, Result, Ok, Err, ap}
-use Rattle.std.proofs.Common.{sym, ◌∙◌, subst}
+use Rattle.std.proofs.Common.{◌≡◌, ℕ, ◌==◌, Bool, true, false, cond, List, [], ◌∷◌, Option, None, Some, Result, Ok, Err}
+use Rattle.std.proofs.Common.{ap, option_map, refl, sym, ◌∙◌, subst}
 use Rattle.tk_base.specs.declared.upcall.Counts.{Counts}
 use Rattle.grant_values.specs.declared.alarm.Alarm.{Alarm}
 use Rattle.grant_values.specs.declared.alarm.Armed.{Armed}
 use Rattle.grant_values.specs.Values.{KeptValue, AlarmValue}
+use Rattle.grant_model.specs.Grants.{Grant, grant_of, with_grant, with_value}
 use Rattle.process_model.specs.Own.{Own}
 use Rattle.process_model.specs.Served.{kept, own_scheduled, with_kept}
 use Rattle.process_model.proofs.Scheduling.{keeping_commutes}
@@ -13,7 +14,7 @@ use Rattle.grant_enter.specs.declared.visit.Unvisited.{Unvisited}
 use Rattle.grant_enter.specs.declared.visit.Unvisited.TheVariants.{Gone, NotEntered}
 use Rattle.grant_enter.specs.Seen.{Seen}
 use Rattle.grant_enter.specs.Visits.{Visits, grants_of, is_stale}
-use Rattle.driver_model.specs.Alarm.{alarm_driver, answered, armed_in, due_alarm, expiration, fired, if_due}
+use Rattle.driver_model.specs.Alarm.{alarm_driver, alarm_in, answered, armed_in, due_alarm, expiration, fired, if_due}
 use Rattle.driver_model.specs.Parts.{fired_if}
 use Rattle.driver_model.specs.Alarm.{showing, with_alarm}
 
@@ -62,3 +63,32 @@ fires now expires driver life counts flash alarm old new visitor leaves (Err (No
 fires now expires driver life counts flash alarm old new visitor leaves (Err (Gone back)) says zero expires_is present
     due visits =
     absurd (not_stale (is_stale life old) visits.0 present)
+
+-- where the alarm's value is that none is armed, none is
+none_armed : (gs : List Grant)
+    → armed_in (option_map (λ g. g.value)
+    (grant_of alarm_driver (with_grant alarm_driver (with_value (AlarmValue None)) gs))) ≡ None
+none_armed [] = refl
+none_armed (g ∷ gs) = by_driver (g.driver == alarm_driver) refl (none_armed gs)
+  where
+    armed_of : Option Grant → Option Armed
+    armed_of o = armed_in (option_map (λ (h : Grant). h.value) o)
+
+    others : List Grant
+    others = with_grant alarm_driver (with_value (AlarmValue None)) gs
+
+    by_driver : (b : Bool) → (g.driver == alarm_driver) ≡ b → armed_of (grant_of alarm_driver others) ≡ None
+        → armed_of (grant_of alarm_driver (cond b (with_value (AlarmValue None) g ∷ gs) (g ∷ others))) ≡ None
+    by_driver true e rest =
+        ap (λ (b : Bool). armed_of (cond b (Some (with_value (AlarmValue None) g)) (grant_of alarm_driver gs))) e
+    by_driver false e rest =
+        ap (λ (b : Bool). armed_of (cond b (Some g) (grant_of alarm_driver others))) e ∙ rest
+
+-- of a process whose alarm fired none is armed
+pub fired_unarmed : (now : ℕ) (old new : Own) (alarm : Armed) → due_alarm now old ≡ Some alarm
+    → new ≡ own_after (answered now old) → alarm_in new ≡ None
+unfolding answered
+fired_unarmed now old new alarm due is =
+    ap (λ (o : Own). alarm_in o) (is ∙ ap (λ (o : Option Armed). own_after (fired_if now old o)) due
+    ∙ sym (keeping_commutes alarm_driver (AlarmValue None) (fired now alarm old).schedules (showing now old)))
+    ∙ none_armed (own_scheduled alarm_driver 0 (now ∷ expiration alarm ∷ 0 ∷ []) (showing now old)).grants

@@ -38,6 +38,13 @@ unarmed_tells now own e = ap (λ (a : Option Armed). cond own.lives (option_map 
     both true = refl
     both false = refl
 
+-- so does that in a slot
+pub none_left_in : (now slot : ℕ) (owns : List Own) (nobody : Own) → alarm_in (slice_index_or owns slot nobody) ≡ None
+    → option_and_then (ticks_left_of now) (slice_get owns slot) ≡ None
+none_left_in now slot [] nobody e = refl
+none_left_in now zero (own ∷ owns) nobody e = unarmed_tells now own e
+none_left_in now (suc slot) (own ∷ owns) nobody e = none_left_in now slot owns nobody e
+
 -- what is left of an alarm leads to the time at which it becomes due
 pub ahead_tells : (now time : ℕ) (o : Option Own) (own : Own) (alarm : Armed) → o ≡ Some own → own.lives ≡ true
     → alarm_in own ≡ Some alarm → alarm.reference < 2 ^ 32 → alarm.delta < 2 ^ 32

@@ -3,3 +3,4 @@ mod Nearest
 mod Showing
 mod Slots
 pub mod KeptTimes
+mod First

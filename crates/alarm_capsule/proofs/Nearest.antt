@@ -1,7 +1,7 @@
 -- What the nearest of the kept times says of the next alarm.
 use Rattle.std.proofs.Common.{◌≡◌, ◌≢◌, ℕ, zero, suc, ◌+◌, ◌-◌, ◌^◌, ◌<◌, ◌≤◌, ◌==◌, List, [], ◌∷◌, fold}
 use Rattle.std.proofs.Common.{slice_get, slice_index_or, slice_set, length}
-use Rattle.std.proofs.Common.{replicate, Bool, true, false, IsTrue, Option, None, Some, refl}
+use Rattle.std.proofs.Common.{replicate, Bool, true, false, cond, IsTrue, Option, None, Some, refl}
 use Rattle.std.proofs.Common.{sym, ap, ◌∙◌, arith, eqb-true, eq-eqb}
 use Rattle.std.specs.Prelude.{IfSome, is_some, min}
 use Rattle.std.specs.List.{range_with_len}
@@ -9,7 +9,7 @@ use Rattle.std.proofs.lemmas.Bool.{false≢true}
 use Rattle.std.proofs.lemmas.List.{get_or-set_same, get_or-set_other, set-get_or}
 use Rattle.tk_base.specs.declared.limits.TheConstants.{SLOT_COUNT}
 use Rattle.process_model.specs.Own.{Own}
-use Rattle.driver_model.specs.Alarm.{due_slot, nearer, next_left, ticks_left_in}
+use Rattle.driver_model.specs.Alarm.{due_for, due_slot, has_due, nearer, next_left, ticks_left_in}
 use Rattle.driver_model.specs.Parts.{nearer_with}
 use Rattle.driver_model.specs.Laws.{IsDueWhereNoneAreLeft}
 use Rattle.alarm_capsule.specs.Times.{AllTell, Tells, nearer_kept, nearest_kept}
@@ -234,3 +234,23 @@ module _ (times : List (Option ℕ)) (slot : ℕ) (due : Option ℕ) (within : s
   pub nearest_with : slot < SLOT_COUNT → nearer (nearest_kept times) due ≡ nearest_kept (slice_set times slot due)
   unfolding nearest_kept after
   nearest_with there = sym (nearest_among SLOT_COUNT 0 None (omega arith) (omega (arith, there)))
+
+-- A slot whose time lies ahead, or of which none is kept, has no alarm that is due.
+pub not_due_yet : IsDueWhereNoneAreLeft → (now time slot : ℕ) (kept : Option ℕ) (owns : List Own)
+    → Tells now time kept (slice_get owns slot) → IfSome kept (λ at. time < at)
+    → false ≡ has_due now (slice_get owns slot)
+not_due_yet law now time slot kept owns tells ahead = by_due (has_due now (slice_get owns slot)) refl
+  where
+    left : (kept : Option ℕ) → Tells now time kept (slice_get owns slot) → IfSome kept (λ at. time < at)
+        → ticks_left_in now owns slot ≡ Some 0 → ⊥
+    left None told h e = no_left 0 (sym told ∙ e)
+    left (Some at) told h e =
+        let is = left_ahead now time at (slice_get owns slot) (told h) in
+        omega (arith, h, the_one (at - time) 0 (sym is ∙ e))
+
+    by_due : (b : Bool) → has_due now (slice_get owns slot) ≡ b → false ≡ has_due now (slice_get owns slot)
+    by_due false e = sym e
+    by_due true e =
+        absurd (left kept tells ahead ((law (Some slot) now owns).1
+        (is_true (is_some (due_for (Some slot) now owns))
+        (ap (λ (b : Bool). is_some (cond b (Some slot) None)) e))))

@@ -1,11 +1,11 @@
 -- What kept times tell of alarms. Only proofs use this.
 use Rattle.std.specs.Prelude.{◌≡◌, ◌≢◌, ◌<◌, ℕ, ◌-◌, ◌^◌, true, List, Option, None, Some, slice_get, slice_index_or}
-use Rattle.std.specs.Prelude.{fold, option_and_then}
+use Rattle.std.specs.Prelude.{Bool, false, fold, nat_lt, option_and_then, IfSome}
 use Rattle.std.specs.List.{range_with_len}
 use Rattle.tk_base.specs.declared.limits.TheConstants.{SLOT_COUNT}
 use Rattle.grant_values.specs.declared.alarm.Armed.{Armed}
 use Rattle.process_model.specs.Own.{Own}
-use Rattle.driver_model.specs.Alarm.{alarm_in, nearer, ticks_left, ticks_left_of}
+use Rattle.driver_model.specs.Alarm.{alarm_in, has_due, nearer, ticks_left, ticks_left_of}
 
 -- a process lives, and has armed an alarm that becomes due at a time that lies ahead; the clock shows `now` at this one
 pub record BecomesDue (now time at : ℕ) (o : Option Own) : Type 0 where
@@ -41,3 +41,19 @@ nearer_kept times nearest slot = nearer nearest (slice_index_or times slot None)
 -- the nearest of the times that are kept of all slots
 unfoldable pub nearest_kept : List (Option ℕ) → Option ℕ
 nearest_kept times = fold (nearer_kept times) None (range_with_len 0 SLOT_COUNT)
+
+-- there is a time that comes before another, or there is no other
+abbrev pub comes_before : Option ℕ → Option ℕ → Bool
+comes_before None other = false
+comes_before (Some time) None = true
+comes_before (Some time) (Some other) = nat_lt time other
+
+-- each time that is kept of a slot below one lies behind this one
+abbrev pub AllBehind : Option ℕ → ℕ → List (Option ℕ) → Type 0
+AllBehind None first times = Unit
+AllBehind (Some at) first times =
+    (slot : ℕ) → slot < first → IfSome (slice_index_or times slot None) (λ other. at < other)
+
+-- no process in a slot below one has an alarm that is due
+abbrev pub NoneDueBelow : ℕ → ℕ → List Own → Type 0
+NoneDueBelow from now owns = (slot : ℕ) → slot < from → has_due now (slice_get owns slot) ≡ false

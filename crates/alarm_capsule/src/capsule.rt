@@ -1,8 +1,8 @@
 //! The alarm as a capsule.
-ghost use Rattle.std.specs.Prelude.{◌+◌, ◌<◌, ◌^◌, All};
+ghost use Rattle.std.specs.Prelude.{◌≡◌, ◌+◌, ◌<◌, ◌^◌, All, IfOk, None};
 ghost use Rattle.grant_enter.specs.Homes.{own_of, ChangesOnly};
 ghost use Rattle.driver_requests.specs.Asking.{IsPresent};
-ghost use Rattle.driver_model.specs.Alarm.{command};
+ghost use Rattle.driver_model.specs.Alarm.{alarm_in, command};
 ghost use Rattle.alarm_capsule.specs.Answers.{AlarmAnswers, AlarmReplies};
 ghost use Rattle.alarm_capsule.specs.Times.{AllTell};
 
@@ -66,7 +66,8 @@ impl AlarmCapsule {
     }
 
     /// The same ([`AlarmCapsule::answer`]), by the times that are kept of the alarms: no process is
-    /// asked whose time lies ahead. It asks that they tell of all alarms.
+    /// asked whose time lies ahead. It asks that they tell of all alarms. The process whose alarm
+    /// fired has none armed any more.
     #[inline(always)]
     pub fn answer_by(
         &mut self,
@@ -78,7 +79,9 @@ impl AlarmCapsule {
     ) -> Result<Answer, NotReady>
         requires dropped { All (λ own. own.inbox.dropped + 1 < 2 ^ 32) home.old.owns }
         requires tell { AllTell now time alarms.now home.old.owns }
-        ensures { AlarmAnswers only now home.old result home.new }
+        ensures answers { AlarmAnswers only now home.old result home.new }
+        ensures disarmed { IfOk result
+            (λ answer. alarm_in (own_of home.new answer.to.slot) ≡ None) }
     {
         let Some(due) = alarms.due_alarm(home, now, time, only) else {
             return Err(NotReady);

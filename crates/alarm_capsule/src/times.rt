@@ -1,15 +1,16 @@
 //! When the alarms become due.
 ghost use Rattle.std.specs.Prelude.{◌≡◌, ◌+◌, ◌≤◌, ◌^◌, true, None, Some, IfSome, is_some, length};
-ghost use Rattle.std.specs.Prelude.{replicate, slice_get, slice_index_or, slice_set, option_map};
+ghost use Rattle.std.specs.Prelude.{replicate, slice_get, slice_index_or, slice_set, option_map, ℕ, ◌<◌};
 ghost use Rattle.tk_base.specs.declared.limits.TheConstants.{SLOT_COUNT};
-ghost use Rattle.grant_enter.specs.Homes.{own_of};
+ghost use Rattle.grant_enter.specs.Homes.{Homes, own_of};
 ghost use Rattle.driver_requests.specs.Asking.{IsPresent};
 ghost use Rattle.alarm_capsule.specs.Due.{AlarmIsDue};
 ghost use Rattle.driver_model.specs.Alarm.{alarm_in, due_for, due_slot, has_due, left_for, nearer};
 ghost use Rattle.driver_model.specs.Alarm.{next_left};
 ghost use Rattle.driver_model.specs.Alarm.{ticks_left};
 ghost use Rattle.driver_model.specs.Alarm.{ticks_left_in};
-ghost use Rattle.alarm_capsule.specs.Times.{AllTell, OthersTell, Tells, nearest_kept};
+ghost use Rattle.alarm_capsule.specs.Times.{AllBehind, AllTell, NoneDueBelow, OthersTell, Tells};
+ghost use Rattle.alarm_capsule.specs.Times.{comes_before, nearest_kept};
 
 use crate::answers::{Due, due_in};
 use crate::visits::alarms;
@@ -85,16 +86,32 @@ pub fn nearer_time(time: Option<u64>, other: Option<u64>) -> Option<u64>
     }
 }
 
-/// The nearest of the times that are kept of all slots.
-#[tactic(auto, unfolding(crate::specs::Times::nearest_kept))]
-fn nearest_of(times: &[Option<u64>; SLOT_COUNT]) -> Option<u64>
-    ensures { result ≡ nearest_kept times.now }
+/// Whether there is a time that comes before another, or where there is no other.
+fn comes_before(time: Option<u64>, other: Option<u64>) -> bool
+    ensures { result ≡ comes_before time other }
 {
-    let mut nearest = None;
-    for slot in 0..SLOT_COUNT {
-        nearest = nearer_time(nearest, times[slot]);
+    match (time, other) {
+        (Some(time), Some(other)) => time < other,
+        (Some(_), None) => true,
+        (None, _) => false,
     }
-    nearest
+}
+
+/// The nearest of the times that are kept of all slots, and a slot below which each time that is
+/// kept lies behind it.
+#[tactic(auto, unfolding(crate::specs::Times::nearest_kept))]
+fn nearest_of(times: &[Option<u64>; SLOT_COUNT]) -> (Option<u64>, usize)
+    ensures nearest { result.0 ≡ nearest_kept times.now }
+    ensures first { AllBehind result.0 result.1 times.now }
+{
+    let (mut nearest, mut first) = (None, 0);
+    for slot in 0..SLOT_COUNT {
+        if comes_before(times[slot], nearest) {
+            nearest = times[slot];
+            first = slot;
+        }
+    }
+    (nearest, first)
 }
 
 /// When the alarm of the process in each slot becomes due, as it was looked for last: a time that
@@ -105,17 +122,19 @@ pub struct AlarmTimes {
     times: [Option<u64>; SLOT_COUNT],
     /// The least of them.
     nearest: Option<u64>,
+    /// A slot below which each of them lies behind the least.
+    first: usize,
 }
 
 impl Model for AlarmTimes {
     ghost use Rattle.std.specs.Prelude.{◌≡◌, ℕ, List, Option};
-    ghost use Rattle.alarm_capsule.specs.Times.{nearest_kept};
+    ghost use Rattle.alarm_capsule.specs.Times.{AllBehind, nearest_kept};
 
     ghost Value = { List (Option ℕ) };
 
     ghost view = { λ t. t.times };
 
-    ghost invariant = { λ t. t.nearest ≡ nearest_kept t.times };
+    ghost invariant = { λ t. (t.nearest ≡ nearest_kept t.times) × AllBehind t.nearest t.first t.times };
 }
 
 impl AlarmTimes {
@@ -126,12 +145,15 @@ impl AlarmTimes {
         AlarmTimes {
             times: [None; SLOT_COUNT],
             nearest: None,
+            first: 0,
         }
     }
 
     /// Looks for the time of the alarm of the process in a slot again, at a time at which the clock
     /// shows `now`. It is asked for after each step in which that process may have armed or stopped
     /// its alarm, ended or started again. It asks that the times that are kept tell of all others.
+    // Few turns arm an alarm: inlined, it would make all others dearer.
+    #[inline(never)]
     pub fn note(&mut self, home: &Home, slot: Slot, now: u32, time: u64)
         requires time { time + 2 ^ 32 ≤ 2 ^ 64 }
         requires others { OthersTell slot now time self.old home.now.owns }
@@ -140,17 +162,36 @@ impl AlarmTimes {
             (option_map (λ left. time + left) (ticks_left_in now home.now.owns slot)) }
         ensures tell { AllTell now time self.new home.now.owns }
     {
-        let due = due_time(home, slot, now, time);
+        self.keep(slot, due_time(home, slot, now, time));
+    }
+
+    /// The alarm of the process in a slot fired. It asks that it has none armed any more, and that the
+    /// times that are kept tell of all others; then they tell of all.
+    pub fn forget(&mut self, slot: Slot)
+        ensures { (now time : ℕ) (home : Homes) → OthersTell slot now time self.old home.owns
+            → alarm_in (own_of home slot) ≡ None → AllTell now time self.new home.owns }
+    {
+        self.keep(slot, None);
+    }
+
+    /// Keeps another time of one slot. Where none was kept of it, the nearest is the nearer of the
+    /// two, and no other slot is looked at.
+    fn keep(&mut self, slot: Slot, due: Option<u64>)
+        ensures there { slot < length self.old }
+        ensures kept { self.new ≡ slice_set self.old slot due }
+    {
         let before = self.times[slot.index()];
         if due == before {
             return;
         }
         self.times[slot.index()] = due;
-        if before.is_none() {
-            // The others are as they were, so none of them is looked at.
-            self.nearest = nearer_time(self.nearest, due);
-        } else {
-            self.nearest = nearest_of(&self.times);
+        if before.is_some() {
+            (self.nearest, self.first) = nearest_of(&self.times);
+            return;
+        }
+        self.nearest = nearer_time(self.nearest, due);
+        if due == self.nearest {
+            self.first = 0;
         }
     }
 
@@ -206,21 +247,24 @@ impl AlarmTimes {
     {
         an_alarm_is_due_where_no_ticks_are_left();
         let at = self.nearest?;
-        if at <= time {
-            return self.first_due_of_all(home, now, time);
+        if time < at {
+            return None;
         }
-        None
+        // Where the nearest has just come, none below the first slot that has it has come.
+        let from = if at == time { self.first } else { 0 };
+        self.first_due_from(home, from, now, time)
     }
 
-    /// The same, by a look at each slot.
+    /// The same, by a look at each slot from one on: it asks that none below that is due.
     #[inline(never)]
     #[tactic(auto, unfolding(driver_model::specs::Alarm::due_slot), using(crate::proofs::Slots::passed))]
-    fn first_due_of_all(&self, home: &Home, now: u32, time: u64) -> Option<Due>
-        requires { AllTell now time self.now home.now.owns }
+    fn first_due_from(&self, home: &Home, from: usize, now: u32, time: u64) -> Option<Due>
+        requires tell { AllTell now time self.now home.now.owns }
+        requires below { NoneDueBelow from now home.now.owns }
         ensures slot { option_map (λ due. due.id.slot) result ≡ due_slot now home.now.owns }
         ensures due { IfSome result (λ due. AlarmIsDue now due.id.slot home.now due) }
     {
-        for slot in 0..SLOT_COUNT {
+        for slot in from..SLOT_COUNT {
             if let Some(due) = self.due_in(home, Slot::new(slot), now, time) {
                 return Some(due);
             }
@@ -260,6 +304,7 @@ impl AlarmTimes {
     /// that lives becomes due, of any or of that in the one slot which is served: 0 where one is due
     /// then. None exactly where no process that lives and is served has an alarm armed. It asks that
     /// the times that are kept tell of all alarms.
+    #[inline(always)]
     pub fn next_due(&self, home: &Home, now: u32, time: u64, only: Option<Slot>) -> Option<u32>
         requires { AllTell now time self.now home.now.owns }
         ensures { result ≡ left_for only now home.now.owns }
@@ -271,6 +316,7 @@ impl AlarmTimes {
     }
 
     /// The same of any.
+    #[inline(always)]
     fn next_of_any(&self, home: &Home, now: u32, time: u64) -> Option<u32>
         requires { AllTell now time self.now home.now.owns }
         ensures { result ≡ next_left now home.now.owns }

@@ -26,8 +26,8 @@ use arrayvec::ArrayVec;
 use board_drivers::{Drivers, Moment};
 use board_opening::{LoadedProcesses, first_crew, placed_in, unplaced};
 use board_state::{
-    BoardState, ReadySlots, act_meant, devices_ready, hide, lanes, look_again, make_turn, operate,
-    settings_of, show, summary, time_ahead,
+    BoardState, ReadySlots, act_meant, devices_ready, forget_fired, hide, lanes, make_turn,
+    operate, settings_of, show, summary, time_ahead,
 };
 use board_turns::{ActivePmp, Machine};
 use driver_model::{lines_follow_answers, time_brings_an_alarm_nearer};
@@ -243,13 +243,7 @@ impl Board {
             .look(&self.state.machine.home, &self.state.processes, served);
         show(emit, served, printed);
         self.state.machine.moment.steps += 1;
-        look_again(
-            &mut self.state.alarms,
-            &self.state.machine.moment,
-            &self.state.machine.home,
-            served,
-            device == Dev::Alarm,
-        );
+        forget_fired(&mut self.state.alarms, served, device);
         self.state.calm = self.state.machine.moment.look_ahead(
             &self.state.machine.home,
             &self.state.alarms,

@@ -1,7 +1,8 @@
 //! The drivers of the board.
 ghost use Rattle.std.specs.Prelude.{◌≡◌, ◌+◌, ◌*◌, ◌<◌, ◌≤◌, ◌^◌, ◌↔◌, ℕ, true, false, [], length};
-ghost use Rattle.std.specs.Prelude.{All, IfOk, IfSome, replicate};
+ghost use Rattle.std.specs.Prelude.{All, IfOk, IfSome, None, replicate};
 ghost use Rattle.board_devices.specs.Arriving.{first_arrival_time};
+ghost use Rattle.driver_model.specs.Alarm.{alarm_in};
 ghost use Rattle.driver_model.specs.Commands.{leaving_all};
 ghost use Rattle.grant_enter.specs.Homes.{own_of, ChangesOnly};
 ghost use Rattle.grant_enter.specs.Visits.{is_stale};
@@ -9,7 +10,7 @@ ghost use Rattle.kernel_model.specs.World.{can_act_at, lane_count, sending_time}
 ghost use Rattle.tk_base.specs.declared.process.Dev.TheVariants.{Receive};
 ghost use Rattle.board_drivers.specs.Calm.{AlarmsTell};
 ghost use Rattle.board_drivers.specs.Residents.{HasLost};
-ghost use Rattle.board_drivers.specs.Tells.{Acts, Arrives, tells_one};
+ghost use Rattle.board_drivers.specs.Tells.{Acts, Arrives, is_alarm, tells_one};
 ghost use Rattle.tk_base.specs.declared.limits.TheConstants.{SLOT_COUNT, STEP_LIMIT};
 ghost use Rattle.board_drivers.specs.Driven.{AreDriven, AreFresh, Commands, Drives, HasLanes, IsTaken};
 ghost use Rattle.board_drivers.specs.Driven.{MayAsk, devices_of};
@@ -193,7 +194,7 @@ impl Drivers {
     }
 
     /// Has a device act as [`Drivers::act`] does, with the times that are kept of the alarms: the
-    /// one that is due is found by them.
+    /// one that is due is found by them. The process whose alarm fired has none armed any more.
     #[inline(always)]
     pub fn act_by(
         &mut self,
@@ -211,8 +212,10 @@ impl Drivers {
         requires limit { moment.now.steps < STEP_LIMIT }
         requires time { moment.now.time ≤ moment.now.steps * 2 ^ 32 }
         requires empty { printed.old.items ≡ [] }
-        ensures { Acts device moment.now home.old self.old result printed.new.items home.new
+        ensures acts { Acts device moment.now home.old self.old result printed.new.items home.new
             self.new }
+        ensures disarmed { is_alarm device ≡ true → IfOk result
+            (λ answer. alarm_in (own_of home.new answer.to.slot) ≡ None) }
     {
         a_due_slot_is_there();
         lines_follow_answers();

@@ -1,9 +1,12 @@
 //! Which device steps are ready at a moment, and a time up to which none is: after a step they are
 //! looked for again only where it may have changed them.
-ghost use Rattle.std.specs.Prelude.{◌≡◌, ◌+◌, ◌*◌, ◌^◌, ◌≤◌, false};
+ghost use Rattle.std.specs.Prelude.{◌≡◌, ◌+◌, ◌*◌, ◌^◌, ◌≤◌, ℕ, true, false, None};
 ghost use Rattle.tk_base.specs.declared.limits.TheConstants.{STEP_LIMIT};
 ghost use Rattle.board_devices.specs.Clock.{clock_at};
-ghost use Rattle.alarm_capsule.specs.Times.{OthersTell};
+ghost use Rattle.alarm_capsule.specs.Times.{AllTell, OthersTell};
+ghost use Rattle.grant_enter.specs.Homes.{Homes, own_of};
+ghost use Rattle.driver_model.specs.Alarm.{alarm_in};
+ghost use Rattle.board_drivers.specs.Tells.{is_alarm};
 ghost use Rattle.kernel_alarms.specs.Acting.{may_have_acted, may_have_armed};
 ghost use Rattle.board_drivers.specs.Calm.{AlarmsTell, HasCome, IsCalm};
 ghost use Rattle.board_drivers.specs.Calm.{ServesNobody, only_of, work_in};
@@ -56,7 +59,7 @@ fn may_have_acted(emit: &Emit) -> bool
 /// Whether a turn may have changed what its process keeps for the alarm, or ended a life of it, by
 /// what it showed.
 #[inline(always)]
-pub(crate) fn may_have_armed(emit: &Emit) -> bool
+fn may_have_armed(emit: &Emit) -> bool
     ensures { result ≡ may_have_armed emit.now.made emit.now.denial }
 {
     if emit.denial.is_some() {
@@ -68,25 +71,40 @@ pub(crate) fn may_have_armed(emit: &Emit) -> bool
     }
 }
 
-/// Looks again when the alarm of a process becomes due, where that may have changed: in its turn,
-/// where that may have armed one, and in the step of a device, where that was the alarm. What it
-/// keeps for the alarm, and that it lives, changes in no other turn, and by no other device.
+/// Looks again when the alarm of a process becomes due, where its turn may have armed one: what it
+/// keeps for the alarm, and that it lives, changes in no other turn.
 #[inline(always)]
-pub fn look_again(
+pub(crate) fn look_again(
     alarms: &mut AlarmTimes,
     moment: &Moment,
     home: &Home,
     slot: Slot,
-    may_have_changed: bool,
+    emit: &Emit,
 )
     requires time { moment.now.time + 2 ^ 32 ≤ 2 ^ 64 }
     requires others { OthersTell slot (clock_at moment.now.settings.start moment.now.time)
         moment.now.time alarms.old home.now.owns }
-    requires unarmed { may_have_changed ≡ false → AlarmsTell moment.now alarms.old home.now.owns }
+    requires unarmed { may_have_armed emit.now.made emit.now.denial ≡ false
+        → AlarmsTell moment.now alarms.old home.now.owns }
     ensures { AlarmsTell moment.now alarms.new home.now.owns }
 {
-    if may_have_changed {
+    if may_have_armed(emit) {
         alarms.note(home, slot, moment.tick(), moment.time);
+    }
+}
+
+/// What is kept of the alarm of a process that a device answered: where that was the alarm, it
+/// fired, and none is armed any more. It asks that this is so, that what is kept tells of all others,
+/// and, where it was another device, of all.
+#[inline(always)]
+pub fn forget_fired(alarms: &mut AlarmTimes, slot: Slot, device: Dev)
+    ensures { (now time : ℕ) (home : Homes) → OthersTell slot now time alarms.old home.owns
+        → (is_alarm device ≡ true → alarm_in (own_of home slot) ≡ None)
+        → (is_alarm device ≡ false → AllTell now time alarms.old home.owns)
+        → AllTell now time alarms.new home.owns }
+{
+    if device == Dev::Alarm {
+        alarms.forget(slot);
     }
 }
 

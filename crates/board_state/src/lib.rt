@@ -15,7 +15,7 @@ mod state;
 mod turns;
 mod windows;
 
-pub use ahead::{calm_ahead, devices_ready, look_again};
+pub use ahead::{calm_ahead, devices_ready, forget_fired};
 pub use left::time_ahead;
 pub use lines::summary;
 pub use operator::{act_meant, operate};

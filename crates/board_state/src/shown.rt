@@ -40,8 +40,8 @@ pub fn show(emit: &mut Emit, slot: Slot, printed: ArrayVec<u8, PRINT_LIMIT>)
     hide(emit);
     if !printed.is_empty() {
         emit.slot = Some(slot);
+        emit.printed = printed;
     }
-    emit.printed = printed;
 }
 
 /// An operator acted on a slot's process, and these bytes were printed.

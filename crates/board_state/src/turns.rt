@@ -7,7 +7,7 @@ ghost use Rattle.board_state.specs.KnownEnds.{IsKnownEnd};
 ghost use Rattle.board_state.specs.Makes.{MakesStep};
 ghost use Rattle.board_state.specs.Shows.{IsBoard, world_of};
 
-use crate::ahead::{calm_after, look_again, may_have_armed};
+use crate::ahead::{calm_after, look_again};
 use crate::shown::clear;
 use crate::state::BoardState;
 use driver_model::time_brings_an_alarm_nearer;
@@ -66,7 +66,7 @@ pub fn make_turn(
         &state.machine.moment,
         &state.machine.home,
         slot,
-        may_have_armed(emit),
+        emit,
     );
     state.calm = calm_after(
         state.calm,

@@ -102,7 +102,7 @@ look_again-requires-clause-unarmed c unarmed =
     subst (λ (m : Moment). AlarmsTell (turn_later m) b.alarms x.home.owns) (sym t.moment)
     (alarms_later b c.args.slot x processes shown c.requires.board t c.time_brings_an_alarm_nearer.ensures
     (turn_leaves_alarm b c.args.slot x processes shown c.requires.board t
-    c.alarms_change_at_their_commands.ensures.alarms (sym c.may_have_armed.ensures ∙ unarmed)))
+    c.alarms_change_at_their_commands.ensures.alarms unarmed))
 
 -- the table of processes, as it is looked at again
 looked : (c : After-look) → TurnsTell c.look.new.self (zip c.turn_at.new.processes.items c.turn_at.new.self.home.owns)

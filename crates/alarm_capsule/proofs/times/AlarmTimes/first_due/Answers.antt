@@ -1,4 +1,4 @@
-use Rattle.std.proofs.Common.{◌≡◌, ℕ, List, Option, None, Some, option_map, rules, ap, sym, subst, arith, ◌∙◌}
+use Rattle.std.proofs.Common.{◌≡◌, ℕ, List, Option, None, Some, option_map, rules, ap, sym, subst, ◌∙◌}
 use Rattle.alarm_capsule.specs.declared.answers.Due.{Due}
 use Rattle.alarm_capsule.specs.Times.{AllTell}
 use Rattle.alarm_capsule.proofs.Nearest.{none_is_due}
@@ -13,14 +13,14 @@ returns-in_err-at-clause-slot c =
     let is : c.from_residual.result ≡ None = search rules in
     ap (λ (o : Option Due). option_map (λ (d : Due). d.id.slot) o) is
     ∙ none_is_due c.args.now c.args.time c.self.inside.times owns tell
-    c.an_alarm_is_due_where_no_ticks_are_left.ensures None (sym c.self.invariant ∙ none) tt
+    c.an_alarm_is_due_where_no_ticks_are_left.ensures None (sym c.self.invariant.0 ∙ none) tt
 
-pub returns-clause-slot : goal.returns-clause-slot
-returns-clause-slot c =
+pub returns-then-time-at-clause-slot : goal.returns-then-time-at-clause-slot
+returns-then-time-at-clause-slot c =
     let owns = c.args.home.now.owns in
     let tell = subst (λ (times : List (Option ℕ)). AllTell c.args.now c.args.time times owns) (sym c.self.view_is)
     c.requires in
     let some : c.self.inside.nearest ≡ Some c.in_ok-at.at = search rules in
     none_is_due c.args.now c.args.time c.self.inside.times owns tell
-    c.an_alarm_is_due_where_no_ticks_are_left.ensures (Some c.in_ok-at.at) (sym c.self.invariant ∙ some)
-    (omega (arith, c.if-at-time.false))
+    c.an_alarm_is_due_where_no_ticks_are_left.ensures (Some c.in_ok-at.at) (sym c.self.invariant.0 ∙ some)
+    c.if-time-at.true

@@ -10,7 +10,7 @@ returns-in_err-at c =
     c.requires in
     let none : c.self.inside.nearest ≡ None = search rules in
     let is : c.from_residual.result ≡ None = search rules in
-    is ∙ none_is_next c.args.now c.args.time c.self.inside.times owns tell (sym c.self.invariant ∙ none)
+    is ∙ none_is_next c.args.now c.args.time c.self.inside.times owns tell (sym c.self.invariant.0 ∙ none)
 
 pub overflow_cast-result : goal.overflow_cast-result
 overflow_cast-result c =
@@ -19,7 +19,7 @@ overflow_cast-result c =
     c.requires in
     let some : c.self.inside.nearest ≡ Some c.in_ok-at.at = search rules in
     let near = nearest_is_near c.args.now c.args.time c.self.inside.times owns tell c.in_ok-at.at
-    (sym c.self.invariant ∙ some) (omega (arith, c.if-at-time.false)) in
+    (sym c.self.invariant.0 ∙ some) (omega (arith, c.if-at-time.false)) in
     omega (arith, near)
 
 pub returns : goal.returns
@@ -28,5 +28,5 @@ returns c =
     let tell = subst (λ (times : List (Option ℕ)). AllTell c.args.now c.args.time times owns) (sym c.self.view_is)
     c.requires in
     let some : c.self.inside.nearest ≡ Some c.in_ok-at.at = search rules in
-    nearest_is_next c.args.now c.args.time c.self.inside.times owns tell c.in_ok-at.at (sym c.self.invariant ∙ some)
+    nearest_is_next c.args.now c.args.time c.self.inside.times owns tell c.in_ok-at.at (sym c.self.invariant.0 ∙ some)
     (omega (arith, c.if-at-time.false))

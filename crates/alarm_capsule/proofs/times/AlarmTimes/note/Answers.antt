@@ -1,15 +1,11 @@
-use Rattle.std.proofs.Common.{◌≡◌, ◌<◌, ℕ, length, slice_index_or, Option, None, ap, rules, ◌∙◌}
-use Rattle.tk_base.specs.declared.limits.TheConstants.{SLOT_COUNT}
-use Rattle.driver_model.specs.Alarm.{nearer}
-use Rattle.alarm_capsule.proofs.Nearest.{nearest_with}
+use Rattle.std.proofs.Common.{ℕ, List, Option, subst, sym}
+use Rattle.alarm_capsule.specs.Times.{AllTell}
+use Rattle.alarm_capsule.proofs.KeptTimes.{noted_tell}
 use Rattle.alarm_capsule.proofs.times.AlarmTimes.note.Goals as goal
 
-pub invariant_of-self : goal.invariant_of-self
-invariant_of-self c =
-    let times = c.self.inside.times in
-    let slot : ℕ = c.index-2.result in
-    let within : slot < length times = search rules in
-    let there : slot < SLOT_COUNT = search rules in
-    let none : slice_index_or times slot None ≡ None = search rules in
-    c.nearer_time-self-inside.ensures ∙ ap (λ (o : Option ℕ). nearer o c.due_time-due.result) c.self.invariant
-    ∙ nearest_with times slot c.due_time-due.result within none there
+pub returns-clause-tell : goal.returns-clause-tell
+returns-clause-tell c =
+    let owns = c.args.home.now.owns in
+    subst (λ (times : List (Option ℕ)). AllTell c.args.now c.args.time times owns) (sym c.keep.ensures.kept)
+    (noted_tell c.args.now c.args.time c.args.slot c.args.self.now owns c.due_time.result c.keep.ensures.there
+    c.due_time.ensures.tells c.requires.others)

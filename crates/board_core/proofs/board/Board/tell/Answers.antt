@@ -1,9 +1,13 @@
-use Rattle.std.proofs.Common.{List, length, arith, Result, Err, ap, ap₂, sym, subst, ◌∙◌}
+use Rattle.std.proofs.Common.{◌≡◌, List, length, None, Result, Err, ap, ap₂, sym, subst, ◌∙◌}
+use Rattle.std.specs.Prelude.{IfOk}
 use Rattle.std.specs.List.{zip}
 use Rattle.tk_base.specs.declared.process.Choice.TheVariants.{Device}
 use Rattle.board_devices.specs.declared.answer.Answer.{Answer}
 use Rattle.tk_base.specs.declared.process.NotReady.{NotReady}
-use Rattle.grant_enter.specs.Homes.{Homes}
+use Rattle.grant_enter.specs.Homes.{Homes, own_of}
+use Rattle.driver_model.specs.Alarm.{alarm_in}
+use Rattle.board_devices.specs.Clock.{clock_at}
+use Rattle.board_drivers.specs.Calm.{AlarmsTell}
 use Rattle.process_record.specs.declared.process.Process.{Process}
 use Rattle.board_drivers.specs.declared.drivers.Drivers.{Drivers}
 use Rattle.board_state.specs.Shows.{IsBoard, world_of}
@@ -16,7 +20,7 @@ use Rattle.board_state.specs.ReadySlots.{OtherTurnsTell, TurnsTell}
 use Rattle.board_state.specs.PartsOf.{parts_of}
 use Rattle.board_state.proofs.PartsOf.{are_parts}
 use Rattle.board_core.proofs.board.Board.tell.Goals as goal
-use Rattle.board_core.proofs.board.Board.tell.Goals.{In-Ok, In_default}
+use Rattle.board_core.proofs.board.Board.tell.Goals.{After-forget_fired, In-Ok, In_default}
 
 -- it may not act
 idle : (c : In_default)
@@ -24,7 +28,7 @@ idle : (c : In_default)
 idle c =
     let b = c.self.inside.state in
     subst (λ (o : Result Answer NotReady). Acted (parts_of b) c.args.device o c.act_by.new.printed.items c.act_by.new.home
-    c.act_by.new.self) c.in_default.is (c.act_by.ensures (parts_of b) (are_parts b c.self.invariant))
+    c.act_by.new.self) c.in_default.is (c.act_by.ensures.acts (parts_of b) (are_parts b c.self.invariant))
 
 pub invariant_of-self : goal.invariant_of-self
 invariant_of-self c =
@@ -51,7 +55,7 @@ told : (c : In-Ok)
 told c =
     let b = c.self.inside.state in
     subst (λ (o : Result Answer NotReady). Acted (parts_of b) c.args.device o c.act_by.new.printed.items c.act_by.new.home
-    c.act_by.new.self) c.in-Ok.is (c.act_by.ensures (parts_of b) (are_parts b c.self.invariant))
+    c.act_by.new.self) c.in-Ok.is (c.act_by.ensures.acts (parts_of b) (are_parts b c.self.invariant))
 
 -- the change of its process
 change : (c : In-Ok) → ChangesSlot c.in-Ok.answer.to.slot c.self.inside.state.machine.home c.act_by.new.home
@@ -73,18 +77,26 @@ look-requires-clause-others c =
     (others_stay_ready c.in-Ok.answer.to.slot b.machine.home c.act_by.new.home b.processes.items b.processes.items
     (change (goal.at.look-requires-clause-others c).In-Ok) b.ready c.self.invariant.ready)
 
-pub look_again-requires-clause-others : goal.look_again-requires-clause-others
-look_again-requires-clause-others c =
+-- what is kept of the alarms tells of all of them then
+alarms_told : (c : After-forget_fired)
+    → DeviceTold (parts_of c.self.inside.state) c.args.device c.in-Ok.answer.to.slot c.act_by.new.printed.items
+    c.act_by.new.home c.act_by.new.self
+    → AlarmsTell c.self.inside.state.machine.moment c.forget_fired.new.alarms c.act_by.new.home.owns
+alarms_told c t =
     let b = c.self.inside.state in
-    others_still b c.args.device c.in-Ok.answer.to.slot c.act_by.new.printed.items c.act_by.new.home c.act_by.new.self
-    (told (goal.at.look_again-requires-clause-others c).In-Ok) c.self.invariant
+    let slot = c.in-Ok.answer.to.slot in
+    let printed = c.act_by.new.printed.items in
+    let home = c.act_by.new.home in
+    c.forget_fired.ensures (clock_at b.machine.moment.settings.start b.machine.moment.time) b.machine.moment.time home
+    (others_still b c.args.device slot printed home c.act_by.new.self t c.self.invariant)
+    (λ fires. subst (λ (o : Result Answer NotReady). IfOk o (λ (a : Answer). alarm_in (own_of home a.to.slot) ≡ None))
+    c.in-Ok.is (c.act_by.ensures.disarmed fires))
+    (all_still b c.args.device slot printed home c.act_by.new.self t c.self.invariant c.answers_leave_alarms.ensures)
 
-pub look_again-requires-clause-unarmed : goal.look_again-requires-clause-unarmed
-look_again-requires-clause-unarmed c unarmed =
-    let b = c.self.inside.state in
-    all_still b c.args.device c.in-Ok.answer.to.slot c.act_by.new.printed.items c.act_by.new.home c.act_by.new.self
-    (told (goal.at.look_again-requires-clause-unarmed c).In-Ok) c.self.invariant c.answers_leave_alarms.ensures
-    (grind (arith, sym c.eq.ensures ∙ unarmed))
+pub look_ahead-self-inside-requires-clause-alarms : goal.look_ahead-self-inside-requires-clause-alarms
+look_ahead-self-inside-requires-clause-alarms c =
+    let at = goal.at.look_ahead-self-inside-requires-clause-alarms c in
+    alarms_told at.After-forget_fired (told at.In-Ok)
 
 pub look_ahead-self-inside-requires-clause-free : goal.look_ahead-self-inside-requires-clause-free
 look_ahead-self-inside-requires-clause-free c =
@@ -94,9 +106,9 @@ pub invariant_of-self-2 : goal.invariant_of-self-2
 invariant_of-self-2 c =
     told_board c.self.inside.state c.args.device c.in-Ok.answer.to.slot c.act_by.new.printed.items c.act_by.new.home c.act_by.new.self
     (told (goal.at.invariant_of-self-2 c).In-Ok) c.self.invariant
-    c.look_ahead-self-inside.result c.look_again.new.alarms c.look.new.self
+    c.look_ahead-self-inside.result c.forget_fired.new.alarms c.look.new.self
     (below_shown c.self.inside.state c.args.self.now c.self.view_is c.requires.limit)
-    c.look_again.ensures
+    (alarms_told (goal.at.invariant_of-self-2 c).After-forget_fired (told (goal.at.invariant_of-self-2 c).In-Ok))
     (subst (λ (ps : List Process). TurnsTell c.look.new.self (zip ps c.act_by.new.home.owns)) c.deref.ensures.value
     c.look.ensures) c.look_ahead-self-inside.ensures.calm
 

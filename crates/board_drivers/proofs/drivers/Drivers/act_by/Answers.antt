@@ -6,8 +6,8 @@ use Rattle.board_drivers.proofs.Acts.{acted_by, acts_alarmed}
 use Rattle.board_drivers.proofs.drivers.Drivers.act_by.Goals as goal
 use Rattle.board_drivers.specs.Parts.{BoardParts}
 
-pub returns-in-Alarm : goal.returns-in-Alarm
-returns-in-Alarm c b h =
+pub returns-in-Alarm-clause-acts : goal.returns-in-Alarm-clause-acts
+returns-in-Alarm-clause-acts c b h =
     let here : BoardParts = record b {
       moment = c.args.moment.now;
       home = c.args.home.now;
@@ -20,4 +20,4 @@ returns-in-Alarm c b h =
     (clock_at here.moment.settings.start here.moment.time) c.args.home.now c.answer_by.result c.answer_by.new.home)
     (c.only-only.ensures ∙ c.served.ensures.only)
     (subst (λ (now : ℕ). alarm_capsule.AlarmAnswers c.only-only.result now c.args.home.now c.answer_by.result
-    c.answer_by.new.home) c.tick.ensures c.answer_by.ensures)) c.args.printed.now.items c.requires.empty)
+    c.answer_by.new.home) c.tick.ensures c.answer_by.ensures.answers)) c.args.printed.now.items c.requires.empty)

@@ -2,7 +2,7 @@ use Rattle.std.proofs.Common.{◌≡◌, ◌-◌, find, slice_get}
 use Rattle.std.specs.List.{range_with_len}
 use Rattle.tk_base.specs.declared.limits.TheConstants.{SLOT_COUNT}
 use Rattle.driver_model.specs.Alarm.{due_slot, has_due}
-use Rattle.alarm_capsule.proofs.times.AlarmTimes.first_due_of_all.Given as goal
+use Rattle.alarm_capsule.proofs.times.AlarmTimes.first_due_from.Given as goal
 
 -- what is first among the slots that are left is first among all
 abbrev pub invariant-loop-slot : goal.invariant-loop-slot

@@ -1,8 +1,9 @@
 use Rattle.std.proofs.Common.{◌≡◌, ℕ, Bool, true, Some, slice_get, ap, sym, ◌∙◌}
 use Rattle.tk_base.specs.declared.limits.TheConstants.{SLOT_COUNT}
-use Rattle.driver_model.specs.Alarm.{has_due}
+use Rattle.driver_model.specs.Alarm.{due_slot, has_due}
+use Rattle.alarm_capsule.proofs.First.{all_passed}
 use Rattle.alarm_capsule.proofs.Slots.{found, none_left}
-use Rattle.alarm_capsule.proofs.times.AlarmTimes.first_due_of_all.Goals as goal
+use Rattle.alarm_capsule.proofs.times.AlarmTimes.first_due_from.Goals as goal
 
 pub returns-in-Some-clause-slot : goal.returns-in-Some-clause-slot
 returns-in-Some-clause-slot c =
@@ -15,3 +16,8 @@ pub returns-clause-slot : goal.returns-clause-slot
 returns-clause-slot c =
     sym (none_left (λ slot. has_due c.args.now (slice_get c.args.home.now.owns slot)) c.loop-slot.slot SLOT_COUNT
     c.loop-slot-test.false) ∙ c.loop-slot.invariant
+
+pub loop-slot-init : goal.loop-slot-init
+unfolding due_slot
+loop-slot-init c =
+    all_passed (λ slot. has_due c.args.now (slice_get c.args.home.now.owns slot)) c.args.from c.requires.below
