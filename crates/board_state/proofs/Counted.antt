@@ -1,6 +1,7 @@
 -- How many flags of a table are set.
 use Rattle.std.proofs.Common.{◌≡◌, ℕ, zero, suc, ◌+◌, ◌<◌, ◌≤◌, Bool, true, false, List, [], ◌∷◌, refl, arith}
-use Rattle.std.proofs.Common.{length, slice_set, slice_index_or}
+use Rattle.std.proofs.Common.{length, nat_lt, slice_set, slice_index_or}
+use Rattle.std.proofs.lemmas.Bool.Decides.{nat_tests}
 use Rattle.board_state.specs.ReadySlots.{how_many, NoneBeyond}
 
 -- no more than there are
@@ -28,8 +29,14 @@ one_less_set (true ∷ flags) (suc place) e = omega (arith, one_less_set flags p
 one_less_set (false ∷ flags) (suc place) e = omega (arith, one_less_set flags place e)
 
 -- where that many are none, none is set
-pub none_set : (flags : List Bool) → how_many flags ≡ 0 → NoneBeyond 0 flags
+none_set : (flags : List Bool) → how_many flags ≡ 0 → NoneBeyond 0 flags
 none_set [] e place h = refl
 none_set (true ∷ flags) e place h = absurd (omega (arith, e))
 none_set (false ∷ flags) e zero h = refl
 none_set (false ∷ flags) e (suc place) h = none_set flags e place (omega arith)
+
+pub none_counted : (flags : List Bool) → nat_lt 0 (how_many flags) ≡ false → NoneBeyond 0 flags
+none_counted flags e = none_set flags (none (how_many flags) e)
+  where
+    none : (count : ℕ) → nat_lt 0 count ≡ false → count ≡ 0
+    none count e = grind (arith, nat_tests)

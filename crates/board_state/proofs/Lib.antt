@@ -14,4 +14,4 @@ pub mod AnyReady
 pub mod Tables
 pub mod InWindows
 pub mod KnownEnds
-mod Counted
+pub mod Counted

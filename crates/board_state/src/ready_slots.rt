@@ -1,10 +1,10 @@
 //! Which processes can have a turn.
 ghost use Rattle.std.specs.Prelude.{◌≡◌, ◌<◌, ◌≤◌, false, length, replicate, slice_get, slice_index_or};
-ghost use Rattle.std.specs.Prelude.{slice_set};
+ghost use Rattle.std.specs.Prelude.{nat_lt, slice_set};
 ghost use Rattle.std.specs.List.{zip};
 ghost use Rattle.tk_base.specs.declared.limits.TheConstants.{SLOT_COUNT};
 ghost use Rattle.board_drivers.specs.Residents.{can_turn_in};
-ghost use Rattle.board_state.specs.ReadySlots.{NoneBeyond, OtherTurnsTell, TurnsTell};
+ghost use Rattle.board_state.specs.ReadySlots.{NoneBeyond, OtherTurnsTell, TurnsTell, how_many};
 
 use board_turns::can_turn;
 use grant_enter::Home;
@@ -65,7 +65,7 @@ impl ReadySlots {
     /// Whether the process in any slot can.
     #[inline(always)]
     pub fn has_any(&self) -> bool
-        ensures { result ≡ false → NoneBeyond 0 self.now }
+        ensures { result ≡ nat_lt 0 (how_many self.now) }
     {
         self.count > 0
     }
