@@ -1,6 +1,8 @@
 // A plain interpreter of RV32I and M in Rust, for comparison: `interpreter FLASH TURNS` runs the first
 // application of a flash image alone, decoding each instruction as it is fetched. It checks where an
-// access lies, and knows no system call: it stops at the first one.
+// access lies, and knows no system call: it stops at the first one. Built with `--cfg compiled` it runs
+// what a compiler made: it decodes instructions of 16 bits as well, and refuses each system call. This
+// is left out otherwise, since it makes the loop over words slower.
 use std::env;
 use std::fs;
 use std::process::exit;
@@ -8,6 +10,7 @@ use std::process::exit;
 const FLASH: u32 = 0x2000_0000;
 const RAM: u32 = 0x8000_0000;
 const RAM_SIZE: usize = 4096;
+const COMPILED: bool = cfg!(compiled);
 
 struct Machine {
     flash: Vec<u8>,
@@ -23,6 +26,11 @@ enum Stop {
 
 fn sign(value: u32, bits: u32) -> u32 {
     ((value << (32 - bits)) as i32 >> (32 - bits)) as u32
+}
+
+// The bits of a value from `high` down to `low`, at `to`.
+fn bits(value: u32, high: u32, low: u32, to: u32) -> u32 {
+    (value >> low & ((1 << (high - low + 1)) - 1)) << to
 }
 
 impl Machine {
@@ -73,7 +81,7 @@ impl Machine {
         }
         let first = self.read(self.pc, 2)?;
         if first & 3 != 3 {
-            return Err(Stop::Trap);
+            return if COMPILED { Ok(first) } else { Err(Stop::Trap) };
         }
         Ok(first | self.read(self.pc.wrapping_add(2), 2)? << 16)
     }
@@ -86,6 +94,9 @@ impl Machine {
 
     fn turn(&mut self) -> Result<(), Stop> {
         let word = self.fetch()?;
+        if COMPILED && word & 3 != 3 {
+            return self.turn_of_parcel(word);
+        }
         let rd = (word >> 7 & 31) as usize;
         let funct3 = word >> 12 & 7;
         let a = self.x[(word >> 15 & 31) as usize];
@@ -191,7 +202,83 @@ impl Machine {
                 self.set(rd, value);
             }
             0x0f if funct3 == 0 => {}
+            _ if word == 0x73 && COMPILED => (self.x[10], self.x[11]) = (0, 11), // NODEVICE
             _ if word == 0x73 => return Err(Stop::Call),
+            _ => return Err(Stop::Trap),
+        }
+        self.pc = next;
+        Ok(())
+    }
+
+    // An instruction of 16 bits.
+    fn turn_of_parcel(&mut self, parcel: u32) -> Result<(), Stop> {
+        let (rd, rs2) = (bits(parcel, 11, 7, 0) as usize, bits(parcel, 6, 2, 0) as usize);
+        let (short, other) = (8 + (rd & 7), 8 + (rs2 & 7));
+        let i = sign(bits(parcel, 12, 12, 5) | rs2 as u32, 6);
+        let of_word = bits(parcel, 12, 10, 3) | bits(parcel, 6, 6, 2) | bits(parcel, 5, 5, 6);
+        let a = self.x[short];
+        let mut next = self.pc.wrapping_add(2);
+        match (parcel & 3, parcel >> 13) {
+            (0, 0) if parcel != 0 => {
+                let by = bits(parcel, 12, 11, 4) | bits(parcel, 10, 7, 6);
+                let by = by | bits(parcel, 6, 6, 2) | bits(parcel, 5, 5, 3);
+                self.x[other] = self.x[2].wrapping_add(by);
+            }
+            (0, 2) => self.x[other] = self.load(a.wrapping_add(of_word), 4)?,
+            (0, 6) => self.store(a.wrapping_add(of_word), 4, self.x[other])?,
+            (1, 0) => self.set(rd, self.x[rd].wrapping_add(i)),
+            (1, 1 | 5) => {
+                let by = bits(parcel, 12, 12, 11) | bits(parcel, 8, 8, 10) | bits(parcel, 10, 9, 8);
+                let by = by | bits(parcel, 6, 6, 7) | bits(parcel, 7, 7, 6) | bits(parcel, 2, 2, 5);
+                let by = by | bits(parcel, 11, 11, 4) | bits(parcel, 5, 3, 1);
+                if parcel >> 13 == 1 {
+                    self.x[1] = next;
+                }
+                next = self.pc.wrapping_add(sign(by, 12));
+            }
+            (1, 2) => self.set(rd, i),
+            (1, 3) if rd == 2 => {
+                let by = bits(parcel, 12, 12, 9) | bits(parcel, 4, 3, 7) | bits(parcel, 5, 5, 6);
+                let by = by | bits(parcel, 2, 2, 5) | bits(parcel, 6, 6, 4);
+                self.x[2] = self.x[2].wrapping_add(sign(by, 10));
+            }
+            (1, 3) => self.set(rd, i << 12),
+            (1, 4) => {
+                self.x[short] = match (bits(parcel, 12, 10, 0), bits(parcel, 6, 5, 0)) {
+                    (0, _) => a >> rs2,
+                    (1, _) => (a as i32 >> rs2) as u32,
+                    (2 | 6, _) => a & i,
+                    (3, 0) => a.wrapping_sub(self.x[other]),
+                    (3, 1) => a ^ self.x[other],
+                    (3, 2) => a | self.x[other],
+                    (3, 3) => a & self.x[other],
+                    _ => return Err(Stop::Trap),
+                }
+            }
+            (1, test @ (6 | 7)) => {
+                if (a == 0) == (test == 6) {
+                    let by = bits(parcel, 12, 12, 8) | bits(parcel, 6, 5, 6);
+                    let by = by | bits(parcel, 2, 2, 5) | bits(parcel, 11, 10, 3);
+                    let by = by | bits(parcel, 4, 3, 1);
+                    next = self.pc.wrapping_add(sign(by, 9));
+                }
+            }
+            (2, 0) => self.set(rd, self.x[rd] << rs2),
+            (2, 2) => {
+                let by = bits(parcel, 12, 12, 5) | bits(parcel, 6, 4, 2) | bits(parcel, 3, 2, 6);
+                self.set(rd, self.load(self.x[2].wrapping_add(by), 4)?);
+            }
+            (2, 4) => match (parcel >> 12 & 1, rs2) {
+                (0, 0) => next = self.x[rd] & !1,
+                (0, _) => self.set(rd, self.x[rs2]),
+                (_, 0) if rd == 0 => return Err(Stop::Trap),
+                (_, 0) => (self.x[1], next) = (next, self.x[rd] & !1),
+                _ => self.set(rd, self.x[rd].wrapping_add(self.x[rs2])),
+            },
+            (2, 6) => {
+                let by = bits(parcel, 12, 9, 2) | bits(parcel, 8, 7, 6);
+                self.store(self.x[2].wrapping_add(by), 4, self.x[rs2])?;
+            }
             _ => return Err(Stop::Trap),
         }
         self.pc = next;

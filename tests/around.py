@@ -1,8 +1,10 @@
-"""Checks of what stands around the program: the script ./tock, examples/tour, examples/pack and the Makefile there, and
-tools/timeline; and those that compare two runs of the program. `checks` gives each with its name, for tests/run."""
+"""Checks of what stands around the program: the script ./tock, examples/tour, examples/pack and the Makefile there,
+tools/timeline, and tock_look, the program beside it; and those that compare two runs of the program. `checks` gives
+each with its name, for tests/run."""
 
 import os
 import re
+import shlex
 import shutil
 import subprocess
 import tempfile
@@ -11,6 +13,7 @@ from cases import BREAKPOINT, CASES, ECHO, EXIT_7, REPOSITORY, SPINS, WAKES, dra
 from images import A0, A1, app, lw, mv, padding, permissions_tlv, S1
 
 TOCK, EXAMPLES = os.path.join(REPOSITORY, "tock"), os.path.join(REPOSITORY, "examples")
+LOOK = os.path.join("crates", "tock_look", "out", "tock_look")
 
 # What ./tock tells on standard error of the runs of these cases.
 TOLD = [
@@ -233,11 +236,13 @@ def partitioned_pair(program):
 
     script = contents(os.path.join(EXAMPLES, "partition.script"))
     without = re.sub(rb"(?m)^partition .*$", b"", script)
+    page = contents(os.path.join(REPOSITORY, "docs", "applications.md")).decode()
+    lines = int(re.search(r"tells of both the same (\d+) lines of slot 1", page)[1])
     with tempfile.TemporaryDirectory() as folder:
         for slot, pair in ((1, images("beside_quiet", "beside_hostile")), (0, images("victim", "spied"))):
             one, other = [lines_of(program, folder, image, script, slot)[:2] for image in pair]
-            if one != other or len(one[0]) < 30 or len(one[1]) != 1:
-                return "slot %d differs, or tells nothing: %r" % (slot, other)
+            if one != other or len(one[0]) != lines or len(one[1]) != 1:
+                return "slot %d differs, or has not %d lines: %r" % (slot, lines, other)
             one, other = [lines_of(program, folder, image, without, slot)[0] for image in pair]
             if one == other:
                 return "without partitions slot %d does not differ" % slot
@@ -281,6 +286,42 @@ def until(told, end):
 def contents(path):
     with open(path, "rb") as file:
         return file.read()
+
+
+# Words that are no commands of tock_look, behind those of two files; and files that a run refuses.
+NO_COMMANDS = [["at 16"], ["boot", "steps 0 4294967296"], ["at  0"], ["memory 0 x 1"], ["state", ""]]
+BAD_FILES = [["none", "none"], ["greet.bin", "none"], ["greet.bin", "greet.bin"]]
+
+
+def looking(program):
+    """tock_look writes what its page shows; its trace and its state at the end are those of the program; words that are
+    no commands have the usage line, and bad files are refused as the program refuses them."""
+    look = os.path.join(REPOSITORY, LOOK)
+    page = contents(os.path.join(REPOSITORY, "docs", "looking.md")).decode()
+    blocks = [block.replace("\n    ", "\n")[4:] for block in re.findall(r"(?:^    .*\n)+", page, re.M)]
+    shown = [(block, after) for block, after in zip(blocks, blocks[1:]) if block.startswith(LOOK)]
+    if len(shown) != 1:
+        return "docs/looking.md shows %d runs" % len(shown)
+    end = run(shlex.split(shown[0][0]), cwd=REPOSITORY)
+    if (end.returncode, end.stdout, end.stderr) != (0, shown[0][1], ""):
+        return "docs/looking.md shows another text than %r" % end.stdout
+    files = ["together.bin", "operator.script"]
+    trace, report = run([program, "trace"] + files + ["--turns", "1000"], cwd=EXAMPLES).stdout.split("==\n")
+    end = run([look] + files + ["trace 0 50", "trace 0 1000", "state"], cwd=EXAMPLES)
+    told = "".join(re.findall(r"^@.*\n", end.stdout, re.M))
+    state = re.findall(r"^(?:slot|leds|end) .*\n", end.stdout, re.M)
+    if (end.returncode, told, "".join(state)) != (0, trace, report):
+        return "another trace or another end than that of the program: %r" % end.stdout
+    for words in NO_COMMANDS:
+        end = run([look] + files + words, cwd=EXAMPLES)
+        if (end.returncode, end.stdout) != (2, "usage: tock_look FLASH SCRIPT COMMAND ..\n"):
+            return "%s: %d, %r" % (words, end.returncode, end.stdout)
+    for words in BAD_FILES:
+        end = run([look] + words + ["boot"], cwd=EXAMPLES)
+        other = run([program, "boot"] + words + ["--turns", "1"], cwd=EXAMPLES)
+        if (end.returncode, end.stdout) != (other.returncode, other.stdout) or end.returncode == 0:
+            return "%s: %d, %r" % (words, end.returncode, end.stdout)
+    return None
 
 
 def pack():
@@ -347,4 +388,8 @@ def checks(program, has_compiler):
               ("partition-neighbours", lambda: partition_neighbours(program))]
     if has_compiler:
         found.append(("own-application", lambda: own_application(program)))
+    if os.path.exists(os.path.join(REPOSITORY, LOOK)):
+        found.append(("looking", lambda: looking(program)))
+    else:
+        print("looking: not tried, since %s is not built" % LOOK)
     return found

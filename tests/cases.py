@@ -2,10 +2,12 @@
 answer and the text that the program must give.
 
 The applications are written here instruction by instruction, but for those in C, and the expected texts come from
-the rules in docs/definitions.md; none was taken from the program. A text is laid out with its lines indented alike.
+the rules to which docs/definitions.md leads; none was taken from the program. A text is laid out with its lines indented alike.
 """
 
 import os
+import struct
+import zlib
 from dataclasses import dataclass
 from inspect import cleandoc
 
@@ -518,6 +520,14 @@ DRAWS_HERE = swap(READ_WRITE, RANDOM, 0, RAM, 4), command(RANDOM, 1, 4)
 SHOWS_THERE = swap(READABLE, ALARM, 0, RAM + 2, 4), TIME
 
 READABLES = [
+    boot("clock-at-the-start-of-ram", "a process reads the time of its own command 2, before which it made ten turns",
+         app(mv(S0, A1), li(A4, 7), li(A0, ALARM), li(A1, 0), mv(A2, S0), li(A3, 4), ecall,
+             li(A4, 2), li(A0, ALARM), li(A1, 2), ecall, lw(A1, S0), exits()), """
+        ==
+        slot 0 - terminated 10 turns 15 restarts 0
+        leds 0000
+        end done steps 15 time 15
+    """),
     tells("clock-in-a-readable-buffer", "command 2 shows the clock where its process reads it",
           time_after(SHOWS, TIME), SHOWS, TIME, FIRST_WORD),
     tells("clock-without-a-buffer", "and nowhere, where no buffer was allowed", 0, TIME, FIRST_WORD),
@@ -622,6 +632,20 @@ READS_4 = app(mv(S0, A0), mv(S1, A1), lends(READ_WRITE, CONSOLE, 1, 8), *hands(S
 AWAITS = app(command(ALARM, 5, 20), waits_for(ALARM, 0), mv(A1, A0), exits())
 
 WAITS = [
+    boot("wait-for-an-alarm-alone", "the alarm's upcall tells tick 24, 20 ticks after the command that armed it",
+         app(li(A4, 2), li(A0, ALARM), li(A1, 5), li(A2, 20), ecall, waits_for(ALARM, 0), mv(A1, A0), exits()), """
+        ==
+        slot 0 - terminated 24 turns 15 restarts 0
+        leds 0000
+        end done steps 17 time 29
+    """),
+    boot("wait-for-an-alarm-that-is-not-armed", "nothing comes, and the report tells for what it waits",
+         app(waits_for(ALARM, 0)), """
+        ==
+        slot 0 - waiting 00000000 0 turns 5 restarts 0
+        leds 0000
+        end done steps 5 time 5
+    """),
     boot("wait-for-one-upcall", "the arguments come in a0 to a2, though no function was subscribed", AWAITS, """
         ==
         slot 0 - terminated 25 turns 16 restarts 0
@@ -1197,6 +1221,11 @@ IMAGES = [
     listing("list-of-an-image-with-padding", "padding is listed, and has no name", blink(b"\xff" * 12), """
         object 0 96 app blink
         object 96 16 padding -
+        objects 2
+    """),
+    listing("list-of-one-file-packed-twice", "its objects stand one behind another", EXIT_7 + EXIT_7, """
+        object 0 64 app -
+        object 64 64 app -
         objects 2
     """),
     listing("list-of-an-empty-flash", "there may be no object", b"", "objects 0"),
@@ -2219,6 +2248,25 @@ VICTIMS = VICTIM_SAYS * 3
 MINE = "all time and the line are mine, all time and the line are mine\n"
 VICTIMS_LINE = "slot 0 victim terminated 0 turns 2044 restarts 0\n"
 
+
+def crunched(rounds):
+    """What examples/crunch has as its checksum after so many rounds."""
+    primes = [number for number in range(2, 1000) if all(number % divisor for divisor in range(2, number))]
+    checksum = 1
+    for _ in range(rounds):
+        numbers = []
+        for _ in range(64):
+            checksum = (checksum * 1664525 + 1013904223) % 2 ** 32
+            numbers.append(checksum)
+        for place, prime in enumerate(primes):
+            numbers[place % 64] -= numbers[place % 64] % prime
+        rows = [numbers[start:start + 8] for start in range(0, 64, 8)]
+        products = [sum(one * other for one, other in zip(row, column)) % 2 ** 32
+                    for row in rows for column in zip(*rows)]
+        checksum = zlib.crc32(struct.pack("<64I", *sorted(products)))
+    return checksum
+
+
 APPLICATIONS = [
     kept("blink", "an LED goes on and off by the alarm, a tenth of a second each, and is lit at the end",
          "blink", "empty", """
@@ -2268,6 +2316,13 @@ APPLICATIONS = [
         leds 0000
         end done steps 1143 time 1141
     """),
+    kept("crunch", "a sieve, a product of matrices, a sort and a CRC-32, round after round without an end",
+         "crunch", "empty", "".join("%08x\n" % crunched(rounds) for rounds in (1, 2, 4, 8)) + """\
+==
+slot 0 crunch running turns 499988 restarts 0
+leds 0000
+end turns steps 500000 time 499996
+""", turns=500000),
     kept("permissions", "a header says what its process may ask for: one lights LEDs and may not print, one the reverse",
          "permissions", "empty", """
         no LED for me
@@ -2356,8 +2411,8 @@ end done steps 9516 time 120108
 ]
 
 # What examples/tour runs, in its order.
-TOUR = ["greet", "echo-in-c", "blink", "clock", "doze", "press", "logger", "random-in-c", "trespass", "applications-in-c", "permissions",
-        "crash", "victim", "spied", "lanes", "beside-quiet", "beside-hostile"]
+TOUR = ["greet", "echo-in-c", "blink", "clock", "doze", "press", "logger", "random-in-c", "crunch", "trespass",
+        "applications-in-c", "permissions", "crash", "victim", "spied", "lanes", "beside-quiet", "beside-hostile"]
 
 # What the tool writes of an image is what the builder of objects makes of the changed object.
 TWO_NAMES = app(CODE_7, name="blink", elements=[package_name_tlv("other")])

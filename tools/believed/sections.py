@@ -49,7 +49,7 @@ PREMISES = """\
 What a file holds and what was written are known by what the shelf and the sink tell. Shelves and sinks in memory tell
 their bytes. The two adapters of the built program, for the files of the host and its standard output, tell none: of
 them the contract says no bytes. Beside the contract a reader trusts the checker, the compiler, the library of the kit,
-and what the host does under the two adapters."""
+the statements of the ported crates, the tool that makes this page, and what the host does under the two adapters."""
 
 # What of its words the head comment of a file says that is the source of its definitions.
 SOURCES = ["TRD 104", "Tock Binary Format", "Levy et al.", "manual", "Tock", "this board's own", "this tool's own"]

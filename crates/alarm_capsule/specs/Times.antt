@@ -1,4 +1,4 @@
--- What kept times tell of alarms. Only proofs use this.
+-- What kept times tell of alarms: the calls that take such times ask for it. It is this board's own rule.
 use Rattle.std.specs.Prelude.{◌≡◌, ◌≢◌, ◌<◌, ℕ, ◌-◌, ◌^◌, true, List, Option, None, Some, slice_get, slice_index_or}
 use Rattle.std.specs.Prelude.{Bool, false, fold, nat_lt, option_and_then, IfSome}
 use Rattle.std.specs.List.{range_with_len}

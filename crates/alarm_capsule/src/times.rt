@@ -165,25 +165,38 @@ impl AlarmTimes {
         self.keep(slot, due_time(home, slot, now, time));
     }
 
-    /// The alarm of the process in a slot fired. It asks that it has none armed any more, and that the
-    /// times that are kept tell of all others; then they tell of all.
+    /// The alarm of the process in a slot fired, or its life ended. It asks that it has none armed any
+    /// more, or no ticks are left of any, and that the times that are kept tell of all others; then
+    /// they tell of all.
+    #[inline(always)]
     pub fn forget(&mut self, slot: Slot)
-        ensures { (now time : ℕ) (home : Homes) → OthersTell slot now time self.old home.owns
+        ensures fired { (now time : ℕ) (home : Homes) → OthersTell slot now time self.old home.owns
             → alarm_in (own_of home slot) ≡ None → AllTell now time self.new home.owns }
+        ensures gone { (now time : ℕ) (home : Homes) → OthersTell slot now time self.old home.owns
+            → ticks_left_in now home.owns slot ≡ None → AllTell now time self.new home.owns }
     {
         self.keep(slot, None);
     }
 
-    /// Keeps another time of one slot. Where none was kept of it, the nearest is the nearer of the
-    /// two, and no other slot is looked at.
+    /// Keeps a time of one slot.
+    // Inlined is whether it is another one: most often none was kept, and none is.
+    #[inline(always)]
     fn keep(&mut self, slot: Slot, due: Option<u64>)
         ensures there { slot < length self.old }
         ensures kept { self.new ≡ slice_set self.old slot due }
     {
-        let before = self.times[slot.index()];
-        if due == before {
-            return;
+        if due != self.times[slot.index()] {
+            self.change(slot, due);
         }
+    }
+
+    /// Keeps another time of one slot. Where none was kept of it, the nearest is the nearer of the
+    /// two, and no other slot is looked at.
+    #[inline(never)]
+    fn change(&mut self, slot: Slot, due: Option<u64>)
+        ensures { self.new ≡ slice_set self.old slot due }
+    {
+        let before = self.times[slot.index()];
         self.times[slot.index()] = due;
         if before.is_some() {
             (self.nearest, self.first) = nearest_of(&self.times);

@@ -17,8 +17,8 @@ use Rattle.board_core.specs.declared.play.PlayEnd.{PlayEnd}
 use Rattle.board_core.specs.declared.play.PlayEnd.TheVariants.{NotReady, Failed}
 
 -- Choices were made: each was ready in its turn, and the world is the one after them. So the record of each process is
--- the replay of its own turns, and of what devices answered it, meanwhile; and each of the steps is accounted for: each
--- byte of a process that it changed has its cause, each access was permitted, each denial due.
+-- the replay of its own turns and of the answers to it meanwhile; and each of the steps is accounted for: each byte of
+-- a process that it changed has its cause, each access was permitted, each denial due.
 pub record ChoicesMade (old new : World) (choices : List Choice) : Type 0 where
   pub ready : are_ready old choices ≡ true
   pub world : new ≡ after_all old choices

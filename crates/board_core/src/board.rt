@@ -313,8 +313,8 @@ impl Board {
     /// each process that is told of it, and nothing else schedules any of the buttons; an
     /// operator's act changes the record of the process that it names, that process's requests in
     /// the waiting lists, what is still to come in and the count of steps, and nothing else of the
-    /// board. The record of each process is the replay of its own turn, or of what the device
-    /// answers it, and as it was where the step is neither.
+    /// board. The record of each process is the replay of its own turn, of what the device tells it
+    /// or of an operator's act on it, and as it was where the step is none of these.
     #[inline(always)]
     pub fn step(&mut self, choice: Choice, emit: &mut Emit) -> Result<(), NotReady>
         ensures ready { IsOk result ↔ IsTrue (is_ready self.old choice) }

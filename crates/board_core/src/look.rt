@@ -1,5 +1,6 @@
 //! What there is to see of one process on a board, and of those that wait.
-ghost use Rattle.std.specs.Prelude.{◌≡◌, All, map, slice_get};
+ghost use Rattle.std.specs.Prelude.{◌≡◌, ◌-◌, All, map, slice_get};
+ghost use Rattle.grant_model.specs.Encoding.{encode_grants};
 ghost use Rattle.std.specs.Option.{option_copied, option_map};
 ghost use Rattle.process_model.specs.Own.{block_of, layout_of};
 ghost use Rattle.grant_enter.specs.Homes.{living};
@@ -11,12 +12,26 @@ use process_layout::Layout;
 use process_record::Process;
 use tk_base::{Dev, ProcessId, Slot, Upcall};
 
+/// How many bytes of a block lie below the kernel break.
+fn own_bytes(layout: &Layout) -> usize
+    ensures { result ≡ layout.now.kernel_break - layout.now.start }
+{
+    (layout.kernel_break - layout.start) as usize
+}
+
 impl Board {
     /// The time, in ticks.
     pub fn time(&self) -> u64
         ensures { result ≡ self.now.clock.time }
     {
         self.state.machine.moment.time
+    }
+
+    /// How many steps were made.
+    pub fn steps(&self) -> u64
+        ensures { result ≡ self.now.clock.steps }
+    {
+        self.state.machine.moment.steps
     }
 
     /// The process in a slot: its registers, its state, its counts, its last denial and its last
@@ -51,6 +66,20 @@ impl Board {
             return None;
         }
         Some(self.state.machine.home.block(slot))
+    }
+
+    /// The grants of the process in a slot, as they lie in its block from the kernel break on.
+    pub fn grants(&self, slot: Slot) -> Option<&[u8]>
+        ensures { option_copied result
+            ≡ option_map (λ r. encode_grants r.own.grants) (slice_get self.now.records slot) }
+    {
+        if slot.index() >= self.state.processes.len() {
+            return None;
+        }
+        self.state.machine.home.owns_lie_in_place();
+        let layout = self.state.machine.home.layout(slot);
+        let below = own_bytes(&layout);
+        Some(self.state.machine.home.block(slot).split_at(below).1)
     }
 
     /// The bytes of storage of the process in a slot.

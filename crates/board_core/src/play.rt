@@ -30,8 +30,8 @@ impl Board {
     /// that. No memory is taken.
     ///
     /// With time partitions, and where the choices are the board's own, what a slot's process does,
-    /// and when, is the same in any other world that is alike in that slot
-    /// ([`a_partition_sees_itself_alone`]).
+    /// and when, is the same in a run of any other world that is alike in that slot, up to each
+    /// time that both have reached ([`a_partition_sees_itself_alone`]).
     pub fn play<K: Sink>(&mut self, choices: &[Choice], out: &mut K) -> Result<(), PlayEnd>
         ensures { Plays K.tells self.old self.new choices.now out.old out.new result }
     {

@@ -94,6 +94,7 @@ impl Drivers {
 
     /// The process of an id ended, or starts again: it waits in no list any more. Its alarm went
     /// with its grant.
+    #[inline(always)]
     pub fn gone(&mut self, id: &ProcessId)
         ensures { (life : ℕ)
             → Drives (record { slot = id.now.slot; life = life }) leaving_all self.old self.new }

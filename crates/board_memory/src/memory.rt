@@ -4,6 +4,7 @@ ghost use Rattle.tk_base.specs.declared.access.TheConstants.{RAM_START};
 ghost use Rattle.std.specs.Borrow.{sem};
 ghost use Rattle.board_memory.specs.Bytes.{StoresLieIn};
 
+use crate::flash::Flash;
 use crate::parts::Block;
 use crate::view::View;
 use pmp_regions::Pmp;
@@ -16,7 +17,7 @@ use tk_base::{Addr, FLASH_START, NoMemory, RAM_START};
 /// has the address [`RAM_START`]. All processes have their blocks in the one RAM.
 #[derive(Drop)]
 pub struct Memory {
-    flash: Vec<u8>,
+    flash: Flash,
     ram: Vec<u8>,
 }
 
@@ -25,7 +26,7 @@ impl Model for Memory {
 
     ghost Value = { MemoryBytes };
 
-    ghost view = { λ m. record { flash = m.flash.items; ram = m.ram.items } };
+    ghost view = { λ m. record { flash = m.flash; ram = m.ram.items } };
 }
 
 impl Memory {
@@ -39,14 +40,23 @@ impl Memory {
             (λ memory. memory ≡ record { flash = flash.items; ram = replicate ram 0 }) }
     {
         let ram = vec![in alloc; 0u8; ram as usize]?;
+        let flash = Flash::new(alloc, flash)?;
         Ok(Memory { flash, ram })
+    }
+
+    /// Decodes the instructions of flash between two addresses, so that they need not be decoded when they are
+    /// executed.
+    pub fn decode(&mut self, from: Addr, to: Addr)
+        ensures { self.new ≡ self.old }
+    {
+        self.flash.decode(from, to);
     }
 
     /// The bytes of flash.
     pub fn flash(&self) -> &[u8]
         ensures { result.now ≡ self.now.flash }
     {
-        &self.flash
+        self.flash.bytes()
     }
 
     /// Makes every byte of a block 0. Nothing else of memory changes.
@@ -67,7 +77,9 @@ impl Memory {
         ensures ram { result.ram.now ≡ self.old.ram }
         ensures pmp { result.pmp.now ≡ pmp.now }
     {
-        View::new(self.flash.as_slice(), self.ram.as_mut_slice(), pmp)
+        let flash = &self.flash;
+        let ram = self.ram.as_mut_slice();
+        View::new(flash.bytes(), flash.entries(), ram, pmp)
     }
 
     /// The accessible flash of a process, and its block with the place of the kernel break in it. What is
@@ -87,7 +99,7 @@ impl Memory {
         );
         let (from, to) = (layout.start - RAM_START, layout.end - RAM_START);
         let cut = (layout.kernel_break - layout.start) as usize;
-        let flash = &self.flash.as_slice()[flash_from as usize..flash_to as usize];
+        let flash = &self.flash.bytes()[flash_from as usize..flash_to as usize];
         Block::new(flash, self.ram.slice_mut(from as usize..to as usize), cut)
     }
 

@@ -1,7 +1,7 @@
 -- What is so of the processes of an opening world.
 use Rattle.std.proofs.Common.{◌≡◌, ◌≢◌, ◌≤◌, ℕ, zero, suc, ◌+◌, ◌-◌, ◌%◌, ◌==◌, nat_le, nat_lt, Bool, true, false, cond}
 use Rattle.std.proofs.Common.{not, ◌||◌, arith, List, [], ◌∷◌, slice_get, Option, None, Some, is_some, IfSome, Result}
-use Rattle.std.proofs.Common.{Ok, Err, All, length, ◌<◌, refl, sym, ap, subst, ◌∙◌}
+use Rattle.std.proofs.Common.{Ok, Err, All, length, replicate, ◌<◌, refl, sym, ap, subst, ◌∙◌}
 use Rattle.std.specs.List.{cons_option, filter_map}
 use Rattle.std.specs.Option.{option_map}
 use Rattle.std.proofs.lemmas.Bool.{false≢true}
@@ -39,6 +39,7 @@ use Rattle.process_model.proofs.Changes.{keeps_none}
 use Rattle.process_model.specs.Pairs.{OnlyHandingChangesPairs}
 use Rattle.driver_model.specs.Keeping.{IsInOrder, IsSettled}
 use Rattle.kernel_model.specs.Wholes.{HasWholeOwn}
+use Rattle.kernel_lives.specs.Ended.{IsFreeOnceEnded}
 use Rattle.kernel_lives.specs.Lists.{ListsAreOfRequests, asks_at, once_if, times_in}
 use Rattle.board_drivers.proofs.Routing.{slots_by}
 use Rattle.kernel_model.specs.Lives.{AreApart, BlocksAreApart, HasOrder, HasPendingWithinLimit, IsAsAtFirst, IsAtFirst}
@@ -260,6 +261,15 @@ lives_first storage flash low r o = subst LivesAsItRuns (sym o.is) (record {
   application = ap (λ (x : Result Meaning HeaderFault). is_some (main_by x)) o.read ∙ ap is_some o.has;
 })
 
+free_first : (storage : ℕ) (flash : List ℕ) (low : ℕ) (r : Record) → IsOpened storage flash low r → IsFreeOnceEnded r
+unfolding opening_record
+free_first storage flash low r o = subst IsFreeOnceEnded (sym o.is) (λ over. refl)
+
+erased_first : (storage : ℕ) (flash : List ℕ) (low : ℕ) (r : Record) → IsOpened storage flash low r
+    → r.storage ≡ replicate storage 0xFF
+unfolding opening_record
+erased_first storage flash low r o = ap (λ (x : Record). x.storage) o.is
+
 pending_first : (storage : ℕ) (flash : List ℕ) (low : ℕ) (r : Record) → IsOpened storage flash low r
     → HasPendingWithinLimit r
 unfolding opening_record
@@ -322,6 +332,18 @@ pub opens_living : (script : Script) (flash : List ℕ) (slot : ℕ)
 opens_living script flash slot =
     of_each script.storage flash RAM_START LivesAsItRuns (lives_first script.storage flash)
     (opening script flash).records (opening_opened script flash) slot
+
+pub opens_free : (script : Script) (flash : List ℕ) (slot : ℕ)
+    → IfSome (slice_get (opening script flash).records slot) IsFreeOnceEnded
+opens_free script flash slot =
+    of_each script.storage flash RAM_START IsFreeOnceEnded (free_first script.storage flash)
+    (opening script flash).records (opening_opened script flash) slot
+
+pub opens_erased : (script : Script) (flash : List ℕ) (slot : ℕ)
+    → IfSome (slice_get (opening script flash).records slot) (λ r. r.storage ≡ replicate script.storage 0xFF)
+opens_erased script flash slot =
+    of_each script.storage flash RAM_START (λ r. r.storage ≡ replicate script.storage 0xFF)
+    (erased_first script.storage flash) (opening script flash).records (opening_opened script flash) slot
 
 pub opens_in_order : (script : Script) (flash : List ℕ) (slot : ℕ)
     → IfSome (slice_get (opening script flash).records slot) HasOrder

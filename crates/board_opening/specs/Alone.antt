@@ -16,7 +16,8 @@ use Rattle.kernel_model.specs.World.{World}
 use Rattle.kernel_model.specs.declared.settings.Settings.{Settings}
 use Rattle.board_opening.specs.Opening.{first_record, opening}
 
--- after some choices the record of each process is the replay of its own turns, and of what devices answered it
+-- after some choices the record of each process is the replay of its own turns, and of the answers to it: of devices,
+-- by an edge of a button, by an operator's act
 abbrev pub IsReplayed : World → World → List Choice → Type 0
 IsReplayed old new choices = (slot : ℕ) → slice_get new.records slot
     ≡ option_map (replay old.settings (history slot old choices)) (slice_get old.records slot)
@@ -34,7 +35,7 @@ abbrev pub first_alone : ℕ → List ℕ → ℕ → ℕ → Option Record
 first_alone storage object address start =
     of_app (λ h m. first_record storage object address (extents_of address start h m) h m) (header_reading object)
 
--- what becomes of it under settings, by its own turns and by what devices answer it
+-- what becomes of it under settings, by its own turns and answers
 abbrev pub alone : Settings → List ℕ → ℕ → ℕ → List Event → Option Record
 alone settings object address start view =
     option_map (replay settings view) (first_alone settings.storage object address start)

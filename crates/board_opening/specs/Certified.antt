@@ -1,22 +1,32 @@
 -- Laws of each run from a boot, by any choices. They speak of processes as Levy et al., SOSP 2017, and of buffers as
 -- TRD 104.
-use Rattle.std.specs.Prelude.{◌≡◌, ◌≢◌, ◌↔◌, ◌<◌, ℕ, ◌+◌, true, List, ◌++◌, length, slice_get, All, Some, None, IfSome}
+use Rattle.std.specs.Prelude.{◌≡◌, ◌≢◌, ◌↔◌, ◌≤◌, ◌<◌, ℕ, ◌+◌, true, false, replicate, List, ◌++◌, length, slice_get}
+use Rattle.std.specs.Prelude.{All, Some, None, IfSome}
 use Rattle.tk_base.specs.declared.process.Choice.{Choice}
+use Rattle.tk_base.specs.declared.process.Choice.TheVariants.{Pass}
+use Rattle.tk_base.specs.declared.process.Verb.TheVariants.{Restart}
 use Rattle.script_text.specs.Settings.{ScriptSettings as Script}
+use Rattle.process_record.specs.Process.{is_alive}
+use Rattle.driver_model.specs.Alarm.{due_alarm, ticks_left_of}
+use Rattle.driver_model.specs.Commands.{QueueName}
 use Rattle.kernel_model.specs.Record.{Record}
-use Rattle.kernel_model.specs.World.{World, Label, after, labels, lane_count}
+use Rattle.kernel_model.specs.Turn.{Act}
+use Rattle.kernel_model.specs.World.{World, Label, after, is_let, labels, lane_count, now_in, only_in}
 use Rattle.kernel_model.specs.Named.{words_in}
 use Rattle.kernel_model.specs.Run.{next, round}
 use Rattle.kernel_model.specs.Accounts.{IsAccountedFor}
 use Rattle.kernel_model.specs.Choices.{Throughout, are_ready, labels_of_all}
 use Rattle.kernel_model.specs.Replay.{after_all, chosen, history}
-use Rattle.kernel_histories.specs.Drops.{drops_of}
-use Rattle.kernel_lives.specs.Lists.{ListsAreOfRequests}
-use Rattle.kernel_laws.specs.OneRun.{NothingIsLeft}
-use Rattle.kernel_lives.specs.Counts.{ticks_passed, turns_made, turns_of_all}
-use Rattle.kernel_laws.specs.Words.{of_lane, words_told}
 use Rattle.kernel_model.specs.Causes.{AllHaveCauses}
 use Rattle.kernel_model.specs.Lives.{BlocksAreApart, IsAsAtFirst}
+use Rattle.kernel_laws.specs.Alarms.{takes_time}
+use Rattle.kernel_laws.specs.OneRun.{NothingIsLeft}
+use Rattle.kernel_laws.specs.Words.{of_lane, words_told}
+use Rattle.kernel_histories.specs.Drops.{drops_of}
+use Rattle.kernel_lives.specs.Lists.{ListsAreOfRequests, once_if}
+use Rattle.kernel_lives.specs.Requests.{asks_in, requests_begun, requests_completed}
+use Rattle.kernel_lives.specs.StoredBytes.{all_written, writes_in}
+use Rattle.kernel_lives.specs.Counts.{ticks_passed, turns_made, turns_of_all}
 use Rattle.board_opening.specs.Alone.{alone}
 use Rattle.board_opening.specs.Opening.{opening}
 
@@ -82,6 +92,47 @@ WordsFromBootAreTheScripts = (script : Script) (flash : List ℕ) (choices : Lis
 abbrev pub ChangesFromBootHaveCauses : Type 0
 ChangesFromBootHaveCauses = (script : Script) (flash : List ℕ) (choices : List Choice) →
     AllHaveCauses (opening script flash) choices
+
+-- once a process has ended after any choices from a boot, no further choices change its record as long as no operator
+-- has it start again, but for the buttons that it knows to be pressed
+abbrev pub EndedFromBootStays : Type 0
+EndedFromBootStays = (script : Script) (flash : List ℕ) (choices more : List Choice) (slot : ℕ) (r : Record) →
+    let v = after_all (opening script flash) choices in
+    slice_get v.records slot ≡ Some r → is_alive r.process.state ≡ false →
+    All (λ event. event ≢ Act Restart) (history slot v more) →
+    (pressed : ℕ) × (slice_get (after_all v more).records slot ≡ Some (record r { pressed = pressed }))
+
+-- after any choices from a boot a process's storage is erased bytes, 0xFF each, with the process's own served writes
+-- over them, one after another, through each end and start of it
+abbrev pub StorageFromBootIsMemory : Type 0
+StorageFromBootIsMemory = (script : Script) (flash : List ℕ) (choices : List Choice) (slot : ℕ) (first : Record) →
+    let w = opening script flash in
+    slice_get w.records slot ≡ Some first →
+    IfSome (slice_get (after_all w choices).records slot) (λ now.
+    now.storage
+    ≡ all_written (writes_in w.settings (history slot w choices) first) (replicate script.storage 0xFF))
+
+-- after any choices from a boot the answers that completed a request of a process in a queue, and the one that waits
+-- still, are no more than its requests that began to wait there
+abbrev pub RequestsFromBootCompleteOnce : Type 0
+RequestsFromBootCompleteOnce =
+    (script : Script) (flash : List ℕ) (choices : List Choice) (queue : QueueName) (slot : ℕ) →
+    let w = opening script flash in
+    requests_completed queue slot w choices + once_if (asks_in queue slot (after_all w choices))
+    ≤ requests_begun queue slot w choices
+
+-- In a world the next choice, of the round robin or of the windows, is no turn and no pass of time as long as the alarm
+-- of a process is due that may be served; and a pass ends when the next of these becomes due, if not before.
+pub record AlarmsAreExact (w : World) : Type 0 where
+  pub first : (choice : Choice) (slot : ℕ) (r : Record) → next w ≡ Some choice → takes_time choice ≡ true →
+      slice_get w.records slot ≡ Some r → is_let (only_in w) slot ≡ true → due_alarm (now_in w) r.own ≡ None
+  pub passes : (ticks slot : ℕ) (r : Record) → next w ≡ Some (Pass ticks) → slice_get w.records slot ≡ Some r →
+      is_let (only_in w) slot ≡ true → IfSome (ticks_left_of (now_in w) r.own) (λ left. ticks ≤ left)
+
+-- so it is in the world after any choices from a boot
+abbrev pub AlarmsFromBootAreExact : Type 0
+AlarmsFromBootAreExact = (script : Script) (flash : List ℕ) (choices : List Choice) →
+    AlarmsAreExact (after_all (opening script flash) choices)
 
 -- A run by round robin from a world, of at most so many steps: each of its steps is accounted for, and at its end the
 -- record of each process is what becomes of it alone, by its own turns and answers in that run, whatever others do.

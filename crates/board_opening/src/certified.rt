@@ -2,21 +2,26 @@
 ghost use Rattle.kernel_model.specs.Lives.{HasOrder, HasPendingWithinLimit, LivesAsItRuns};
 ghost use Rattle.kernel_model.specs.Prints.{PrintsItsBuffer, PrintsWhatItCouldLoad};
 ghost use Rattle.kernel_model.specs.Wholes.{HasWholeOwn};
+ghost use Rattle.kernel_lives.specs.Ended.{IsFreeOnceEnded};
+ghost use Rattle.kernel_lives.specs.OwnBuffers.{BuffersAreItsOwn};
+ghost use Rattle.board_opening.specs.Certified.{AlarmsFromBootAreExact, EndedFromBootStays};
 ghost use Rattle.board_opening.specs.Certified.{BlocksFromBootAreApart, ChangesFromBootHaveCauses};
 ghost use Rattle.board_opening.specs.Certified.{CountsFromBootAddUp, DropsFromBootAddUp};
 ghost use Rattle.board_opening.specs.Certified.{EachFromBoot};
 ghost use Rattle.board_opening.specs.Certified.{EachLabelFromBoot};
 ghost use Rattle.board_opening.specs.Certified.{IsDoneFromBoot, ListsFromBootAreOfRequests};
-ghost use Rattle.board_opening.specs.Certified.{RestartsFromBoot, RunsFromBootAreAccountedFor};
+ghost use Rattle.board_opening.specs.Certified.{RequestsFromBootCompleteOnce, RestartsFromBoot};
+ghost use Rattle.board_opening.specs.Certified.{RunsFromBootAreAccountedFor};
+ghost use Rattle.board_opening.specs.Certified.{StorageFromBootIsMemory};
 ghost use Rattle.board_opening.specs.Certified.{WordsFromBootAreTheScripts};
 
 use crate::laws::a_process_depends_on_its_own_view_alone;
 use kernel_histories::drops_add_up;
-use kernel_laws::{a_run_is_one_run, words_are_drawn_in_order};
+use kernel_laws::{a_run_is_one_run, alarms_fire_when_due, words_are_drawn_in_order};
 use kernel_lives::{
     lists_are_of_requests, owns_stay_whole, places_never_change, prints_are_of_buffers,
-    processes_live_as_they_run, restarts_are_as_opened, steps_are_accounted_for,
-    time_steps_and_turns_add_up,
+    processes_live_as_they_run, requests_complete_once, restarts_are_as_opened,
+    steps_are_accounted_for, storage_is_memory, time_steps_and_turns_add_up,
 };
 use process_model::only_handing_changes_pairs;
 
@@ -88,10 +93,13 @@ pub fn words_from_boot_are_the_scripts()
 
 /// Whatever choices are made after a boot: a process's own bytes end at its kernel break, where its
 /// grants begin, and each buffer that it has allowed lies in accessible flash, or in its RAM below
-/// the mark. No step changes a byte of a process without a cause among the step's labels (Levy et
-/// al., SOSP 2017; TRD 104, "Read-Only Allow", "Read-Write Allow").
+/// the mark; so each byte of a buffer lies in accessible RAM below the kernel break, and so off its
+/// grants, or, of a read-only one, in accessible flash. No step changes a byte of a process without
+/// a cause among the step's labels (Levy et al., SOSP 2017; TRD 104, "Read-Only Allow", "Read-Write
+/// Allow").
 pub fn changes_from_boot_have_causes()
     ensures whole { EachFromBoot HasWholeOwn }
+    ensures buffers { EachFromBoot BuffersAreItsOwn }
     ensures causes { ChangesFromBootHaveCauses }
 {
     only_handing_changes_pairs();
@@ -99,13 +107,15 @@ pub fn changes_from_boot_have_causes()
 }
 
 /// In each run by round robin from a boot, each byte of a process that changes has its cause. One
-/// below its kernel break is changed by an own permitted act, or lies in a buffer that the process
-/// then allowed to the driver which answers it; one of its grants, above, is changed in its own
-/// turn or by an answer to it; one of its storage by a served request of its own. Each access was
-/// permitted, each denial was due and is shown with its address and rule, and a refused call
-/// changed little. Each edge of a button scheduled one upcall for each process that was told of it,
-/// and nothing else scheduled any of the buttons. The record of each process is what becomes of it
-/// alone, by its own turns and answers (Levy et al., SOSP 2017).
+/// below its kernel break is changed by an own permitted act, also by the command that has it shown
+/// the clock, lies in a buffer that the process then allowed to the driver which answers it, or is
+/// zeroed where an operator starts the process again; one of its grants, above, is changed in its
+/// own turn or by an answer to it (of a device, by an edge of a button, or by an operator's act);
+/// one of its storage by a served write of its own. Each access was permitted, each denial was due
+/// and is shown with its address and rule, and a refused call changed little. Each edge of a button
+/// scheduled one upcall for each process that was told of it, and nothing else scheduled any of the
+/// buttons. The record of each process is what becomes of it alone, by its own turns and answers
+/// (Levy et al., SOSP 2017).
 pub fn runs_from_boot_are_accounted_for()
     ensures { RunsFromBootAreAccountedFor }
 {
@@ -116,11 +126,49 @@ pub fn runs_from_boot_are_accounted_for()
 
 /// Whatever choices are made after a boot, what a step prints is of the read-only buffer 1 that a
 /// process holds of the console before the step, one that lives and has a write waiting, and the
-/// process could load it there.
+/// process could load it there; or it is the line of a process that an operator lists.
 pub fn prints_from_boot_are_of_buffers()
     ensures prints { EachLabelFromBoot PrintsItsBuffer }
     ensures loads { EachLabelFromBoot PrintsWhatItCouldLoad }
 {
     only_handing_changes_pairs();
     prints_are_of_buffers();
+}
+
+/// Whatever choices are made after a boot, no process is held which has ended, so that it is
+/// neither Running nor Yielded; and its record changes no more as long as no operator has it start
+/// again, but for the buttons that it knows to be pressed (TRD 104, "Exit").
+pub fn ended_processes_from_boot_stay()
+    ensures free { EachFromBoot IsFreeOnceEnded }
+    ensures stay { EndedFromBootStays }
+{
+    processes_live_as_they_run();
+}
+
+/// Whatever choices are made after a boot, the storage of a process has each byte as the last of
+/// its own served writes that covers it left it, and 0xFF where none does, through each end and
+/// start of the process.
+pub fn storage_from_boot_is_memory()
+    ensures { StorageFromBootIsMemory }
+{
+    storage_is_memory();
+}
+
+/// Whatever choices are made after a boot: the next choice, of the round robin or of the windows,
+/// gives no process a turn and lets no time pass as long as the alarm of a process is due that may
+/// be served; and time that it lets pass ends when the next of these becomes due, if not before.
+pub fn alarms_from_boot_are_exact()
+    ensures { AlarmsFromBootAreExact }
+{
+    alarms_fire_when_due();
+    places_never_change();
+}
+
+/// Whatever choices are made after a boot, the answers that completed a request of a process in a
+/// queue, and the one that waits still, are no more than its requests that began to wait there.
+pub fn requests_from_boot_complete_once()
+    ensures { RequestsFromBootCompleteOnce }
+{
+    requests_complete_once();
+    lists_from_boot_are_of_requests();
 }

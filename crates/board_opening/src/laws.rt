@@ -26,8 +26,8 @@ pub fn swaps_from_boot_give_back_the_last()
 /// Whatever choices are made after a boot, each delivery to a process is of the upcall that it has
 /// subscribed at that moment, and was scheduled since it subscribed it, in the process's present
 /// life. One that asks for the upcall of a driver and a number alone gets the arguments of the first
-/// that waits then; where none waits, of the first that is scheduled from then on (TRD 104,
-/// "Subscribe", "Yield", "Exit").
+/// that waits then; where none waits, of the first that is scheduled from then on, if no operator
+/// ends its life before (TRD 104, "Subscribe", "Yield", "Exit").
 pub fn deliveries_from_boot_are_of_the_last()
     ensures last { DeliveriesFromBootAreOfTheLast }
     ensures waits { WaitsFromBootGetTheFirst }

@@ -191,7 +191,7 @@ silent [] = refl
 silent (step ∷ ss) = silent ss
 
 -- the lines of the steps of a run are its trace
-traced : (n : ℕ) (w : World) → flat_map step_lines (steps n w) ≡ trace_lines n w
+pub traced : (n : ℕ) (w : World) → flat_map step_lines (steps n w) ≡ trace_lines n w
 unfolding steps trace_lines
 traced zero w = refl
 traced (suc n) w = by_next (next w) (λ c. traced n (after w c))

@@ -1,14 +1,15 @@
 -- A run on its way.
 use Rattle.std.proofs.Common.{◌≡◌, ℕ, zero, suc, ◌+◌, ◌-◌, ◌*◌, ◌^◌, ◌<◌, ◌≤◌, List, [], ◌∷◌}
 use Rattle.std.proofs.Common.{◌++◌, slice_get, Option, None, Some, refl, sym, ap, subst, ◌∙◌, arith}
-use Rattle.std.proofs.Common.{append_assoc, append-nil}
+use Rattle.std.proofs.Common.{append_assoc, append-nil, Result}
 use Rattle.std.proofs.lemmas.Grind.{flat_map-append}
 use Rattle.std.specs.List.{flat_map}
 use Rattle.tk_base.specs.declared.limits.TheConstants.{PRINT_LIMIT}
 use Rattle.tk_base.specs.declared.process.Choice.{Choice}
 use Rattle.tk_base.specs.declared.process.Choice.TheVariants.{Run, Device, Pass}
 use Rattle.tk_outside.specs.Sink.{SinkFacts}
-use Rattle.tk_outside.specs.Writes.{WroteAll, WrotePart}
+use Rattle.tk_outside.specs.Writes.{WroteAll, WrotePart, Writes}
+use Rattle.tk_outside.specs.declared.failed.Failed.{Failed}
 use Rattle.gathered_output.specs.Laws.{PutsCompose}
 use Rattle.gathered_output.specs.Puts.{PutBehind}
 use Rattle.process_record.specs.declared.emit.Emit.{Emit}
@@ -279,3 +280,11 @@ begins tells mode n from old before telling law t = record {
     nothing Boot = omega arith
     nothing Trace = omega arith
     nothing Soak = omega arith
+
+-- what was put behind nothing is written, and nothing else
+pub put_and_flushed : {K : Type 0} {tells : K → SinkFacts} {a b : K} {gathered text : List ℕ} → PutsCompose tells
+    → (c : K) (r : Result (Unit {0}) Failed) → PutBehind tells a b [] gathered text → Writes tells b c gathered r
+    → Writes tells a c text r
+put_and_flushed {K} {tells} {a} {b} {gathered} {text} law c r p w =
+    subst (λ (t : List ℕ). Writes tells a c t r) (append-nil text)
+    (law.put_then_writes c [] r p (subst (λ (t : List ℕ). Writes tells b c t r) (sym (append-nil gathered)) w))

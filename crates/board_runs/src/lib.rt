@@ -5,4 +5,4 @@
 mod run;
 mod teller;
 
-pub use run::run_out;
+pub use run::{run_out, trace_out};

@@ -4,7 +4,7 @@ ghost use Rattle.tk_base.specs.declared.limits.TheConstants.{STEP_LIMIT};
 ghost use Rattle.tk_outside.specs.Writes.{Writes};
 ghost use Rattle.gathered_output.specs.Puts.{Puts};
 ghost use Rattle.kernel_model.specs.Run.{round, printed};
-ghost use Rattle.run_text.specs.RunText.{run_text, ending_text, IsWorldOf};
+ghost use Rattle.run_text.specs.RunText.{run_text, ending_text, trace_lines, IsWorldOf};
 ghost use Rattle.run_text.specs.Parts.{run_end_of, steps};
 ghost use Rattle.board_runs.specs.RunWriter.{steps_text, telling_of};
 
@@ -132,4 +132,21 @@ pub fn run_out<K: Sink>(
     let mut buffer = OutputBuffer::new();
     let telling = run_steps(board, mode, turns, &mut buffer, out)?;
     buffer.finish(&EndOfRun { telling, board }, out)
+}
+
+/// Runs the board as [`run_out`] does, and writes the lines of the steps alone.
+///
+/// [`Failed`] comes only where the sink's count of faults rose; a part of the lines was written then
+/// that lacks at least one byte, and the board shows a world of the run. No memory is taken.
+pub fn trace_out<K: Sink>(board: &mut Board, turns: u32, out: &mut K) -> Result<(), Failed>
+    requires { board.old.clock.steps + turns ≤ STEP_LIMIT }
+    ensures text { Writes K.tells out.old out.new (trace_lines turns board.old) result }
+    ensures last { OnOk result (board.new ≡ (round turns board.old).world) }
+    ensures some { OnErr result (IsWorldOf turns board.old board.new) }
+{
+    writes_compose::<K>();
+    puts_compose::<K>();
+    let mut buffer = OutputBuffer::new();
+    let _telling = run_steps(board, Mode::Trace, turns, &mut buffer, out)?;
+    buffer.flush(out)
 }

@@ -15,3 +15,4 @@ pub mod Tables
 pub mod InWindows
 pub mod KnownEnds
 pub mod Counted
+pub mod Gone

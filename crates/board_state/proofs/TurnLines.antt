@@ -6,7 +6,12 @@ use Rattle.alarm_capsule.specs.Times.{OthersTell}
 use Rattle.driver_model.specs.Laws.{TimeBringsNearer}
 use Rattle.kernel_alarms.specs.Acting.{AlarmsChangeAtTheirCommands, HasSameAlarm, QuietTurnsLeaveAlarms}
 use Rattle.kernel_alarms.specs.Acting.{may_have_acted, may_have_armed}
-use Rattle.board_state.proofs.SameAlarms.{same_alarms_tell}
+use Rattle.board_state.proofs.SameAlarms.{same_alarms_calm, same_alarms_tell}
+use Rattle.board_turns.proofs.Denied.{HasNoneArmed, denied_none}
+use Rattle.board_state.proofs.Gone.{gone_calm, none_left_there, unarmed_calm}
+use Rattle.board_drivers.proofs.Calm.{idle_calm, later_calm}
+use Rattle.tk_base.specs.declared.access.Denial.{Denial}
+use Rattle.driver_model.specs.Alarm.{ticks_left_in}
 use Rattle.std.proofs.Common.{◌≡◌, ℕ, ◌+◌, ◌<◌, ◌≤◌, ◌&&◌, not, Bool, true, false, if◌then◌else◌, List, [], length}
 use Rattle.std.proofs.Common.{All, slice_get}
 use Rattle.std.proofs.Common.{slice_set, is_some, Option, None, Some, Result, Ok, Err, refl, sym, ap, ap₂, subst, ◌∙◌, arith}
@@ -19,7 +24,7 @@ use Rattle.process_layout.specs.Bounds.{Bounds}
 use Rattle.tk_base.specs.declared.process.ProcessId.{ProcessId}
 use Rattle.process_model.specs.Own.{Own}
 use Rattle.process_record.specs.declared.process.Process.{Process}
-use Rattle.driver_model.specs.Commands.{BoardRequest, QueueName}
+use Rattle.driver_model.specs.Commands.{BoardRequest, QueueName, leaving_all}
 use Rattle.driver_model.specs.Lines.{IsWithin, RequestOf, has_waiting, kind_in}
 use Rattle.driver_model.specs.Requests.{request_in}
 use Rattle.grant_enter.specs.Homes.{Homes, nobody, own_of}
@@ -114,7 +119,7 @@ module _ (b : BoardState) (slot : ℕ) (x : Machine) (processes : List Process) 
       (law b.machine.moment.settings b.machine.moment.time seen (ap₂ may_have_armed says.call says.denial ∙ unarmed))
 
   -- and one that did not act asks nothing of the drivers either
-  pub turn_is_idle : QuietTurnsLeaveAlarms → may_have_acted shown.call shown.denial ≡ false
+  turn_is_idle : QuietTurnsLeaveAlarms → may_have_acted shown.call shown.denial ≡ false
       → HasSameAlarm t.at.before.1 t.at.after.1 × Drives (id_of slot t.at.before.1) [] b.machine.drivers x.drivers
   turn_is_idle law quiet =
       let says = (t.turns []).1 in
@@ -124,6 +129,54 @@ module _ (b : BoardState) (slot : ℕ) (x : Machine) (processes : List Process) 
         subst (λ (acts : List BoardRequest). Drives (id_of slot t.at.before.1) acts b.machine.drivers x.drivers)
             leaves.1 drives,
       )
+
+  -- one that shows a denial leaves no alarm armed, and has its process leave all queues
+  turn_is_denied : is_some shown.denial ≡ true
+      → HasNoneArmed t.at.after.1 × Drives (id_of slot t.at.before.1) leaving_all b.machine.drivers x.drivers
+  turn_is_denied denied =
+      let says = (t.turns []).1 in
+      let leaves = denied_none b.machine.moment.settings b.machine.moment.time seen
+      (can_start_again t.at.before.0.object.address t.at.before.1.layout (header_reading seen.object)
+      seat.own.object.application) (ap is_some says.denial ∙ denied) in (
+        subst HasNoneArmed own_is leaves.0,
+        subst (λ (acts : List BoardRequest). Drives (id_of slot t.at.before.1) acts b.machine.drivers x.drivers)
+            leaves.1 drives,
+      )
+
+  -- so no ticks are left of one
+  pub none_left_after : is_some shown.denial ≡ true → (now : ℕ) → ticks_left_in now x.home.owns slot ≡ None
+  none_left_after denied now =
+      subst (λ (y : Homes). ticks_left_in now y.owns slot ≡ None) (sym t.at.own_is)
+      (none_left_there slot b.machine.home.owns t.at.before.1 t.at.after.1 t.at.own_was (turn_is_denied denied).0 now)
+
+  -- and where its call did not act, it stays calm
+  pub turn_stays_calm : QuietTurnsLeaveAlarms → may_have_acted shown.call None ≡ false
+      → IsCalm b.machine.moment.settings.start b.machine.moment.window (b.machine.moment.time + 1) b.calm x.home.owns
+      x.drivers
+  turn_stays_calm law quiet =
+      subst (λ (y : Homes). IsCalm b.machine.moment.settings.start b.machine.moment.window (b.machine.moment.time + 1)
+      b.calm y.owns x.drivers) (sym t.at.own_is) (by_denial shown.denial refl)
+    where
+      later : IsCalm b.machine.moment.settings.start b.machine.moment.window (b.machine.moment.time + 1) b.calm
+          b.machine.home.owns b.machine.drivers
+      later = later_calm b.machine.moment.settings.start b.machine.moment.window b.machine.moment.time
+          (b.machine.moment.time + 1) b.calm b.machine.home.owns b.machine.drivers (omega arith) h.calm
+
+      by_denial : (denial : Option Denial) → shown.denial ≡ denial
+          → IsCalm b.machine.moment.settings.start b.machine.moment.window (b.machine.moment.time + 1) b.calm
+          (slice_set b.machine.home.owns slot t.at.after.1) x.drivers
+      by_denial None is =
+          let leaves = turn_is_idle law (ap (may_have_acted shown.call) is ∙ quiet) in
+          same_alarms_calm slot b.machine.home.owns t.at.before.1 t.at.after.1 t.at.own_was leaves.0
+          b.machine.moment.settings.start b.machine.moment.window (b.machine.moment.time + 1) b.calm x.drivers
+          (idle_calm b.machine.moment.settings.start b.machine.moment.window (b.machine.moment.time + 1) b.calm
+          b.machine.home.owns (id_of slot t.at.before.1) b.machine.drivers x.drivers leaves.1 later)
+      by_denial (Some denial) is =
+          let leaves = turn_is_denied (ap is_some is) in
+          unarmed_calm slot b.machine.home.owns t.at.before.1 t.at.after.1 t.at.own_was leaves.0
+          b.machine.moment.settings.start b.machine.moment.window (b.machine.moment.time + 1) b.calm x.drivers
+          (gone_calm b.machine.moment.settings.start b.machine.moment.window (b.machine.moment.time + 1) b.calm
+          b.machine.home.owns (id_of slot t.at.before.1) b.machine.drivers x.drivers leaves.1 later)
 
   -- the serial lines go on
   pub lines_stay : x.drivers.uarts ≡ b.machine.drivers.uarts

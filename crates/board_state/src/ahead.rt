@@ -1,11 +1,11 @@
 //! Which device steps are ready at a moment, and a time up to which none is: after a step they are
 //! looked for again only where it may have changed them.
-ghost use Rattle.std.specs.Prelude.{◌≡◌, ◌+◌, ◌*◌, ◌^◌, ◌≤◌, ℕ, true, false, None};
+ghost use Rattle.std.specs.Prelude.{◌≡◌, ◌+◌, ◌*◌, ◌^◌, ◌≤◌, ℕ, true, false, None, is_some};
 ghost use Rattle.tk_base.specs.declared.limits.TheConstants.{STEP_LIMIT};
 ghost use Rattle.board_devices.specs.Clock.{clock_at};
 ghost use Rattle.alarm_capsule.specs.Times.{AllTell, OthersTell};
 ghost use Rattle.grant_enter.specs.Homes.{Homes, own_of};
-ghost use Rattle.driver_model.specs.Alarm.{alarm_in};
+ghost use Rattle.driver_model.specs.Alarm.{alarm_in, ticks_left_in};
 ghost use Rattle.board_drivers.specs.Tells.{is_alarm};
 ghost use Rattle.kernel_alarms.specs.Acting.{may_have_acted, may_have_armed};
 ghost use Rattle.board_drivers.specs.Calm.{AlarmsTell, HasCome, IsCalm};
@@ -41,30 +41,24 @@ pub fn devices_ready(
     ])
 }
 
-/// Whether a turn may have asked anything of the devices, changed what its process keeps for the
-/// alarm, or ended a life of it, by what it showed.
+/// Whether the call of a turn, if it showed one, may have asked anything of the devices, changed what
+/// its process keeps for the alarm, or ended a life of it.
 #[inline(always)]
-fn may_have_acted(emit: &Emit) -> bool
-    ensures { result ≡ may_have_acted emit.now.made emit.now.denial }
+fn call_may_have_acted(emit: &Emit) -> bool
+    ensures { result ≡ may_have_acted emit.now.made None }
 {
-    if emit.denial.is_some() {
-        return true;
-    }
     match &emit.made {
         Some(made) => may_act(made),
         None => false,
     }
 }
 
-/// Whether a turn may have changed what its process keeps for the alarm, or ended a life of it, by
-/// what it showed.
+/// Whether the call of a turn, if it showed one, may have changed what its process keeps for the
+/// alarm, or ended a life of it.
 #[inline(always)]
-fn may_have_armed(emit: &Emit) -> bool
-    ensures { result ≡ may_have_armed emit.now.made emit.now.denial }
+fn call_may_have_armed(emit: &Emit) -> bool
+    ensures { result ≡ may_have_armed emit.now.made None }
 {
-    if emit.denial.is_some() {
-        return true;
-    }
     match &emit.made {
         Some(made) => may_arm(made),
         None => false,
@@ -72,7 +66,7 @@ fn may_have_armed(emit: &Emit) -> bool
 }
 
 /// Looks again when the alarm of a process becomes due, where its turn may have armed one: what it
-/// keeps for the alarm, and that it lives, changes in no other turn.
+/// keeps for the alarm, and that it lives, changes in no other turn. After a denial it has none armed.
 #[inline(always)]
 pub(crate) fn look_again(
     alarms: &mut AlarmTimes,
@@ -84,11 +78,15 @@ pub(crate) fn look_again(
     requires time { moment.now.time + 2 ^ 32 ≤ 2 ^ 64 }
     requires others { OthersTell slot (clock_at moment.now.settings.start moment.now.time)
         moment.now.time alarms.old home.now.owns }
+    requires denied { is_some emit.now.denial ≡ true → ticks_left_in
+        (clock_at moment.now.settings.start moment.now.time) home.now.owns slot ≡ None }
     requires unarmed { may_have_armed emit.now.made emit.now.denial ≡ false
         → AlarmsTell moment.now alarms.old home.now.owns }
     ensures { AlarmsTell moment.now alarms.new home.now.owns }
 {
-    if may_have_armed(emit) {
+    if emit.denial.is_some() {
+        alarms.forget(slot);
+    } else if call_may_have_armed(emit) {
         alarms.note(home, slot, moment.tick(), moment.time);
     }
 }
@@ -109,7 +107,7 @@ pub fn forget_fired(alarms: &mut AlarmTimes, slot: Slot, device: Dev)
 }
 
 /// A time up to which no device step is ready after a turn, by what it showed. It asks that the one
-/// so far holds on where the turn did not act.
+/// so far holds on where the turn made no call that may act: a denial leaves less to do for devices.
 #[inline(always)]
 pub(crate) fn calm_after(
     calm: u64,
@@ -122,13 +120,13 @@ pub(crate) fn calm_after(
     requires alarms { AlarmsTell moment.now alarms.now home.now.owns }
     requires time { moment.now.time ≤ STEP_LIMIT * 2 ^ 32 }
     requires free { AreFreeSoon moment.now.time drivers.now }
-    requires calm { may_have_acted emit.now.made emit.now.denial ≡ false
+    requires calm { may_have_acted emit.now.made None ≡ false
         → IsCalm moment.now.settings.start moment.now.window moment.now.time calm home.now.owns
         drivers.now }
     ensures { IsCalm moment.now.settings.start moment.now.window moment.now.time result
         home.now.owns drivers.now }
 {
-    if may_have_acted(emit) {
+    if call_may_have_acted(emit) {
         return moment.look_ahead(home, alarms, drivers);
     }
     calm

@@ -6,3 +6,5 @@ pub mod Turns
 pub mod Quiet
 pub mod Stopped
 mod Replies
+mod Guarding
+pub mod Denied

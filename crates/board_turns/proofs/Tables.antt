@@ -1,8 +1,8 @@
 -- One turn, or a quiet stretch, of a slot of the tables is that of the process there.
-use Rattle.std.proofs.Common.{◌≡◌, ◌<◌, ℕ, List, length, slice_get, slice_set, slice_index_or, Option, Some, sym, ap}
+use Rattle.std.proofs.Common.{◌≡◌, ◌<◌, ℕ, false, List, length, slice_get, slice_set, slice_index_or, Option, Some}
 use Rattle.std.specs.Prelude.{IfSome}
 use Rattle.rv32_model.specs.declared.turn_end.TurnEnd.{TurnEnd}
-use Rattle.std.proofs.Common.{subst, ◌∙◌, arith}
+use Rattle.std.proofs.Common.{sym, ap, subst, ◌∙◌, arith}
 use Rattle.std.specs.List.{zip}
 use Rattle.std.proofs.lemmas.Option.{get_or_from_slice_get, slice_get-get_or, slice_get_within}
 use Rattle.process_record.specs.declared.process.Process.{Process}
@@ -10,8 +10,8 @@ use Rattle.grant_enter.specs.Homes.{ChangesOnly, nobody, own_of}
 use Rattle.board_turns.specs.declared.machine.Machine.{Machine}
 use Rattle.board_turns.specs.declared.turn.Shown.{Shown}
 use Rattle.board_drivers.specs.Residents.{IsResident, resident}
-use Rattle.board_turns.specs.Turning.{ChangesSlot, IsKnownEnd, IsKnownEndAt, LeavesOn, MayTurnAt, MayTurnOn, TurnsAt}
-use Rattle.board_turns.specs.Turning.{TurnsOn}
+use Rattle.board_turns.specs.Turning.{ChangesSlot, IsFreeAt, IsKnownEnd, IsKnownEndAt, LeavesOn, MayTurnAt, MayTurnOn}
+use Rattle.board_turns.specs.Turning.{TurnsAt, TurnsOn}
 use Rattle.board_turns.specs.Quiet.{QuietAt, Quietly}
 use Rattle.board_drivers.proofs.Pairs.{zip-get}
 
@@ -44,6 +44,10 @@ module _ (turns slot index : ℕ) (x : Machine) (processes : List Process) (proc
     limit = may.limit;
     guard = may.guard;
   }
+
+  -- it is not held, where the one in that slot is not
+  pub free_at : IsFreeAt slot processes → process.held ≡ false
+  free_at free = subst (λ (o : Option Process). IfSome o (λ p. p.held ≡ false)) here free
 
   -- what is known of its next instruction
   pub known_at : (known : TurnEnd) → IsKnownEndAt slot known x.home processes

@@ -41,6 +41,7 @@ use Rattle.board_memory.specs.Registers.{Protect}
 use Rattle.board_drivers.specs.declared.moment.Moment.{Moment}
 use Rattle.board_turns.specs.declared.turn.Shown.{Shown}
 use Rattle.kernel_model.specs.Laws.{DropsAtMostOne, GrantsChangeAtCalls}
+use Rattle.kernel_model.proofs.Places.{free_turned, of_turned}
 use Rattle.board_drivers.specs.Driven.{Drives, MayServe, beside_in}
 use Rattle.board_drivers.specs.Residents.{Resident, IsResident}
 use Rattle.board_turns.specs.Turning.{InTurn, IsMade, LeavesOn, LeavesSlot, MayTurn, ServesCall, Settles}
@@ -73,14 +74,14 @@ as_known slot flash old new shown d d' beside t u e h =
 
 -- the turn of a record that runs, by the end of its instruction
 by_end : (m : Moment) (flash : List ℕ) (r : Resident) (beside : Beside) (end : TurnEnd) → r.0.state ≡ Running
-    → (next_instruction flash r).end ≡ end
+    → r.0.held ≡ false → (next_instruction flash r).end ≡ end
     → (let a = after_instruction r (next_instruction flash r) in
     turned m.settings m.time (record_in flash r.0 r.1 beside)
     ≡ at_turn_end m.settings m.time (record_in flash a.0 a.1 beside) (next_instruction flash r).accesses end)
-unfolding turned
-by_end m flash r beside end runs e =
+by_end m flash r beside end runs free e =
     let a = after_instruction r (next_instruction flash r) in
-    ap (λ (s : State). turn_in m.settings m.time s (record_in flash r.0 r.1 beside)) runs
+    free_turned m.settings m.time (record_in flash r.0 r.1 beside) free
+    ∙ ap (λ (s : State). turn_in m.settings m.time s (record_in flash r.0 r.1 beside)) runs
     ∙ ap (at_turn_end m.settings m.time (record_in flash a.0 a.1 beside) (next_instruction flash r).accesses) e
 
 -- an instruction leaves a process as it is to be, a step later
@@ -165,41 +166,43 @@ module _ (m : Moment) (slot : ℕ) (home made : Homes) (p q : Process) (is : IsM
   })
 
   -- an instruction with nothing more to do
-  pub went : (d : Drivers) → p.state ≡ Running → (next_instruction home.flash before).end ≡ Went
+  pub went : (d : Drivers) → p.state ≡ Running → p.held ≡ false → (next_instruction home.flash before).end ≡ Went
       → Turns m slot home.flash before (resident made slot q) nothing_shown d d
-  went d runs end =
+  went d runs free end =
       subst (λ (r : Resident). Turns m slot home.flash before r nothing_shown d d) (sym is) (λ storage.
       let beside = beside_in d storage in
-      as_known slot home.flash before _ nothing_shown d d beside _ _ (by_end m home.flash before beside Went runs end)
+      as_known slot home.flash before _ nothing_shown d d beside _ _
+      (by_end m home.flash before beside Went runs free end)
       (refl, record { call = refl; denial = refl }, drives_nothing (id_of slot before.1) d))
 
   -- one that is denied
-  pub trapped : (new : Resident) (denial : Denial) (shown : Shown) (d d' : Drivers) → p.state ≡ Running
+  pub trapped : (new : Resident) (denial : Denial) (shown : Shown) (d d' : Drivers) → p.state ≡ Running → p.held ≡ false
       → (next_instruction home.flash before).end ≡ Trap denial → shown ≡ record { call = None; denial = Some denial }
       → Settles m.settings.policy made.flash q (own_of made slot) denial new
       → Drives (id_of slot (own_of made slot)) leaving_all d d' → Turns m slot home.flash before new shown d d'
-  trapped new denial shown d d' runs end e settles drives = λ storage.
+  trapped new denial shown d d' runs free end e settles drives = λ storage.
       let beside = beside_in d storage in
       let settled = subst (λ (r : Resident). Settles m.settings.policy home.flash r.0 r.1 denial new) is
       (subst (λ (f : List ℕ). Settles m.settings.policy f q (own_of made slot) denial new)
       (only_flash slot home made only) settles) in
-      as_known slot home.flash before new _ d d' beside _ _ (by_end m home.flash before beside (Trap denial) runs end) (
+      as_known slot home.flash before new _ d d' beside _ _
+      (by_end m home.flash before beside (Trap denial) runs free end) (
         settled beside,
         record { call = ap (λ (s : Shown). s.call) (sym e); denial = ap (λ (s : Shown). s.denial) (sym e) },
         subst (λ (r : Resident). Drives (id_of slot r.1) leaving_all d d') is drives,
       )
 
   -- one that makes a system call
-  pub makes_call : (new : Resident) (shown : Shown) (d d' : Drivers) → p.state ≡ Running
+  pub makes_call : (new : Resident) (shown : Shown) (d d' : Drivers) → p.state ≡ Running → p.held ≡ false
       → (next_instruction home.flash before).end ≡ Call
       → ServesCall m slot made.flash (resident made slot q) new shown d d'
       → Turns m slot home.flash before new shown d d'
-  makes_call new shown d d' runs end serves = λ storage.
+  makes_call new shown d d' runs free end serves = λ storage.
       let beside = beside_in d storage in
       let served = subst (λ (r : Resident). ServesCall m slot home.flash r new shown d d') is
       (subst (λ (f : List ℕ). ServesCall m slot f (resident made slot q) new shown d d')
       (only_flash slot home made only) serves) in
-      as_known slot home.flash before new shown d d' beside _ _ (by_end m home.flash before beside Call runs end)
+      as_known slot home.flash before new shown d d' beside _ _ (by_end m home.flash before beside Call runs free end)
       (served (next_instruction home.flash before).accesses storage)
 
 -- a call of an unknown class is a fault
@@ -261,33 +264,37 @@ module _ (m : Moment) (slot : ℕ) (flash : List ℕ) where
       (refl, record { call = refl; denial = refl }, drives_nothing (id_of slot old.1) d)
 
   -- what is due to it is delivered
-  pub woken : (old new : Resident) (d : Drivers) → old.0.state ≡ Yielded → is_some (due old.1.inbox) ≡ true
+  pub woken : (old new : Resident) (d : Drivers) → old.0.state ≡ Yielded → old.0.held ≡ false
+      → is_some (due old.1.inbox) ≡ true
       → ((beside : Beside)
       → record_in flash new.0 new.1 beside
       ≡ deliver_due (record_in flash (after_turn old.0) old.1 beside) (due old.1.inbox))
       → Turns m slot flash old new nothing_shown d d
-  unfolding turned
-  woken old new d waits some delivers = is_quiet old new d (λ beside.
+  woken old new d waits free some delivers = is_quiet old new d (λ beside.
       let r = record_in flash old.0 old.1 beside in
-      ap (λ (s : State). turn_in m.settings m.time s r) waits ∙ by_due r (due old.1.inbox) some
+      free_turned m.settings m.time r free ∙ ap (λ (s : State). turn_in m.settings m.time s r) waits
+      ∙ by_due r (due old.1.inbox) some
       ∙ ap idle (sym (delivers beside)))
 
   -- where nothing is nothing happens
-  pub waits_on : (r : Resident) (d : Drivers) → r.0.state ≡ Yielded → is_some (due r.1.inbox) ≡ false
+  pub waits_on : (r : Resident) (d : Drivers) → r.0.state ≡ Yielded → r.0.held ≡ false → is_some (due r.1.inbox) ≡ false
       → Turns m slot flash r r nothing_shown d d
-  unfolding turned
-  waits_on r d waits none = is_quiet r r d (λ beside.
-      ap (λ (s : State). turn_in m.settings m.time s (record_in flash r.0 r.1 beside)) waits
+  waits_on r d waits free none = is_quiet r r d (λ beside.
+      free_turned m.settings m.time (record_in flash r.0 r.1 beside) free
+      ∙ ap (λ (s : State). turn_in m.settings m.time s (record_in flash r.0 r.1 beside)) waits
       ∙ none_due (record_in flash r.0 r.1 beside) (due r.1.inbox) none)
 
   -- a process that ended has no turn
   pub rests : (r : Resident) (d : Drivers) → (r.0.state ≡ Faulted) ⊎ ((code : ℕ) × (r.0.state ≡ Terminated code))
       → Turns m slot flash r r nothing_shown d d
-  unfolding turned
-  rests r d (inl is) =
-      is_quiet r r d (λ beside. ap (λ (s : State). turn_in m.settings m.time s (record_in flash r.0 r.1 beside)) is)
-  rests r d (inr is) =
-      is_quiet r r d (λ beside. ap (λ (s : State). turn_in m.settings m.time s (record_in flash r.0 r.1 beside)) is.1)
+  rests r d (inl is) = is_quiet r r d (λ beside.
+      let q = record_in flash r.0 r.1 beside in
+      of_turned (λ t. t ≡ idle q) m.settings m.time q refl
+      (ap (λ (s : State). turn_in m.settings m.time s q) is))
+  rests r d (inr is) = is_quiet r r d (λ beside.
+      let q = record_in flash r.0 r.1 beside in
+      of_turned (λ t. t ≡ idle q) m.settings m.time q refl
+      (ap (λ (s : State). turn_in m.settings m.time s q) is.1))
 
 -- a process that had no turn is as it is to be, some steps later, so one step later
 pub rests_seated_on : (flash : List ℕ) (steps more : ℕ) (r : Resident) → IsResident flash steps r

@@ -1,6 +1,6 @@
 -- The turns of a process with what is its own. Only proofs use this.
-use Rattle.std.specs.Prelude.{◌≡◌, ◌≢◌, ℕ, ◌+◌, ◌≤◌, ◌<◌, true, List, [], length, slice_get, slice_set, All, IfSome}
-use Rattle.std.specs.Prelude.{Option, None, Some}
+use Rattle.std.specs.Prelude.{◌≡◌, ◌≢◌, ℕ, ◌+◌, ◌≤◌, ◌<◌, true, false, List, [], length, slice_get, slice_set, All}
+use Rattle.std.specs.Prelude.{IfSome, Option, None, Some}
 use Rattle.std.specs.List.{zip}
 use Rattle.tk_base.specs.declared.limits.TheConstants.{STEP_LIMIT}
 use Rattle.rv32_model.specs.UserTurn.{MemoryAccess, UserTurn}
@@ -160,6 +160,10 @@ pub record ChangesSlot (slot : ℕ) (home home_after : Homes) (processes process
   pub own_was : slice_get home.owns slot ≡ Some before.1
   pub is : processes_after ≡ slice_set processes slot after.0
   pub own_is : home_after ≡ record home { owns = slice_set home.owns slot after.1 }
+
+-- no operator holds the process in a slot of the tables
+abbrev pub IsFreeAt : ℕ → List Process → Type 0
+IsFreeAt slot processes = IfSome (slice_get processes slot) (λ process. process.held ≡ false)
 
 -- what is known of the next instruction of the process in a slot of the tables
 abbrev pub IsKnownEndAt : ℕ → TurnEnd → Homes → List Process → Type 0

@@ -1,9 +1,9 @@
 //! The one protection register file.
-ghost use Rattle.std.specs.Prelude.{◌≡◌, ◌<◌, None, length};
+ghost use Rattle.std.specs.Prelude.{◌≡◌, ◌<◌, None, length, true};
 ghost use Rattle.process_layout.specs.Bounds.{bounds_of};
 ghost use Rattle.board_memory.specs.Registers.{Protect};
 ghost use Rattle.grant_enter.specs.Homes.{own_of};
-ghost use Rattle.board_turns.specs.Guards.{GuardsOnly, GuardsOthers, IsSetFor};
+ghost use Rattle.board_turns.specs.Guards.{GuardsOnly, GuardsOthers, HasSameAccess, IsSetFor};
 
 use grant_enter::Home;
 use pmp_regions::Pmp;
@@ -16,6 +16,17 @@ use tk_base::Slot;
 pub struct ActivePmp {
     pub pmp: Pmp,
     pub slot: Option<Slot>,
+}
+
+/// Whether two layouts have the same accessible flash and RAM.
+#[inline(always)]
+fn has_same_access(layout: &Layout, before: &Layout) -> bool
+    ensures { result ≡ true → HasSameAccess (bounds_of layout.now) (bounds_of before.now) }
+{
+    let same_flash = layout.flash_start == before.flash_start
+        && layout.flash_end == before.flash_end;
+    let same_ram = layout.start == before.start && layout.brk == before.brk;
+    same_flash && same_ram
 }
 
 impl ActivePmp {
@@ -31,6 +42,8 @@ impl ActivePmp {
 
     /// Sets the registers for the process in a slot, where they are set for another one or for
     /// none.
+    // Inlined: most turns are those of the slot that had the last one.
+    #[inline(always)]
     pub fn switch_to(&mut self, home: &Home, slot: Slot)
         requires slot { slot < length home.now.owns }
         requires guards { GuardsOnly self.old home.now }
@@ -55,16 +68,16 @@ impl ActivePmp {
         }
     }
 
-    /// Sets the registers again for the process in a slot, where its layout is no longer the one
-    /// that they were set for.
+    /// Sets the registers again for the process in a slot, where it may access other memory than what
+    /// they were set for.
+    #[inline(always)]
     pub fn refresh(&mut self, home: &Home, slot: Slot, before: &Layout)
         requires slot { slot < length home.now.owns }
         requires set { Protect self.old.pmp (bounds_of before.now) }
         ensures slot { self.new.slot ≡ self.old.slot }
         ensures protect { Protect self.new.pmp (own_of home.now slot).layout }
     {
-        let layout = home.layout(slot);
-        if layout != *before {
+        if !has_same_access(&home.layout(slot), before) {
             home.protect(slot, &mut self.pmp);
         }
     }

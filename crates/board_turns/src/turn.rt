@@ -18,7 +18,7 @@ ghost use Rattle.board_turns.specs.Turning.{InTurn, InTurnOn, FinishesOn, IsMade
 ghost use Rattle.board_turns.specs.Turning.{LeavesSlot, MayServeOn, MayTurn, MayTurnOn};
 ghost use Rattle.board_turns.specs.Turning.{ServesCallOn, Settles, TurnsOn, next_instruction};
 ghost use Rattle.board_turns.specs.Turning.{nothing_shown, told_in_emit, with_shown, MayTurnAt, ReplyStands};
-ghost use Rattle.board_turns.specs.Turning.{IsKnownEnd, IsKnownEndAt, TurnsAt};
+ghost use Rattle.board_turns.specs.Turning.{IsFreeAt, IsKnownEnd, IsKnownEndAt, TurnsAt};
 ghost use Rattle.rv32_model.specs.declared.turn_end.TurnEnd.TheVariants.{Went};
 
 use crate::guard::ActivePmp;
@@ -38,16 +38,6 @@ use tk_base::{Access, Denial, ProcessId, Regs, Rule, Slot};
 pub struct Shown {
     pub call: Option<CallMade>,
     pub denial: Option<Denial>,
-}
-
-/// Tells in `emit` what a turn showed.
-// Inlined, what was shown is written there and nowhere before.
-#[inline(always)]
-fn tell(emit: &mut Emit, shown: Shown)
-    ensures { emit.new ≡ with_shown emit.old shown }
-{
-    emit.made = shown.call;
-    emit.denial = shown.denial;
 }
 
 /// The arguments of a call, or its reply: a0 to a3.
@@ -228,16 +218,19 @@ fn end_instruction(
 
 impl Machine {
     /// A denial: the process in a slot faults, and has ended or starts again, as the policy
-    /// decides.
-    fn fault_at(&mut self, process: &mut Process, slot: Slot, denial: Denial) -> Shown
+    /// decides. It is told in `emit`, where nothing was told before.
+    fn fault_at(&mut self, process: &mut Process, slot: Slot, denial: Denial, emit: &mut Emit)
         requires turn { InTurnOn slot self.old process.old }
+        requires quiet { told_in_emit emit.old ≡ nothing_shown }
         ensures settles { Settles self.old.moment.settings.policy self.old.home.flash process.old
             (own_of self.old.home slot) denial (resident self.new.home slot process.new) }
         ensures gone { Drives (id_of slot (own_of self.old.home slot)) leaving_all
             self.old.drivers self.new.drivers }
         ensures leaves { LeavesOn 1 slot self.old self.new process.new }
-        ensures shown { result ≡ record { call = None; denial = Some denial } }
+        ensures shown { told_in_emit emit.new ≡ record { call = None; denial = Some denial } }
+        ensures emit { emit.new ≡ with_shown emit.old (told_in_emit emit.new) }
     {
+        emit.denial = Some(denial);
         let life = process.restarts;
         let id = ProcessId { slot, life };
         self.drivers.gone(&id);
@@ -251,10 +244,6 @@ impl Machine {
                 denial,
                 &self.moment,
             ),
-        }
-        Shown {
-            call: None,
-            denial: Some(denial),
         }
     }
 
@@ -321,23 +310,24 @@ impl Machine {
         outcome
     }
 
-    /// Serves the system call that the registers make.
-    fn serve_call(&mut self, process: &mut Process, slot: Slot) -> Shown
+    /// Serves the system call that the registers make. It is told in `emit`, where nothing was told
+    /// before.
+    fn serve_call(&mut self, process: &mut Process, slot: Slot, emit: &mut Emit)
         requires turn { InTurnOn slot self.old process.old }
         requires may { MayServeOn slot self.old }
-        ensures serves { ServesCallOn slot self.old self.new process.old process.new result }
+        requires quiet { told_in_emit emit.old ≡ nothing_shown }
+        ensures serves { ServesCallOn slot self.old self.new process.old process.new
+            (told_in_emit emit.new) }
         ensures leaves { LeavesOn 1 slot self.old self.new process.new }
+        ensures emit { emit.new ≡ with_shown emit.old (told_in_emit emit.new) }
     {
         let before = process.regs;
         let Some(call) = Call::of(&before) else {
             let denial = unknown_class(process);
-            return self.fault_at(process, slot, denial);
+            return self.fault_at(process, slot, denial, emit);
         };
         let outcome = self.serve(process, slot, &call);
-        Shown {
-            call: Some(call_shown(&before, outcome, &process.regs)),
-            denial: None,
-        }
+        emit.made = Some(call_shown(&before, outcome, &process.regs));
     }
 
     /// The turn of a process that runs: an instruction of it, and what a system call or a denial
@@ -345,6 +335,7 @@ impl Machine {
     /// nothing, and write nothing there.
     fn run_on(&mut self, process: &mut Process, slot: Slot, known: TurnEnd, emit: &mut Emit)
         requires turn { MayTurnOn 1 slot self.old process.old }
+        requires free { process.old.held ≡ false }
         requires runs { process.old.state ≡ Running }
         requires known { IsKnownEnd known self.old.home.flash
             (resident self.old.home slot process.old) }
@@ -365,14 +356,8 @@ impl Machine {
         );
         match end {
             TurnEnd::Went => {}
-            TurnEnd::Call => {
-                let shown = self.serve_call(process, slot);
-                tell(emit, shown);
-            }
-            TurnEnd::Trap(denial) => {
-                let shown = self.fault_at(process, slot, denial);
-                tell(emit, shown);
-            }
+            TurnEnd::Call => self.serve_call(process, slot, emit),
+            TurnEnd::Trap(denial) => self.fault_at(process, slot, denial, emit),
         }
     }
 
@@ -380,6 +365,7 @@ impl Machine {
     /// registers are set for it, since it is the next to run. It shows nothing.
     fn wake(&mut self, process: &mut Process, slot: Slot)
         requires turn { MayTurnOn 1 slot self.old process.old }
+        requires free { process.old.held ≡ false }
         requires waits { process.old.state ≡ Yielded }
         ensures turns { TurnsOn slot self.old self.new process.old process.new nothing_shown }
         ensures leaves { LeavesOn 1 slot self.old self.new process.new }
@@ -396,6 +382,7 @@ impl Machine {
     /// not `Went`, that is not found out again.
     pub fn take_turn(&mut self, process: &mut Process, slot: Slot, known: TurnEnd, emit: &mut Emit)
         requires turn { MayTurnOn 1 slot self.old process.old }
+        requires free { process.old.held ≡ false }
         requires known { IsKnownEnd known self.old.home.flash
             (resident self.old.home slot process.old) }
         requires may { MayServeOn slot self.old }
@@ -421,6 +408,7 @@ impl Machine {
         emit: &mut Emit,
     )
         requires turn { MayTurnAt 1 slot self.old processes.old.items }
+        requires free { IsFreeAt slot processes.old.items }
         requires known { IsKnownEndAt slot known self.old.home processes.old.items }
         requires may { MayServeOn slot self.old }
         requires quiet { told_in_emit emit.old ≡ nothing_shown }

@@ -162,6 +162,7 @@ impl ConsoleCapsule {
 
     /// The process of an id ended, or starts again: no write and no read of it waits any more. The
     /// others keep their order.
+    #[inline(always)]
     pub fn gone(&mut self, id: ProcessId)
         ensures writes { self.new.writes ≡ without id.slot self.old.writes }
         ensures reads { self.new.reads ≡ without id.slot self.old.reads }

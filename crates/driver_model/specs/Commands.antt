@@ -21,6 +21,7 @@ order_of Reads = 1
 order_of Randoms = 2
 order_of Stores = 3
 
+-- whether two names are of one list
 abbrev pub is_same : QueueName → QueueName → Bool
 is_same a b = order_of a == order_of b
 

@@ -60,6 +60,7 @@ impl<R> RequestQueue<R> {
     }
 
     /// The process of a slot waits no more. The others keep their order.
+    #[inline(always)]
     pub fn leave(&mut self, slot: Slot)
         ensures { self.new ≡ without slot self.old }
     {

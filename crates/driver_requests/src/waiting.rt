@@ -133,7 +133,19 @@ impl WaitingList {
     }
 
     /// Takes the process of a slot out, where it waits. The others keep their order.
+    // Inlined is whether any waits: most often none does.
+    #[inline(always)]
     pub fn remove(&mut self, slot: Slot)
+        ensures { self.new ≡ without slot self.old }
+    {
+        if !self.ids.is_empty() {
+            self.take_out(slot);
+        }
+    }
+
+    /// The same by a look at each.
+    #[inline(never)]
+    fn take_out(&mut self, slot: Slot)
         ensures { self.new ≡ without slot self.old }
     {
         self.ids.retain(|waiting| waiting.id.slot != slot);

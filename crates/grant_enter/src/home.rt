@@ -1,5 +1,6 @@
 //! The memory of all processes.
 ghost use Rattle.std.specs.Prelude.{◌≡◌, ◌≤◌, ◌<◌, ◌+◌, ◌%◌, ◌^◌, ℕ, nat_lt, slice_get};
+ghost use Rattle.std.specs.Prelude.{replicate};
 ghost use Rattle.std.specs.Prelude.{All, AllPairs, IsTrue, length, map, option_map, is_ok, IfOk};
 ghost use Rattle.std.specs.Prelude.{OnOk, OnErr, OnSome, IfNone, is_some, vec_len};
 ghost use Rattle.std.specs.Bool.{OnTrue, OnFalse};
@@ -66,6 +67,25 @@ impl Model for Home {
     ghost invariant = { IsHome };
 }
 
+/// Memory with these bytes in flash, and so many bytes of RAM, which are 0. The instructions of each process are
+/// decoded.
+fn memory_with(
+    alloc: Global,
+    flash: Vec<u8>,
+    ram: u32,
+    footprints: &[Footprint],
+) -> Result<Memory, NoMemory>
+    ensures { IfOk result
+        (λ memory. memory ≡ record { flash = flash.items; ram = replicate ram 0 }) }
+{
+    let mut memory = Memory::new(alloc, flash, ram)?;
+    for footprint in footprints {
+        let layout = &footprint.layout;
+        memory.decode(layout.flash_start, layout.flash_end);
+    }
+    Ok(memory)
+}
+
 impl Home {
     /// Memory with these bytes in flash, and so many bytes of RAM, in which each process has its
     /// block, slot 0 first. All blocks are zero, and each process lives its first life and has no
@@ -83,7 +103,7 @@ impl Home {
             (λ home. home ≡ record { flash = flash.items; owns = map opened footprints.now }) }
     {
         what_is_laid_is_read_back();
-        let memory = Memory::new(alloc, flash, ram)?;
+        let memory = memory_with(alloc, flash, ram, footprints)?;
         let mut seats = Vec::new(alloc);
         for footprint in footprints {
             let Ok(()) = seats.push(Seat::first(footprint)) else {
@@ -137,6 +157,8 @@ impl Home {
     /// "Physical Memory Protection"): the first two entries for its accessible flash, two for its
     /// accessible RAM, the others off. So they deny what its layout denies, and permit it to store
     /// in its accessible RAM alone.
+    // Whether they have to be set is asked inline, and most often they have not.
+    #[inline(never)]
     pub fn protect(&self, slot: Slot, pmp: &mut Pmp)
         requires { slot < length self.now.owns }
         ensures registers { pmp.new ≡ process_registers (own_of self.now slot).layout }

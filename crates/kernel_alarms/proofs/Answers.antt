@@ -22,12 +22,10 @@ use Rattle.driver_model.specs.Requests.{RequestKind, keeping_request, waiting_in
 use Rattle.driver_model.specs.Steps.{DriverStep, own_after, scheduling, silently}
 use Rattle.driver_model.specs.Storage.{storage_answer_of, storage_served, storages, moving}
 use Rattle.driver_model.specs.Storage.{answered as served, unanswered as unserved}
-use Rattle.kernel_model.specs.Record.{Record}
-use Rattle.kernel_model.specs.declared.settings.Settings.{Settings}
-use Rattle.kernel_model.specs.Turn.{Act, Alarmed, Edge, Event, Input, NoWord, Stored, Taken, Turn, Word, WriteDone}
+use Rattle.kernel_model.specs.Turn.{Act, Alarmed, Edge, Input, NoWord, Stored, Taken, Turn, Word, WriteDone}
 use Rattle.kernel_model.specs.Turn.{apply}
 use Rattle.kernel_model.specs.Record.{flash_of}
-use Rattle.kernel_alarms.specs.Acting.{AnswersLeaveAlarms, HasSameAlarm, leaves_alarm}
+use Rattle.kernel_alarms.specs.Acting.{AnswersLeaveAlarms, HasSameAlarm}
 use Rattle.kernel_alarms.proofs.Kept.{kept_alarm}
 
 -- what a driver's step leaves has the alarm still

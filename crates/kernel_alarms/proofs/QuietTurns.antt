@@ -47,6 +47,7 @@ use Rattle.kernel_model.specs.Turn.{turn_counted, turn_in, turned}
 use Rattle.kernel_model.specs.Parts.{unknown_call}
 use Rattle.kernel_model.proofs.Classes.{of_registers}
 use Rattle.kernel_model.proofs.Memops.{by_test, memop_gives}
+use Rattle.kernel_model.proofs.Places.{of_turned}
 use Rattle.kernel_alarms.specs.Acting.{AlarmsChangeAtTheirCommands, HasSameAlarm, QuietTurnsLeaveAlarms}
 use Rattle.kernel_alarms.specs.Acting.{may_act, may_arm, may_have_acted, may_have_armed, only_asks}
 use Rattle.kernel_alarms.proofs.Commands.{of_others}
@@ -310,9 +311,13 @@ of_state law settings time Yielded r = of_delivery r (due r.own.inbox)
 of_state law settings time Faulted r = quiet r _ refl (same_alarm r.own)
 of_state law settings time (Terminated code) r = quiet r _ refl (same_alarm r.own)
 
+of_turn : RefusedByAnyDriver → (settings : Settings) (time : ℕ) (r : Record) → Quiet r (turned settings time r)
+of_turn law settings time r =
+    of_turned (Quiet r) settings time r (of_state law settings time Faulted r)
+    (of_state law settings time r.process.state r)
+
 pub alarms_change_at_their_commands : RefusedByAnyDriver → AlarmsChangeAtTheirCommands
-unfolding turned
-alarms_change_at_their_commands law settings time r = (of_state law settings time r.process.state r).same
+alarms_change_at_their_commands law settings time r = (of_turn law settings time r).same
 
 -- what may not act may not arm
 not_armed : (call : Option CallMade) (denial : Option Denial) → may_have_acted call denial ≡ false
@@ -323,8 +328,7 @@ not_armed (Some made) None e =
     ap (λ (b : Bool). b && cond (made.class == 2) (slice_index made.args 0 == alarm_driver) true) e
 
 pub quiet_turns_leave_alarms : RefusedByAnyDriver → QuietTurnsLeaveAlarms
-unfolding turned
 quiet_turns_leave_alarms law settings time r shown =
-    let q = of_state law settings time r.process.state r in
-    let t = turn_in settings time r.process.state r in
+    let q = of_turn law settings time r in
+    let t = turned settings time r in
     (q.same (not_armed t.told.call t.told.denial shown), q.asks_nothing shown)

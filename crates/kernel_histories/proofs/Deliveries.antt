@@ -69,7 +69,8 @@ use Rattle.kernel_model.specs.Parts.{calls, delivery}
 use Rattle.kernel_model.specs.Turn.{made, settled, surroundings, turned, turn_in}
 use Rattle.kernel_model.specs.Parts.{instructed, unknown_call}
 use Rattle.kernel_model.specs.Laws.{CanStartAgain}
-use Rattle.kernel_histories.specs.Deliveries.{First, FirstOf, IsSubscribed, Nothing, Scheduling, left_by_turn, place_taken}
+use Rattle.kernel_histories.specs.Deliveries.{First, FirstOf, IsSubscribed, Nothing, Scheduling, left_by_turn}
+use Rattle.kernel_histories.specs.Deliveries.{place_taken}
 use Rattle.kernel_histories.specs.Deliveries.{removed, subscription_key, taken_by_yield, takes_away, upcalls, wait_in}
 use Rattle.kernel_histories.specs.Deliveries.{wait_of}
 use Rattle.kernel_model.specs.Histories.{class_of}
@@ -78,6 +79,7 @@ use Rattle.kernel_model.proofs.Comes.{plain}
 use Rattle.kernel_model.proofs.Handed.{is_handed}
 use Rattle.kernel_model.proofs.Memops.{by_test, memop_gives}
 use Rattle.kernel_model.proofs.Restarts.{restarts}
+use Rattle.kernel_model.proofs.Places.{free_turned}
 use Rattle.kernel_histories.proofs.Swaps.{refused_hands_nothing}
 
 -- what is known of pairs and of what drivers schedule
@@ -677,6 +679,6 @@ module _ (promise : Promise) (settings : Settings) (time : ℕ) where
   of_state Faulted r can = of_idle r
   of_state (Terminated code) r can = of_idle r
 
-  pub of_turn : (r : Record) → CanStartAgain r → LeavesByTurn r (turned settings time r)
-  unfolding turned
-  of_turn r can = of_state r.process.state r can
+  pub of_turn : (r : Record) → CanStartAgain r → r.process.held ≡ false → LeavesByTurn r (turned settings time r)
+  of_turn r can free =
+      subst (LeavesByTurn r) (sym (free_turned settings time r free)) (of_state r.process.state r can)

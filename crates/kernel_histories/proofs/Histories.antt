@@ -1,5 +1,5 @@
 -- Over any choices a process holds the pairs that its turns last handed, and a swap gives them back.
-use Rattle.std.proofs.Common.{◌≡◌, ℕ, Bool, true, false, cond, List, [], ◌∷◌, ◌++◌, slice_get, Option, None, Some}
+use Rattle.std.proofs.Common.{◌≡◌, ℕ, cond, List, [], ◌∷◌, ◌++◌, slice_get, Option, None, Some}
 use Rattle.std.proofs.Common.{IfSome, is_some, sym, ap, subst, ◌∙◌}
 use Rattle.std.specs.Prelude.{reverse}
 use Rattle.tk_base.specs.declared.process.Choice.{Choice}
@@ -82,7 +82,7 @@ module _ (promise : Promise) where
       of_step w slot (λ ended tolds o. Known (cond ended [] (with_more tolds past)) o)
       (record {
         stays = known;
-        turn = λ r is. (follows_turn law drivers past w.settings w.clock.time r (at r is)).after;
+        turn = λ r is free. (follows_turn law drivers past w.settings w.clock.time r (at r is)).after;
         answer = λ r is event answers. answer_known past w.settings event r answers (at r is);
         act = λ r is verb. act_known past verb r (subst (λ (o : Option Record). IfSome o IsGood) is good).can (at r is);
       })

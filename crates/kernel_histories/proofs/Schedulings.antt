@@ -132,11 +132,11 @@ module _ (promise : Promise) where
       of_step w slot (Follows (slice_get w.records slot))
       (record {
         stays = follows_none (slice_get w.records slot) good;
-        turn = λ r is.
+        turn = λ r is free.
             let g = good_at r is in
             follows_some (slice_get w.records slot) false _ r _
             (left_by_turn (wait_of r) (turned w.settings w.clock.time r).told) is
-            (of_turn promise w.settings w.clock.time r g.can) (λ waiting. refl) g;
+            (of_turn promise w.settings w.clock.time r g.can free) (λ waiting. refl) g;
         answer = λ r is event answers.
             follows_some (slice_get w.records slot) false [] r _ (λ waiting. waiting) is
             (answer_leaves promise w.settings event r answers) (λ waiting. refl) (good_at r is);

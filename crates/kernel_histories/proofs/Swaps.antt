@@ -1,6 +1,7 @@
 -- What each turn does to the pairs that its process has handed, and what a swap in it gives back.
 use Rattle.std.proofs.Common.{◌≡◌, ◌≢◌, ◌<◌, ◌≤◌, ℕ, ◌==◌, ◌&&◌, nat_lt, Bool, true, false, cond, List, [], ◌∷◌}
-use Rattle.std.proofs.Common.{length, slice_get, slice_set, Option, None, Some, is_none, is_some, unwrap_or, Result, Ok, Err, refl}
+use Rattle.std.proofs.Common.{length, slice_get, slice_set, Option, None, Some, is_none, is_some, unwrap_or, Result}
+use Rattle.std.proofs.Common.{Ok, Err, refl}
 use Rattle.std.proofs.Common.{ap, sym, subst, ◌∙◌, arith, eqb-true, eq-eqb, ne_eqb, ◌||◌}
 use Rattle.std.specs.Prelude.{slice_index}
 use Rattle.std.proofs.Math.Bool.{and-false}
@@ -70,6 +71,7 @@ use Rattle.kernel_model.proofs.Classes.{command_in, exit_in, memop_in, of_regist
 use Rattle.kernel_model.proofs.Handed.{is_handed}
 use Rattle.kernel_model.proofs.Memops.{by_test, memop_gives}
 use Rattle.kernel_model.proofs.Restarts.{restart_forgets, restart_object}
+use Rattle.kernel_model.proofs.Places.{of_turned}
 
 -- the pair that a process holds by a key
 abbrev pub held_by : PairKey → Own → ℕ × ℕ
@@ -593,5 +595,10 @@ module _ (law : OnlyHandingChangesPairs) (drivers : DriversLeavePairs) where
 
   pub follows_turn : (past : List TurnTrace) (settings : Settings) (time : ℕ) (r : Record) → Remembers past r
       → Follows past (turned settings time r)
-  unfolding turned
-  follows_turn past settings time r remembers = follows_state past settings time r.process.state r refl remembers
+  follows_turn past settings time r remembers =
+      of_turned (Follows past) settings time r (by_over (is_over r.process.state) refl)
+      (follows_state past settings time r.process.state r refl remembers)
+    where
+      by_over : (over : Bool) → is_over r.process.state ≡ over → Follows past (idle r)
+      by_over true e = follows_over past r e
+      by_over false e = follows_delivery past r None (remembers e)

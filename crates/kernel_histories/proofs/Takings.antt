@@ -44,6 +44,7 @@ use Rattle.kernel_histories.proofs.Swaps.{no_swap}
 use Rattle.kernel_model.proofs.Memops.{by_test}
 use Rattle.kernel_laws.proofs.Refused.{only_counts}
 use Rattle.kernel_model.proofs.Steps.{of_step}
+use Rattle.kernel_model.proofs.Places.{free_turned}
 
 and_false : (b : Bool) → (b && false) ≡ false
 and_false true = refl
@@ -207,9 +208,10 @@ module _ (settings : Settings) (time : ℕ) (P : Takes → Record → Record →
   of_state of_ecall Faulted is = each.nothing r _
   of_state of_ecall (Terminated code) is = each.nothing r _
 
-  pub turn_takes : CallsAreOfEcall → Takings (wait_of r) (turned settings time r)
-  unfolding turned
-  turn_takes of_ecall = of_state of_ecall r.process.state refl
+  pub turn_takes : CallsAreOfEcall → r.process.held ≡ false → Takings (wait_of r) (turned settings time r)
+  turn_takes of_ecall free =
+      subst (λ (t : Turned). Takings (wait_of r) t) (sym (free_turned settings time r free))
+      (of_state of_ecall r.process.state refl)
 
 -- so it is of the turn of a process in a step, if it has one
 pub step_takes : (P : Takes → Record → Record → Type 0) → OfTakings P → CallsAreOfEcall
@@ -220,10 +222,10 @@ step_takes P each of_ecall w slot choice r s is left =
     of_step w slot Of
     (record {
       stays = λ x e. All-nil (Tells x);
-      turn = λ q q_is x e.
+      turn = λ q q_is free x e.
           let t = turned w.settings w.clock.time q in
           All-cons (Tells x) t.told []
-          (at_turn q x (same_record (slice_get w.records slot) q r q_is is) e) (All-nil (Tells x));
+          (at_turn q x (same_record (slice_get w.records slot) q r q_is is) free e) (All-nil (Tells x));
       answer = λ q q_is event answers x e. All-nil (Tells x);
       act = λ q q_is verb x e. All-nil (Tells x);
     })
@@ -238,10 +240,11 @@ step_takes P each of_ecall w slot choice r s is left =
     same_record : (o : Option Record) (x y : Record) → o ≡ Some x → o ≡ Some y → x ≡ y
     same_record o x y e f = let both : Some x ≡ Some y = sym e ∙ f in cc
 
-    at_turn : (q x : Record) → q ≡ r → Some (turned w.settings w.clock.time q).after ≡ Some x
+    at_turn : (q x : Record) → q ≡ r → q.process.held ≡ false → Some (turned w.settings w.clock.time q).after ≡ Some x
         → Tells x (turned w.settings w.clock.time q).told
-    at_turn q x same e =
+    at_turn q x same free e =
         let is_x : (turned w.settings w.clock.time q).after ≡ x = cc in
         subst (λ (y : Record). P (takes (wait_of r) (turned w.settings w.clock.time q).told.call) r y) is_x
         (subst (λ (y : Record). P (takes (wait_of r) (turned w.settings w.clock.time y).told.call) r
-        (turned w.settings w.clock.time y).after) (sym same) (turn_takes w.settings w.clock.time P each r of_ecall))
+        (turned w.settings w.clock.time y).after) (sym same) (turn_takes w.settings w.clock.time P each r of_ecall
+        (ap (λ (y : Record). y.process.held) (sym same) ∙ free)))

@@ -26,7 +26,7 @@ use Rattle.kernel_model.specs.declared.settings.Settings.{Settings}
 use Rattle.kernel_model.specs.Calls.{yield_for}
 use Rattle.kernel_model.specs.Turn.{Act, Event, Turn, TurnTrace, apply, is_turn, turn_counted, turn_in}
 use Rattle.kernel_model.specs.Parts.{delivery}
-use Rattle.kernel_model.specs.Turn.{turned}
+use Rattle.kernel_model.specs.Turn.{turned, Turned}
 use Rattle.kernel_model.specs.World.{Answer, DeviceStep, Label, Stepped, World, after, carried_out, device_step_of}
 use Rattle.kernel_model.specs.World.{done}
 use Rattle.kernel_model.specs.World.{labels_told, ran}
@@ -39,7 +39,7 @@ use Rattle.kernel_laws.specs.Scheduled.{answer_step, upcall_told}
 use Rattle.kernel_histories.specs.Deliveries.{FirstOf, Takes, takes, told_in, wait_in, wait_in_slot}
 use Rattle.kernel_histories.specs.Deliveries.{wait_of}
 use Rattle.kernel_histories.specs.Waits.{HasNoTurn, WaitsGetTheFirst, awaited, upcalls_since, upcalls_told}
-use Rattle.kernel_model.proofs.Places.{of_stepped, ran-other}
+use Rattle.kernel_model.proofs.Places.{of_stepped, ran-other, free_turned}
 use Rattle.kernel_model.proofs.Steps.{IsAnswer, TellsNoTurn, answer_changes, device_answers, ended_told, of_operated}
 use Rattle.kernel_model.proofs.Steps.{of_step, of_told}
 use Rattle.kernel_model.proofs.Told.{labels_at, told_at, told_there}
@@ -242,11 +242,12 @@ begins_to_wait = record {
   woken = λ r yielded driver number e none. absurd (cc);
 }
 
--- a turn of a process that has the arguments of the upcall for which it waited
-given_turn : (settings : Settings) (time : ℕ) (r : Record) (args : List ℕ) → wait_of r ≡ Some (Given args)
+-- a turn of a process that is not held and has the arguments of the upcall for which it waited
+given_turn : (settings : Settings) (time : ℕ) (r : Record) (args : List ℕ) → r.process.held ≡ false
+    → wait_of r ≡ Some (Given args)
     → (turned settings time r).after.process ≡ delivered (Arguments args) (after_turn r.process)
-unfolding turned
-given_turn settings time r args = by_state r.process.state
+given_turn settings time r args free waits =
+    ap (λ (t : Turned). t.after.process) (free_turned settings time r free) ∙ by_state r.process.state waits
   where
     by_state : (state : State) → wait_in state r.own.inbox.wait ≡ Some (Given args)
         → (turn_in settings time state r).after.process ≡ delivered (Arguments args) (after_turn r.process)
@@ -265,9 +266,9 @@ step_gives w slot choice r s args is left waits =
     of_step w slot Of
     (record {
       stays = λ x e. All-nil (Tells x);
-      turn = λ q there x e.
+      turn = λ q there free x e.
           All-cons (Tells x) (turned w.settings w.clock.time q).told [] (at_turn q x (same_record
-          (slice_get w.records slot) q r there is) e)
+          (slice_get w.records slot) q r there is) free e)
           (All-nil (Tells x));
       answer = λ q there event answers x e. All-nil (Tells x);
       act = λ q there verb x e. All-nil (Tells x);
@@ -283,13 +284,13 @@ step_gives w slot choice r s args is left waits =
     same_record : (o : Option Record) (x y : Record) → o ≡ Some x → o ≡ Some y → x ≡ y
     same_record o x y e f = let both : Some x ≡ Some y = sym e ∙ f in cc
 
-    at_turn : (q x : Record) → q ≡ r → Some (turned w.settings w.clock.time q).after ≡ Some x
+    at_turn : (q x : Record) → q ≡ r → q.process.held ≡ false → Some (turned w.settings w.clock.time q).after ≡ Some x
         → x.process ≡ delivered (Arguments args) (after_turn r.process)
-    at_turn q x same e =
+    at_turn q x same free e =
         let is_x : (turned w.settings w.clock.time q).after ≡ x = cc in
         ap (λ (y : Record). y.process) (sym is_x)
         ∙ ap (λ (y : Record). (turned w.settings w.clock.time y).after.process) same
-        ∙ given_turn w.settings w.clock.time r args waits
+        ∙ given_turn w.settings w.clock.time r args (ap (λ (y : Record). y.process.held) (sym same) ∙ free) waits
 
 pub waits_get_the_first : CallsAreOfEcall → WaitsGetTheFirst
 waits_get_the_first of_ecall w slot = record {

@@ -24,8 +24,8 @@ pub fn deliveries_are_of_the_last()
 
 /// In every run a process whose yield asks for the upcall of a driver and a number alone, of which
 /// none waits, gets in its next turn the arguments of the first one that is scheduled from then on,
-/// null or not and with however many that wait; until then it waits, whatever else is scheduled
-/// for it (TRD 104, "Yield").
+/// null or not and with however many that wait, if no operator ends its life before; until then it
+/// waits, whatever else is scheduled for it (TRD 104, "Yield").
 pub fn waits_get_the_first()
     ensures { WaitsGetTheFirst }
 {

@@ -1,10 +1,19 @@
 -- What an answer of a device changes of a process's bytes.
-use Rattle.std.proofs.Common.{◌≡◌, ◌≢◌, ◌⊎◌, inl, inr, ◌<◌, ◌≤◌, ℕ, ◌+◌, Bool, true, false, cond, List, length}
-use Rattle.std.proofs.Common.{slice_index, Option, None, Some, Result, Ok, Err, refl, ap, arith}
+use Rattle.std.proofs.Common.{◌≡◌, ◌≢◌, ◌⊎◌, inl, inr, ◌<◌, ◌≤◌, ℕ, ◌+◌, Bool, true, false, cond, List, length, min}
+use Rattle.std.proofs.Common.{unwrap_or, slice_index, Option, None, Some, Result, Ok, Err, refl, ap, arith}
 use Rattle.std.specs.Prelude.{IsSomeAnd}
 use Rattle.std.proofs.Math.Logic.{⊎_map}
 use Rattle.std.proofs.lemmas.Bool.{cases_lt}
-use Rattle.std.proofs.lemmas.List.{places}
+use Rattle.std.proofs.lemmas.List.{length-take, places}
+use Rattle.std.specs.Option.{option_map}
+use Rattle.tk_base.specs.declared.kinds.PairKind.TheVariants.{ReadOnly}
+use Rattle.grant_values.specs.declared.storage.StorageKind.{StorageKind}
+use Rattle.grant_values.specs.declared.storage.StorageKind.TheVariants.{Read, Write}
+use Rattle.grant_values.specs.declared.storage.StorageRequest.{StorageRequest}
+use Rattle.process_model.specs.Own.{Own}
+use Rattle.process_model.specs.Handed.{held}
+use Rattle.process_model.specs.Served.{bytes_at}
+use Rattle.driver_model.specs.Requests.{waiting_in}
 use Rattle.tk_base.specs.declared.process.Verb.{Verb}
 use Rattle.tk_base.specs.declared.process.Verb.TheVariants as verbs
 use Rattle.tbf_headers.specs.declared.fault.HeaderFault.{HeaderFault}
@@ -55,6 +64,32 @@ overwrites bytes (Some written) k within = by_start (cases_lt k written.0)
     by_start (inl below) = inl (overwritten_other bytes written.1 written.0 k within (inl below))
     by_start (inr above) = by_end above (cases_lt k (written.0 + length written.1))
 
+-- what serving a request writes over the storage, where that does not fail, lies where a write asks for
+abbrev AsksFor : ℕ → StorageRequest → Type 0
+AsksFor k request = (request.kind ≡ Write) × (request.offset ≤ k) × (k < request.offset + request.length)
+
+served_asks : (flash : ℕ → ℕ) (bytes : List ℕ) (request : StorageRequest) (own : Own) (k : ℕ) (kind : StorageKind)
+    → request.kind ≡ kind → Covers (storage.moving kind flash bytes request own).written k → AsksFor k request
+served_asks flash bytes request own k Read is covers = absurd covers
+served_asks flash bytes request own k Write is covers =
+    let buffer = held ReadOnly storage.storage 0 own in
+    let count = min request.length buffer.1 in
+    let size = length-take count (bytes_at flash own buffer) in
+    (is, covers.0, omega (arith, covers.1, size))
+
+answer_asks : (flash : ℕ → ℕ) (bytes : List ℕ) (own : Own) (k : ℕ)
+    → Covers (storage.answered false flash bytes own).written k
+    → IsSomeAnd (waiting_in storage.storages own) (AsksFor k)
+unfolding storage.answered
+answer_asks flash bytes own k = by_request (waiting_in storage.storages own)
+  where
+    by_request : (o : Option StorageRequest)
+        → Covers (unwrap_or (option_map (λ request.
+        storage.storage_answer_of (storage.storage_served false flash bytes request own)) o)
+        (storage.unanswered own)).written k → IsSomeAnd o (AsksFor k)
+    by_request None covers = absurd covers
+    by_request (Some request) covers = served_asks flash bytes request own k request.kind refl covers
+
 -- a device's answer changes bytes inside the buffer that is held for it
 record AnswerIsInBuffer (event : Event) (r s : Record) : Type 0 where
   own : ChangesAt (IsInside (buffer_for event r.own)) r.own s.own
@@ -88,7 +123,9 @@ answer_in_buffer law settings NoWord r is whole =
     }
 answer_in_buffer law settings (Stored true) r is whole = record {
   own = law.stored false (flash_of r) r.storage r.own whole;
-  storage = overwrites r.storage (storage.answered false (flash_of r) r.storage r.own).written;
+  storage = λ k within.
+      ⊎_map (λ same. same) (answer_asks (flash_of r) r.storage r.own k)
+      (overwrites r.storage (storage.answered false (flash_of r) r.storage r.own).written k within);
 }
 answer_in_buffer law settings (Stored false) r is whole = record {
   own = law.stored true (flash_of r) r.storage r.own whole;

@@ -48,7 +48,7 @@ use Rattle.kernel_model.specs.Parts.{restarted_by, restarted_main}
 use Rattle.kernel_model.specs.Calls.{comes_to, yield_for, yielding}
 use Rattle.kernel_model.specs.Turn.{Turned, turn_counted, at_turn_end, faulted, yield_flag_of, idle}
 use Rattle.kernel_model.specs.Parts.{calls, delivery}
-use Rattle.kernel_model.specs.Turn.{made, settled, surroundings, turned, turn_in}
+use Rattle.kernel_model.specs.Turn.{made, settled, surroundings, turn_in}
 use Rattle.kernel_model.specs.Parts.{instructed, unknown_call}
 use Rattle.kernel_model.specs.Histories.{ends_life}
 use Rattle.kernel_model.specs.Parts.{is_exit}
@@ -60,6 +60,7 @@ use Rattle.kernel_laws.specs.Clock.{TurnsWithoutClockHaveCauses, asks_clock}
 use Rattle.process_record.specs.declared.emit.CallMade.{CallMade}
 use Rattle.kernel_model.proofs.Classes.{of_registers}
 use Rattle.kernel_model.proofs.Memops.{by_test, memop_gives}
+use Rattle.kernel_model.proofs.Places.{of_turned}
 
 -- what a call, or a fault, leaves of a process's bytes: they change at the flag, or as it starts again where it ends a
 -- life, or where it is shown the clock
@@ -97,7 +98,7 @@ restarts_so r flag ends {shown} is = by_reading (header_reading r.object)
     by_reading (Err fault) = kept r r flag (λ at before after. refl) refl
 
 -- the form of the call that registers make
-abbrev form_in : Registers → Option CallForm
+abbrev pub form_in : Registers → Option CallForm
 form_in regs = option_map form_of (call_of regs)
 
 -- registers that make an exit have its class
@@ -108,12 +109,12 @@ exit_class regs kind code =
     (λ is e. is) (λ e. absurd (cc))
 
 -- registers that make a command have its class, its driver and its number
-record IsCommand (regs : Registers) (driver number : ℕ) : Type 0 where
-  class_is : class regs ≡ 2
-  driver_is : a0 regs ≡ driver
-  number_is : a1 regs ≡ number
+pub record IsCommand (regs : Registers) (driver number : ℕ) : Type 0 where
+  pub class_is : class regs ≡ 2
+  pub driver_is : a0 regs ≡ driver
+  pub number_is : a1 regs ≡ number
 
-command_class : (regs : Registers) (driver number x y : ℕ)
+pub command_class : (regs : Registers) (driver number x y : ℕ)
     → form_in regs ≡ Some (forms.Command driver number x y) → IsCommand regs driver number
 command_class regs driver number x y =
     of_registers (λ (o : Option SystemCall). option_map form_of o ≡ Some (forms.Command driver number x y)
@@ -346,11 +347,15 @@ is_call None asks = absurd (false≢true asks)
 is_call (Some made) asks = refl
 
 pub turns_have_causes : OnlyWritesChangeBytes → CommandsWriteInBuffers → CallsAreOfEcall → TurnsHaveCauses
-unfolding turned
 turns_have_causes law commands of_ecall settings time r whole =
-    of_state law commands of_ecall settings time r.process.state r (λ asks. whole (is_call _ asks))
+    of_turned (λ t. (is_some t.told.call ≡ true → IsWhole r.own) → TurnHasCauses r t.after t.told) settings time r
+    (λ whole. of_idle law commands of_ecall settings time r)
+    (λ whole. of_state law commands of_ecall settings time r.process.state r (λ asks. whole (is_call _ asks))) whole
 
 pub turns_without_clock : OnlyWritesChangeBytes → CommandsWriteInBuffers → CallsAreOfEcall → TurnsWithoutClockHaveCauses
-unfolding turned
 turns_without_clock law commands of_ecall settings time r none =
-    of_state law commands of_ecall settings time r.process.state r (λ asks. absurd (false≢true (sym none ∙ asks)))
+    of_turned (λ t. asks_clock t.told.call ≡ false → TurnHasCauses r t.after t.told) settings time r
+    (λ none. of_idle law commands of_ecall settings time r)
+    (λ none.
+    of_state law commands of_ecall settings time r.process.state r (λ asks. absurd (false≢true (sym none ∙ asks))))
+    none

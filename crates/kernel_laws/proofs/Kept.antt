@@ -39,6 +39,7 @@ use Rattle.kernel_model.specs.Lives.{DropsOnlyWhereFull}
 use Rattle.kernel_model.proofs.Steps.{of_answer, of_operated, of_step}
 use Rattle.kernel_model.proofs.Comes.{all_same, no_more, of_call, restart_keeps}
 use Rattle.kernel_model.proofs.Lines.{SameKept, keeps_ended, keeps_restarted, keeps_same}
+use Rattle.kernel_model.proofs.Places.{of_turned}
 
 -- at most one upcall was dropped; and a process that lives keeps a request exactly where it waits
 record Leaves (settings : Settings) (r : Record) (t : Turned) : Type 0 where
@@ -137,15 +138,19 @@ leaves_turn promise settings time Yielded r = leaves_delivery settings r (due r.
 leaves_turn promise settings time Faulted r = leaves_idle settings r
 leaves_turn promise settings time (Terminated code) r = leaves_idle settings r
 
+leaves_turned : (promise : DriversPromise) (settings : Settings) (time : ℕ) (r : Record)
+    → Leaves settings r (turned settings time r)
+leaves_turned promise settings time r =
+    of_turned (Leaves settings r) settings time r (leaves_idle settings r)
+    (leaves_turn promise settings time r.process.state r)
+
 pub drops_at_most_one : DriversPromise → DropsAtMostOne
-unfolding turned
-drops_at_most_one promise settings time r = (leaves_turn promise settings time r.process.state r).dropped
+drops_at_most_one promise settings time r = (leaves_turned promise settings time r).dropped
 
 pub drops_with_room : DriversPromise → (settings : Settings) (time : ℕ) (r : Record)
     → length r.own.inbox.pending < PENDING_LIMIT → (turned settings time r).after.own.inbox.dropped
     ≡ r.own.inbox.dropped
-unfolding turned
-drops_with_room promise settings time r = (leaves_turn promise settings time r.process.state r).room
+drops_with_room promise settings time r = (leaves_turned promise settings time r).room
 
 same_some : {X : Type 0} (x y : X) → Some x ≡ Some y → x ≡ y
 same_some x y e = cc
@@ -164,7 +169,7 @@ drops_only_where_full promise w choices choice slot before now is later few =
     (record {
       stays = subst (λ (o : Option Record). IfSome o (λ x. x.own.inbox.dropped ≡ before.own.inbox.dropped)) (sym is)
           refl;
-      turn = λ r at.
+      turn = λ r at free.
           subst (λ (x : Record). (turned v.settings v.clock.time x).after.own.inbox.dropped ≡ before.own.inbox.dropped)
           (same_some before r (sym is ∙ at)) (drops_with_room promise v.settings v.clock.time before few);
       answer = λ r at event answers.
@@ -177,8 +182,7 @@ drops_only_where_full promise w choices choice slot before now is later few =
     choice)
 
 pub turns_keep_lines : DriversPromise → TurnsKeepLines
-unfolding turned
-turns_keep_lines promise settings time r = (leaves_turn promise settings time r.process.state r).lines
+turns_keep_lines promise settings time r = (leaves_turned promise settings time r).lines
 
 -- a turn that tells of no call and no denial
 abbrev IsQuiet : Record → Turned → Type 0
@@ -216,11 +220,14 @@ quiet_turn settings time Yielded r call denial = quiet_delivery r (due r.own.inb
 quiet_turn settings time Faulted r call denial = (refl, refl, refl)
 quiet_turn settings time (Terminated code) r call denial = (refl, refl, refl)
 
+quiet_turned : (settings : Settings) (time : ℕ) (r : Record) → IsQuiet r (turned settings time r)
+quiet_turned settings time r =
+    of_turned (IsQuiet r) settings time r (quiet_turn settings time Faulted r)
+    (quiet_turn settings time r.process.state r)
+
 pub grants_change_at_calls : GrantsChangeAtCalls
-unfolding turned
 grants_change_at_calls settings time r call denial =
-    let quiet = quiet_turn settings time r.process.state r call denial in (quiet.0, quiet.1)
+    let quiet = quiet_turned settings time r call denial in (quiet.0, quiet.1)
 
 pub turns_act_at_calls : TurnsActAtCalls
-unfolding turned
-turns_act_at_calls settings time r call denial = (quiet_turn settings time r.process.state r call denial).2
+turns_act_at_calls settings time r call denial = (quiet_turned settings time r call denial).2

@@ -2,10 +2,14 @@ pub mod Refused
 pub mod Kept
 pub mod Turns
 mod Stretch
-mod Causes
+pub mod Causes
+mod Time
 mod Answered
 mod Caused
-mod OneRun
+pub mod OneRun
+mod Alarms
+mod Ready
+mod Queues
 mod Tables
 mod Words
 mod Commands

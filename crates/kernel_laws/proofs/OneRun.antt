@@ -100,7 +100,8 @@ told_ready [] s = refl
 told_ready (r ∷ rs) zero = refl
 told_ready (r ∷ rs) (suc s) = told_ready rs s
 
-mapped_get : {X Y : Type 0} (f : X → Y) (xs : List X) (i : ℕ) → slice_get (map f xs) i ≡ option_map f (slice_get xs i)
+pub mapped_get : {X Y : Type 0} (f : X → Y) (xs : List X) (i : ℕ)
+    → slice_get (map f xs) i ≡ option_map f (slice_get xs i)
 mapped_get f [] i = refl
 mapped_get f (x ∷ xs) zero = refl
 mapped_get f (x ∷ xs) (suc i) = mapped_get f xs i
@@ -115,7 +116,7 @@ none_found : {X : Type 0} (p : X → Bool) (xs : List X) → ((x : X) → p x �
 none_found p [] none = refl
 none_found p (x ∷ xs) none = ap (λ (b : Bool). cond b (Some x) (find p xs)) (none x) ∙ none_found p xs none
 
-none_in_range : (p : ℕ → Bool) (from count slot : ℕ) → find p (range_with_len from count) ≡ None → from ≤ slot
+pub none_in_range : (p : ℕ → Bool) (from count slot : ℕ) → find p (range_with_len from count) ≡ None → from ≤ slot
     → slot < from + count → p slot ≡ false
 none_in_range p from zero slot e low high = absurd (omega (arith, low, high))
 none_in_range p from (suc count) slot e low high =
@@ -242,7 +243,7 @@ none_left now own none = by_lives own.lives none
     by_lives true none = ap (option_map (ticks_left now)) (none refl)
     by_lives false none = refl
 
-left_at : (w : World) (slot : ℕ)
+pub left_at : (w : World) (slot : ℕ)
     → ticks_left_in (now_in w) (owns_in w) slot
     ≡ option_and_then (λ (r : Record). ticks_left_of (now_in w) r.own) (slice_get w.records slot)
 left_at w slot =

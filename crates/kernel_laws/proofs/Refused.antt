@@ -30,7 +30,7 @@ use Rattle.kernel_model.specs.Refused.{IfRefused, LeavesRefused, RefusalsChangeL
 use Rattle.kernel_model.specs.Parts.{CallIsRefused}
 use Rattle.kernel_model.specs.Parts.{refusal_in}
 use Rattle.kernel_model.proofs.Labels.{device_labels}
-use Rattle.kernel_model.proofs.Places.{of_stepped}
+use Rattle.kernel_model.proofs.Places.{of_stepped, of_turned}
 
 no_rule : (rule : CallRule) → ◌≡◌ {A = Option CallRule} None (Some rule) → ⊥
 no_rule rule e = cc
@@ -83,8 +83,7 @@ module _ (law : RefusedChangesNothingElse) (of_ecall : CallsAreOfEcall) (setting
   of_state (Terminated code) r rule e = absurd (no_rule rule e)
 
   of_turn : (r : Record) → Refuses r (turned settings time r)
-  unfolding turned
-  of_turn r = of_state r.process.state r
+  of_turn r = of_turned (Refuses r) settings time r (of_state Faulted r) (of_state r.process.state r)
 
 module _ (law : RefusedChangesNothingElse) (of_ecall : CallsAreOfEcall) (w : World) where
   of_ran : (slot : ℕ) (o : Option Record) → slice_get w.records slot ≡ o → let s = ran w slot o in

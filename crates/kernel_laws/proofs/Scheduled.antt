@@ -90,6 +90,7 @@ use Rattle.kernel_model.specs.Turn.{turn_counted, turn_in, turned}
 use Rattle.kernel_model.proofs.Classes.{command_in, exit_in, memop_in, of_registers, swap_in, yield_in}
 use Rattle.kernel_model.proofs.Memops.{by_test, memop_gives}
 use Rattle.kernel_model.proofs.Steps.{IsAnswer, of_operated}
+use Rattle.kernel_model.proofs.Places.{of_turned}
 use Rattle.kernel_laws.specs.Scheduled.{answer_step, call_schedules, command_schedules, scheduled_by}
 use Rattle.kernel_laws.specs.Scheduled.{turn_schedules, upcall_told}
 use Rattle.kernel_laws.proofs.Commands.{command_leaves}
@@ -495,8 +496,11 @@ module _ (refuse : RefusedByAnyDriver) (settings : Settings) (time : ℕ) (r : R
 -- the turn of a process leaves what remains of what was scheduled, and then schedules what its call does
 pub turn_leaves : RefusedByAnyDriver → CallsAreOfEcall → (settings : Settings) (time : ℕ) (r : Record)
     → Schedules (turn_schedules settings time r) r (turned settings time r).after
-unfolding turned
-turn_leaves refuse of_ecall settings time r = of_state refuse settings time r of_ecall r.process.state
+turn_leaves refuse of_ecall settings time r =
+    of_turned
+    (λ t. Schedules (option_and_then (call_schedules (surroundings settings time r) r.own) t.told.call) r t.after)
+    settings time r (of_state refuse settings time r of_ecall Faulted)
+    (of_state refuse settings time r of_ecall r.process.state)
 
 -- a process that starts again keeps nothing of what was scheduled
 restart_keeps_none : (r : Record) → Keeps r (restart r)

@@ -35,7 +35,7 @@ use Rattle.kernel_model.specs.Stretch.{AllGo, IsQuietTurn, IsNextOnTheWay, IsStr
 use Rattle.kernel_model.specs.Stretch.{PresentIsNextOnTheWay, PresentStaysOn}
 use Rattle.kernel_model.specs.Stretch.{RoundIsStretch, RoundsJoin, StretchesJoin, after_instructions, after_stretch}
 use Rattle.kernel_model.specs.Stretch.{at_turn, instruction_made}
-use Rattle.kernel_model.proofs.Places.{slice_get-set_same, stepped_ready}
+use Rattle.kernel_model.proofs.Places.{slice_get-set_same, stepped_ready, free_turned}
 use Rattle.kernel_laws.proofs.Turns.{run_ready, turn_is_free, turn_is_ready}
 
 set-same : {X : Type 0} (xs : List X) (i : ℕ) (x : X) → slice_get xs i ≡ Some x → slice_set xs i x ≡ xs
@@ -53,11 +53,11 @@ abbrev quiet_told : Record → TurnTrace
 quiet_told r = record { accesses = (instruction r).accesses; call = None; flag = None; denial = None }
 
 -- the turn of a process that runs, where its instruction goes
-went : (s : Settings) (time : ℕ) (r : Record) → r.process.state ≡ Running → (instruction r).end ≡ Went
+went : (s : Settings) (time : ℕ) (r : Record) → r.process.held ≡ false → r.process.state ≡ Running
+    → (instruction r).end ≡ Went
     → turned s time r ≡ record { after = instruction_made r; told = quiet_told r; acts = [] }
-unfolding turned
-went s time r runs e =
-    ap (λ (state : State). turn_in s time state r) runs
+went s time r free runs e =
+    free_turned s time r free ∙ ap (λ (state : State). turn_in s time state r) runs
     ∙ ap (at_turn_end s time (instruction_made r) (instruction r).accesses) e
 
 -- a present slot whose process runs goes on with its slice
@@ -133,7 +133,7 @@ module _ (w : World) (slot : ℕ) (r : Record) (p : w.present.slot ≡ Some slot
   one_step below u e =
       stepped_ready w (Run slot) (runs_ready w slot r at runs free below)
       ∙ ap (ran w slot) at
-      ∙ ap (λ (t : Turned). made_by t) (went w.settings w.clock.time r runs e)
+      ∙ ap (λ (t : Turned). made_by t) (went w.settings w.clock.time r free runs e)
       ∙ ap (λ (n : ℕ). record {
         after =
             record w {

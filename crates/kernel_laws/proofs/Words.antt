@@ -205,12 +205,12 @@ module _ (tell : EventsTellSteps) (w : World) (lane : ℕ) where
         nobody = λ rest. refl;
         acts = λ verb rest slot r is. answers_quietly slot r (operating verb (with_rest w.devices rest) slot r) refl
             (routed_words slot (acts_of verb r) (with_rest w.devices rest));
-        alarms = λ slot r is. answers_quietly slot r (alarmed w.settings w.clock.time w.devices) refl refl;
-        sends = λ slot r is. answers_quietly slot r (transmitting (lane_in w) w.clock.time w.devices slot r)
+        alarms = λ slot r first is. answers_quietly slot r (alarmed w.settings w.clock.time w.devices) refl refl;
+        sends = λ slot r first is. answers_quietly slot r (transmitting (lane_in w) w.clock.time w.devices slot r)
             (sent_none (console.sent (flash_of r) r.own).completed) refl;
-        receives = λ slot r is. answers_quietly slot r (receive_step (lane_in w) w.devices slot r) refl refl;
+        receives = λ slot r first is. answers_quietly slot r (receive_step (lane_in w) w.devices slot r) refl refl;
         draws = λ slot r first is. draws slot r first;
-        stores = λ slot r is. answers_quietly slot r (storing (lane_in w) w.devices slot r) refl refl;
+        stores = λ slot r first is. answers_quietly slot r (storing (lane_in w) w.devices slot r) refl refl;
       }) device
 
   choice_draws : (choice : Choice) → DrawsInOrder (carried_out w choice)

@@ -1,9 +1,10 @@
--- What changes bytes in turns that don't ask for the clock (TRD 104, "Command"; that the alarm
--- shows its clock is this board's own rule).
+-- How the clock comes into turns, and what changes bytes in those that don't ask for it (TRD 104,
+-- "Command"; that the alarm shows its clock is this board's own rule).
 use Rattle.std.specs.Prelude.{◌≡◌, ℕ, ◌==◌, ◌&&◌, Bool, false, slice_index, Option, option_map, unwrap_or, All}
 use Rattle.tk_base.specs.declared.process.Choice.TheVariants.{Run}
-use Rattle.driver_model.specs.Bytes.{shows_clock}
 use Rattle.process_record.specs.declared.emit.CallMade.{CallMade}
+use Rattle.driver_model.specs.Alarm.{alarm_driver}
+use Rattle.driver_model.specs.Bytes.{shows_clock}
 use Rattle.kernel_model.specs.Record.{Record}
 use Rattle.kernel_model.specs.declared.settings.Settings.{Settings}
 use Rattle.kernel_model.specs.Turn.{turned}
@@ -31,3 +32,16 @@ AsksNoClock label = asks_clock label.trace.call ≡ false
 abbrev pub StepsWithoutClockHaveCauses : Type 0
 StepsWithoutClockHaveCauses =
     (w : World) (slot : ℕ) → All AsksNoClock (labels w (Run slot)) → EachChangeHasACause w (Run slot)
+
+-- whether a call was a command to the alarm, whatever came of it
+abbrev pub is_for_alarm : Option CallMade → Bool
+is_for_alarm call =
+    unwrap_or (option_map (λ made. made.class == 2 && slice_index made.args 0 == alarm_driver) call) false
+
+-- Time comes in by the alarm alone: a turn that makes no command to it comes to the same at any other time, wherever
+-- the clock began.
+abbrev pub TimeComesInByTheAlarm : Type 0
+TimeComesInByTheAlarm =
+    (settings : Settings) (start time other : ℕ) (r : Record) →
+    let t = turned settings time r in
+    is_for_alarm t.told.call ≡ false → turned (record settings { start = start }) other r ≡ t

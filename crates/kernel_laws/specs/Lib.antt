@@ -3,5 +3,8 @@ pub mod OneRun
 pub mod Tables
 pub mod Words
 pub mod Clock
+pub mod Alarms
+pub mod Ready
+pub mod Queues
 pub mod Scheduled
 pub mod Windows

@@ -10,10 +10,11 @@ mod steps;
 pub use bytes::{answers_have_causes, steps_have_causes, turns_have_causes};
 pub use edges::edges_schedule_once;
 pub use rounds::{
-    a_run_is_one_run, next_is_of_the_window, ready_processes_have_turns, round_is_stretch,
-    rounds_join,
+    a_run_is_one_run, alarms_fire_when_due, next_is_of_the_window, ready_processes_have_turns,
+    round_is_stretch, rounds_join,
 };
 pub use steps::{
-    grants_change_at_calls, refusals_change_little, tables_name_the_same_drivers, turns_keep_lines,
-    words_are_drawn_in_order,
+    grants_change_at_calls, only_ready_processes_have_turns, queues_are_first_come_first_served,
+    refusals_change_little, tables_name_the_same_drivers, time_comes_in_by_the_alarm,
+    turns_keep_lines, words_are_drawn_in_order,
 };

@@ -1,8 +1,11 @@
-//! Laws of steps: what a turn keeps, what a refused call leaves, which words are drawn; and of
-//! tables.
+//! Laws of steps: what a turn keeps, what a refused call leaves, which words are drawn, who has
+//! turns and who is served; and of tables.
 ghost use Rattle.kernel_model.specs.Laws.{DropsAtMostOne, GrantsChangeAtCalls, TurnsActAtCalls};
 ghost use Rattle.kernel_model.specs.Laws.{TurnsKeepLines};
 ghost use Rattle.kernel_model.specs.Refused.{RefusalsChangeLittle};
+ghost use Rattle.kernel_laws.specs.Clock.{TimeComesInByTheAlarm};
+ghost use Rattle.kernel_laws.specs.Queues.{FirstAreServed, QueuesKeepOrder};
+ghost use Rattle.kernel_laws.specs.Ready.{TurnsAreOfReadyProcesses, UnreadyTurnsDoNothing};
 ghost use Rattle.kernel_laws.specs.Tables.{EachRowFitsAWord, SameDrivers};
 ghost use Rattle.kernel_laws.specs.Words.{WordsAreDrawnInOrder};
 
@@ -60,3 +63,26 @@ pub fn words_are_drawn_in_order()
 {
     events_tell_steps();
 }
+
+/// Time comes into a turn by the alarm alone: one that makes no command to the alarm leaves, tells
+/// and asks for the same at any other time, wherever the clock began (TRD 104, "Command").
+#[tactic(auto, using(crate::proofs::Time::time_comes_in_by_the_alarm))]
+pub fn time_comes_in_by_the_alarm()
+    ensures { TimeComesInByTheAlarm }
+{}
+
+/// Whoever makes the choices, a turn is that of a process which may have one: which no operator
+/// holds, and which runs, or has yielded and something is due to it (TRD 104, "Yield", "Exit"). A
+/// turn of one that may have none would change nothing.
+pub fn only_ready_processes_have_turns()
+    ensures ready { TurnsAreOfReadyProcesses }
+    ensures others { UnreadyTurnsDoNothing }
+{}
+
+/// The board's queues are first come, first served: in every step, whoever makes the choices, those
+/// that stay in a queue keep their order, whoever begins to wait comes last, and a device answers
+/// the first of those that may be served.
+pub fn queues_are_first_come_first_served()
+    ensures order { QueuesKeepOrder }
+    ensures first { FirstAreServed }
+{}

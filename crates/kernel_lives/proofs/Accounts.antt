@@ -21,6 +21,7 @@ use Rattle.kernel_model.specs.Edges.{StepsServeEdges}
 use Rattle.kernel_model.specs.Prints.{PrintsAreOfBuffers}
 use Rattle.kernel_model.specs.Refused.{RefusalsChangeLittle}
 use Rattle.kernel_model.specs.Replay.{chosen}
+use Rattle.kernel_lives.proofs.Denials.{denials_are_recorded}
 
 -- the turn of a step is shown
 choice_shown : (w : World) (choice : Choice) → let ls = (carried_out w choice).labels in
@@ -66,6 +67,7 @@ steps_are_accounted_for causes guarded refused prints edges operates = record {
       causes = one;
       accesses = (guarded w choice).accesses;
       denials = (guarded w choice).denials;
+      recorded = denials_are_recorded w choice;
       shown = step_shown w choice;
       refused = refused w choice;
       prints = prints w [] choice;

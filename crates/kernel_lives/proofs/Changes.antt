@@ -2,7 +2,7 @@
 -- any choices. Before a turn I holds of the process, and then J.
 use Rattle.std.proofs.Common.{◌≡◌, ◌≤◌, ℕ, suc, ◌+◌, ◌%◌, ◌^◌, ◌==◌, Bool, true, false, cond, List, [], ◌∷◌, find}
 use Rattle.std.proofs.Common.{drop, length, slice_get, take, Option, None, Some, IfSome, is_some, Result, Ok, Err, refl}
-use Rattle.std.proofs.Common.{sym, ap, subst, arith}
+use Rattle.std.proofs.Common.{sym, ap, subst, arith, not, ◌&&◌, ◌∙◌}
 use Rattle.std.specs.Prelude.{remove}
 use Rattle.std.proofs.lemmas.List.{length-append, length-drop, length-take}
 use Rattle.tk_base.specs.declared.access.Denial.{Denial}
@@ -62,7 +62,7 @@ use Rattle.kernel_model.specs.Calls.{taken_by, yield_for, yield_now, yielding}
 use Rattle.kernel_model.specs.Parts.{with_break_at}
 use Rattle.kernel_model.specs.Turn.{Event, apply, turn_counted, at_turn_end, faulted, has_turn}
 use Rattle.kernel_model.specs.Parts.{calls, delivery}
-use Rattle.kernel_model.specs.Turn.{operated, settled, surroundings, turned, turn_in}
+use Rattle.kernel_model.specs.Turn.{operated, settled, surroundings, turned, turn_in, idle, may_turn}
 use Rattle.kernel_model.specs.World.{World, after}
 use Rattle.kernel_model.specs.Replay.{after_all}
 use Rattle.process_record.specs.Process.{after_end, is_alive}
@@ -321,11 +321,15 @@ module _ (R : Own → Own → Type 0) (services : OfEachService R) (I J : Record
   -- after a turn: where it had none, as it was; else by what stands once the turn was counted, and its instruction has
   -- had its effect
   pub after_turn : (settings : Settings) (time : ℕ) (r : Record)
-      → (has_turn r.process.state (due r.own.inbox) ≡ false → J r) → I (turn_counted r)
+      → (may_turn r ≡ false → J r) → I (turn_counted r)
       → I (with_effect (turn_counted r) (instruction r)) → J (turned settings time r).after
   unfolding turned
-  after_turn settings time r none waited went = by_state r.process.state refl none
+  after_turn settings time r none waited went = by_held r.process.held refl
     where
+      no_turn : (held : Bool) → (not held && false) ≡ false
+      no_turn true = refl
+      no_turn false = refl
+
       by_due : (next : Option Delivery) → r.process.state ≡ Yielded → (is_some next ≡ false → J r)
           → J (delivery r next).after
       by_due None is none = none refl
@@ -340,6 +344,13 @@ module _ (R : Own → Own → Type 0) (services : OfEachService R) (I J : Record
       by_state Yielded is none = by_due (due r.own.inbox) is none
       by_state Faulted is none = none refl
       by_state (Terminated code) is none = none refl
+
+      by_held : (held : Bool) → r.process.held ≡ held
+          → J (cond held (idle r) (turn_in settings time r.process.state r)).after
+      by_held true is = none (ap (λ (h : Bool). not h && has_turn r.process.state (due r.own.inbox)) is)
+      by_held false is =
+          by_state r.process.state refl
+          (λ over. none (ap (λ (t : Bool). not r.process.held && t) over ∙ no_turn r.process.held))
 
   -- after an answer
   pub after_answer : (settings : Settings) (event : Event) (r : Record) → IsAnswer event → I r
@@ -360,7 +371,7 @@ over_choices I turns answers acts w (choice ∷ choices) slot h =
     (of_step w slot (λ ended tolds o. IfSome o I)
     (record {
       stays = h;
-      turn = λ r is. turns w.settings w.clock.time r (subst (λ (o : Option Record). IfSome o I) is h);
+      turn = λ r is free. turns w.settings w.clock.time r (subst (λ (o : Option Record). IfSome o I) is h);
       answer = λ r is event answers_it. answers w.settings event r answers_it
           (subst (λ (o : Option Record). IfSome o I) is h);
       act = λ r is verb. acts verb r (subst (λ (o : Option Record). IfSome o I) is h);

@@ -28,9 +28,8 @@ use Rattle.driver_model.specs.Services.{OfEachService}
 use Rattle.kernel_model.specs.Record.{Record}
 use Rattle.kernel_model.specs.declared.settings.Settings.{Settings}
 use Rattle.kernel_model.specs.Calls.{restart}
-use Rattle.kernel_model.specs.Turn.{Event, apply, has_turn, may_turn, operated, turned}
+use Rattle.kernel_model.specs.Turn.{Event, apply, may_turn, operated, turned}
 use Rattle.kernel_model.specs.Parts.{edge_known}
-use Rattle.upcall_queue.specs.Pending.{due}
 use Rattle.kernel_model.specs.Laws.{edge_heard, queue_after_answer}
 use Rattle.kernel_model.specs.World.{DeviceAnswer, DeviceStep, Devices, Stepped, World, acted, after}
 use Rattle.kernel_model.specs.Parts.{alarmed}
@@ -93,21 +92,13 @@ turns_kept n = record {
   faults_again = λ r denial alive h. turns_again n _ h;
 }
 
--- a process that may have a turn has one
-can_turn : (r : Record) → may_turn r ≡ true → has_turn r.process.state (due r.own.inbox) ≡ true
-can_turn r may = by_test r.process.held may
-  where
-    by_test : (held : Bool) → (not held && has_turn r.process.state (due r.own.inbox)) ≡ true
-        → has_turn r.process.state (due r.own.inbox) ≡ true
-    by_test true e = absurd (false≢true e)
-    by_test false e = e
-
+-- a turn of a process that may have one counts
 turn_counts : (settings : Settings) (time : ℕ) (r : Record) → may_turn r ≡ true
     → (turned settings time r).after.process.turns ≡ r.process.turns + 1
 turn_counts settings time r may =
     after_turn Any any_service (Made (r.process.turns + 1)) (Made (r.process.turns + 1))
     (turns_kept (r.process.turns + 1)) settings time r
-    (λ none. absurd (false≢true (sym none ∙ can_turn r may))) refl refl
+    (λ none. absurd (false≢true (sym none ∙ may))) refl refl
 
 answer_counts : (settings : Settings) (event : Event) (r : Record) → IsAnswer event
     → (apply settings event r).process.turns ≡ r.process.turns

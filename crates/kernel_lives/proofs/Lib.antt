@@ -1,9 +1,14 @@
 mod Accounts
 mod Changes
 mod Lives
+mod Denials
 mod Counts
 mod Reopened
 mod Prints
 mod Lists
 mod Wholes
 mod Loads
+mod Ended
+mod OwnBuffers
+mod Requests
+mod StoredBytes

@@ -49,7 +49,7 @@ use Rattle.process_record.specs.Process.{is_alive}
 use Rattle.kernel_lives.specs.Lists.{ListsStay, asks_at, once_if, times_in}
 use Rattle.kernel_lives.proofs.Lives.{over_turn}
 use Rattle.kernel_model.proofs.Places.{of_stepped, queue_with, ran-other, set_own, slice_get-set_other}
-use Rattle.kernel_model.proofs.Places.{slice_get-set_same}
+use Rattle.kernel_model.proofs.Places.{slice_get-set_same, of_turned}
 use Rattle.kernel_model.specs.Laws.{edge_done, edge_heard, one_answered}
 use Rattle.kernel_model.proofs.Told.{of_device, with_rest}
 
@@ -188,8 +188,8 @@ once_after here waits (act ∷ acts) e =
 -- a turn of a process that has ended asks nothing
 over_acts : (settings : Settings) (time : ℕ) (r : Record) → is_alive r.process.state ≡ false
     → (turned settings time r).acts ≡ []
-unfolding turned
-over_acts settings time r over = by_state r.process.state over
+over_acts settings time r over =
+    of_turned (λ t. t.acts ≡ []) settings time r refl (by_state r.process.state over)
   where
     by_state : (state : State) → is_alive state ≡ false → (turn_in settings time state r).acts ≡ []
     by_state Running e = absurd (false≢true (sym e))
@@ -230,7 +230,7 @@ module _ (settings : Settings) (time : ℕ) (r : Record) where
           }
 
 -- what becomes of the requests of a process on which an operator acted
-act_keeps : (size : ℕ) (verb : Verb) (r : Record) → CanStartAgain r
+pub act_keeps : (size : ℕ) (verb : Verb) (r : Record) → CanStartAgain r
     → KeepsLines size r.own (operated verb r).own (acts_of verb r)
 act_keeps size verb r can =
     of_operated (λ ended s. KeepsLines size r.own s.own (cond ended leaving_all [])) r same (λ held. same)
@@ -480,11 +480,11 @@ module _ (follow : LinesFollowAnswers) (tell : EventsTellSteps) (w : World) (h :
         edges = edges;
         nobody = λ rest. h;
         acts = act_lists lives;
-        alarms = fires;
-        sends = sends;
-        receives = receives;
+        alarms = λ slot r first. fires slot r;
+        sends = λ slot r first. sends slot r;
+        receives = λ slot r first. receives slot r;
         draws = λ slot r first. draws slot r;
-        stores = stores;
+        stores = λ slot r first. stores slot r;
       }) device
 
   turn_lists : TurnsKeepLines → ((slot : ℕ) → IfSome (slice_get w.records slot) LivesAsItRuns)

@@ -62,6 +62,7 @@ use Rattle.kernel_model.proofs.Handed.{is_handed}
 use Rattle.kernel_laws.proofs.Turns.{step_same}
 use Rattle.kernel_model.proofs.Replays.{record_is_replay}
 use Rattle.kernel_model.proofs.Steps.{IsAnswer, of_told}
+use Rattle.kernel_model.proofs.Places.{of_turned}
 
 -- a restart, by whether the object is that of an application
 pub restart_by : (P : Record → Type 0) (r : Record) → P r
@@ -154,8 +155,8 @@ lives_stay law =
 -- an ended process has no turn, and what devices tell it changes only which buttons it knows to be pressed
 pub over_turn : (settings : Settings) (time : ℕ) (r : Record) → is_alive r.process.state ≡ false
     → (turned settings time r).after ≡ r
-unfolding turned
-over_turn settings time r over = by_state r.process.state over
+over_turn settings time r over =
+    of_turned (λ t. t.after ≡ r) settings time r refl (by_state r.process.state over)
   where
     by_state : (state : State) → is_alive state ≡ false → (turn_in settings time state r).after ≡ r
     by_state Running e = absurd (false≢true (sym e))

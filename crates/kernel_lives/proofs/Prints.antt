@@ -125,11 +125,11 @@ module _ (w : World) where
         edges = λ button pressed rest. edges button pressed;
         nobody = λ rest. All-nil (PrintsItsBuffer w);
         acts = λ verb rest slot r is. acts verb slot r is;
-        alarms = λ slot r is. silently slot _;
-        sends = sends;
-        receives = λ slot r is. silently slot _;
+        alarms = λ slot r first is. silently slot _;
+        sends = λ slot r first. sends slot r;
+        receives = λ slot r first is. silently slot _;
         draws = λ slot r first is. silently slot _;
-        stores = λ slot r is. silently slot _;
+        stores = λ slot r first is. silently slot _;
       }) device
 
   choice_prints : (choice : Choice) → All (PrintsItsBuffer w) (carried_out w choice).labels

@@ -126,7 +126,7 @@ module _ (law : DriversKeep) (first : Record) (at : IsAtFirst first) where
       (record {
         stays = subst (λ (o : Option Record). IfSome o (After before.process.restarts)) (sym is)
             (λ ne. absurd (ne refl));
-        turn = λ r there.
+        turn = λ r there free.
             subst (λ (x : Record). After before.process.restarts (turned v.settings v.clock.time x).after)
             (same_some before r (sym is ∙ there))
             (after_turn StaysInPlace law.places (Before before.process.restarts) (After before.process.restarts)

@@ -1,2 +1,6 @@
 pub mod Counts
 pub mod Lists
+pub mod Ended
+pub mod OwnBuffers
+pub mod Requests
+pub mod StoredBytes

@@ -1,6 +1,10 @@
 //! Laws that a certifier asks for, each the contract of a function that does nothing.
 ghost use Rattle.kernel_lives.specs.Counts.{CountsAddUp};
+ghost use Rattle.kernel_lives.specs.Ended.{IsFreeOnceEnded};
 ghost use Rattle.kernel_lives.specs.Lists.{ListsStay};
+ghost use Rattle.kernel_lives.specs.OwnBuffers.{WholeOwnsHoldTheirBuffers};
+ghost use Rattle.kernel_lives.specs.Requests.{RequestsCompleteOnce, RequestsEndWithTheirLife};
+ghost use Rattle.kernel_lives.specs.StoredBytes.{ReadsGiveStorage, StorageIsMemory};
 ghost use Rattle.kernel_model.specs.Lives.{AsManyStay, BlocksStayApart, DropsOnlyWhereFull};
 ghost use Rattle.kernel_model.specs.Lives.{EndedStays, HasOrder, HasPendingWithinLimit};
 ghost use Rattle.kernel_model.specs.Lives.{LivesAsItRuns, PlacesStay, RestartsAsOpened};
@@ -12,16 +16,17 @@ use driver_model::{
     a_due_slot_is_there, drivers_keep_buffers_below_the_mark, drivers_keep_places_and_order,
     events_tell_steps, lines_follow_answers,
 };
-use kernel_laws::{steps_have_causes, turns_keep_lines};
+use kernel_laws::{queues_are_first_come_first_served, steps_have_causes, turns_keep_lines};
 use kernel_model::drivers_promise;
 use process_model::only_handing_changes_pairs;
 
 /// Whatever choices are made: a process lives exactly while it is Running or Yielded, and its life
-/// is the number of its restarts, where that was so before; and the record of one that has ended
-/// changes no more as long as no operator has it start again, but for the buttons that it knows to
-/// be pressed.
+/// is the number of its restarts, where that was so before; none that has ended is held, where that
+/// was so before; and the record of one that has ended changes no more as long as no operator has
+/// it start again, but for the buttons that it knows to be pressed.
 pub fn processes_live_as_they_run()
     ensures lives { HoldsThroughout LivesAsItRuns }
+    ensures free { HoldsThroughout IsFreeOnceEnded }
     ensures ended { EndedStays }
 {
     drivers_keep_places_and_order();
@@ -65,7 +70,8 @@ pub fn restarts_are_as_opened()
 /// Whatever choices are made, what a step prints is of the read-only buffer 1 that a process holds
 /// of the console before the step, one that lives and has a write waiting: byte k is the byte at
 /// the offset that was taken so far, and k (TRD 104, "Read-Only Allow"). And where what is the
-/// processes' own was whole, it could load each of them there.
+/// processes' own was whole, it could load each of them there. Or what is printed is the line of a
+/// process that an operator lists.
 pub fn prints_are_of_buffers()
     ensures prints { PrintsAreOfBuffers }
     ensures loads { PrintsCouldBeLoaded }
@@ -87,16 +93,41 @@ pub fn lists_are_of_requests()
 
 /// Whatever choices are made: where a process's memory is in order, its bytes end at the kernel
 /// break, where its grants begin, and each buffer that it has allowed lies in accessible flash, or
-/// in its RAM below the mark, so it stays. What is its own is then whole in every world, and no
-/// step changes a byte of a process without a cause among its labels (Levy et al., SOSP 2017; TRD
-/// 104, "Read-Only Allow", "Read-Write Allow").
+/// in its RAM below the mark, so it stays. What is its own is then whole in every world; each byte
+/// of a buffer lies in accessible RAM below the kernel break, so off its grants, or, of a read-only
+/// one, in accessible flash; and no step changes a byte of a process without a cause among its
+/// labels (Levy et al., SOSP 2017; TRD 104, "Read-Only Allow", "Read-Write Allow").
 pub fn owns_stay_whole()
     ensures stays { HoldsThroughout HasWholeOwn }
     ensures whole { OwnsStayWhole }
+    ensures buffers { WholeOwnsHoldTheirBuffers }
     ensures causes { ChoicesHaveCauses }
 {
     drivers_keep_places_and_order();
     drivers_keep_buffers_below_the_mark();
     only_handing_changes_pairs();
     steps_have_causes();
+}
+
+/// Storage is memory: whatever choices are made, the storage of a process is what it was with the
+/// process's own served writes over it, one after another, through each end and start of it. A read
+/// that is served gives the process bytes of its storage as they are then, where what is its own is
+/// whole and the read asks for bytes that are there.
+pub fn storage_is_memory()
+    ensures memory { StorageIsMemory }
+    ensures reads { ReadsGiveStorage }
+{}
+
+/// Whatever choices are made: the answers that completed a request of a process in a queue, and the
+/// one that waits still, are no more than its requests that began to wait there, and the one that
+/// waited at first, where the lists were those of requests then. And no request outlives the life
+/// in which it waits.
+pub fn requests_complete_once()
+    ensures once { RequestsCompleteOnce }
+    ensures life { RequestsEndWithTheirLife }
+{
+    queues_are_first_come_first_served();
+    lists_are_of_requests();
+    drivers_keep_places_and_order();
+    turns_keep_lines();
 }

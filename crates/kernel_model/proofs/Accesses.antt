@@ -31,7 +31,7 @@ use Rattle.kernel_model.specs.Accesses.{EachAccessIsPermitted, EachDenialIsDue, 
 use Rattle.kernel_model.specs.Accesses.{StepsAreGuarded}
 use Rattle.kernel_model.specs.Replay.{after_all}
 use Rattle.kernel_model.proofs.Labels.{device_labels}
-use Rattle.kernel_model.proofs.Places.{of_stepped}
+use Rattle.kernel_model.proofs.Places.{of_stepped, of_turned}
 
 -- a turn lists the accesses of its instruction, or none
 module _ (P : MemoryAccess → Type 0) where
@@ -68,9 +68,9 @@ instruction_permitted permitted aligned r k t within = record {
 
 turn_permitted : AccessesArePermitted → DataIsAligned → (settings : Settings) (time : ℕ) (r : Record)
     → All (IsPermitted r.own) (turned settings time r).told.accesses
-unfolding turned
 turn_permitted permitted aligned settings time r =
-    by_state (IsPermitted r.own) settings time r.process.state r (instruction_permitted permitted aligned r)
+    of_turned (λ t. All (IsPermitted r.own) t.told.accesses) settings time r (All-nil (IsPermitted r.own))
+    (by_state (IsPermitted r.own) settings time r.process.state r (instruction_permitted permitted aligned r))
 
 -- a class for which there is no call is above 7
 above_all : (regs : Registers) (n : ℕ)
@@ -130,8 +130,8 @@ module _ (law : DenialsAreDue) (of_ecall : CallsAreOfEcall) (settings : Settings
   state_due (Terminated code) r = tt
 
   turn_due : (r : Record) → IfSome (turned settings time r).told.denial (DenialIsDue r)
-  unfolding turned
-  turn_due r = state_due r.process.state r
+  turn_due r =
+      of_turned (λ t. IfSome t.told.denial (DenialIsDue r)) settings time r tt (state_due r.process.state r)
 
 -- what holds of each turn holds of each label
 module _ (P : Record → TurnTrace → Type 0) (w : World)
@@ -147,7 +147,7 @@ module _ (P : Record → TurnTrace → Type 0) (w : World)
       device_labels (OfTurn P w) w (λ slot r a there is. (r, there, none r)) device
   choice_labels (Pass ticks) = All-nil (OfTurn P w)
 
-  step_labels : (choice : Choice) → All (OfTurn P w) (labels w choice)
+  pub step_labels : (choice : Choice) → All (OfTurn P w) (labels w choice)
   step_labels choice =
       of_stepped (λ (s : Stepped). All (OfTurn P w) s.labels) w choice (All-nil (OfTurn P w))
       (λ ready. choice_labels choice)

@@ -10,7 +10,8 @@ pub mod Refusals
 pub mod Runs
 pub mod Handed
 pub mod Replays
-mod Accesses
+pub mod Accesses
+mod Filter
 pub mod Steps
 mod Worked
 pub mod Console

@@ -1,17 +1,21 @@
 -- What a step leaves at each place of the records.
 use Rattle.std.proofs.Common.{◌≡◌, ◌≢◌, ℕ, zero, suc, ◌<◌, Bool, true, false, cond, List, [], ◌∷◌}
-use Rattle.std.proofs.Common.{length, slice_get, slice_set, Option, None, Some, refl, ap, ◌∙◌}
+use Rattle.std.proofs.Common.{length, slice_get, slice_set, Option, None, Some, refl, ap, ◌∙◌, ◌&&◌, not, nat_lt}
 use Rattle.std.specs.Option.{option_map}
+use Rattle.std.proofs.lemmas.Bool.{false≢true, and_parts}
 use Rattle.std.proofs.lemmas.Option.{slice_get_within, slice_get-get_or}
 use Rattle.std.proofs.lemmas.List.{get_or-set_same, length-set}
 use Rattle.kernel_model.specs.Record.{Record}
-use Rattle.kernel_model.specs.Turn.{Turn, Turned, apply, turned}
+use Rattle.kernel_model.specs.declared.settings.Settings.{Settings}
+use Rattle.kernel_model.specs.Turn.{Turn, Turned, apply, has_turn, idle, may_turn, turn_in, turned}
 use Rattle.kernel_model.specs.World.{DeviceStep, Stepped, World, after, after_deed, after_turn_of, carried_out}
-use Rattle.kernel_model.specs.World.{device_step_of, done, is_ready, ran, stepped}
+use Rattle.kernel_model.specs.World.{device_step_of, done, is_ready, may_be_made, ran, stepped}
 use Rattle.kernel_model.specs.Parts.{passed}
 use Rattle.kernel_model.specs.World.{Devices, unmade, with_queue}
-use Rattle.kernel_model.specs.Named.{slots_in}
+use Rattle.kernel_model.specs.Named.{can_run, slots_in}
+use Rattle.upcall_queue.specs.Pending.{due}
 use Rattle.driver_model.specs.Commands.{QueueName, Writes, Reads, Randoms, Stores, is_same}
+use Rattle.tk_base.specs.declared.limits.TheConstants.{STEP_LIMIT}
 use Rattle.tk_base.specs.declared.process.Choice.{Choice}
 use Rattle.tk_base.specs.declared.process.Choice.TheVariants.{Run, Device, Pass}
 use Rattle.tk_base.specs.declared.process.Dev.{Dev}
@@ -34,6 +38,36 @@ stepped_ready w choice e = ap (λ (b : Bool). cond b (carried_out w choice) (unm
 pub stepped_else : (w : World) (choice : Choice) → is_ready w choice ≡ false → stepped w choice ≡ unmade w
 unfolding stepped
 stepped_else w choice e = ap (λ (b : Bool). cond b (carried_out w choice) (unmade w)) e
+
+-- what holds where nothing is done, and of the turn in a process's state, holds of its turn, held or not
+pub of_turned : (P : Turned → Type 0) (settings : Settings) (time : ℕ) (r : Record) → P (idle r)
+    → P (turn_in settings time r.process.state r) → P (turned settings time r)
+unfolding turned
+of_turned P settings time r none turns = by_test r.process.held
+  where
+    by_test : (held : Bool) → P (cond held (idle r) (turn_in settings time r.process.state r))
+    by_test true = none
+    by_test false = turns
+
+-- and where no operator holds it its turn is that in its state
+pub free_turned : (settings : Settings) (time : ℕ) (r : Record) → r.process.held ≡ false
+    → turned settings time r ≡ turn_in settings time r.process.state r
+unfolding turned
+free_turned settings time r free =
+    ap (λ (held : Bool). cond held (idle r) (turn_in settings time r.process.state r)) free
+
+-- a turn that is ready is that of a process which may have one, and no operator holds that
+pub may_where_ready : (w : World) (slot : ℕ) → is_ready w (Run slot) ≡ true
+    → can_run (slice_get w.records slot) ≡ true
+unfolding may_be_made
+may_where_ready w slot ready = (and_parts (nat_lt w.clock.steps STEP_LIMIT) _ ready).1
+
+pub free_where_may : (r : Record) → may_turn r ≡ true → r.process.held ≡ false
+free_where_may r may = by_held r.process.held may
+  where
+    by_held : (held : Bool) → (not held && has_turn r.process.state (due r.own.inbox)) ≡ true → held ≡ false
+    by_held true e = absurd (false≢true e)
+    by_held false e = refl
 
 -- a queue once one has changed
 pub queue_with : (queue name : QueueName) (change : List ℕ → List ℕ) (d : Devices)

@@ -1,7 +1,8 @@
 -- The next choice of the round robin is ready.
 use Rattle.std.proofs.Common.{◌≡◌, ℕ, zero, suc, ◌+◌, ◌-◌, ◌<◌, Bool, true, false, cond, ◌&&◌, nat_le, nat_lt, List, []}
-use Rattle.std.proofs.Common.{length, ◌∷◌, ◌*◌, ◌/◌, ◌%◌, if◌then◌else◌, slice_set, map, find, slice_get, slice_index_or, Option, None, Some, is_some, IfSome, IsTrue}
-use Rattle.std.proofs.Common.{◌==◌, refl, sym, ap, subst, ◌∙◌, arith, eqb-true}
+use Rattle.std.proofs.Common.{length, ◌∷◌, ◌*◌, ◌/◌, if◌then◌else◌, slice_set, map, find, slice_get, slice_index_or}
+use Rattle.std.proofs.Common.{Option, None, Some, is_some, IfSome, IsTrue, ◌==◌, refl, sym, ap, subst, ◌∙◌, arith}
+use Rattle.std.proofs.Common.{eqb-true}
 use Rattle.std.specs.Option.{option_map, option_or}
 use Rattle.std.proofs.lemmas.Bool.{false≢true}
 use Rattle.std.proofs.lemmas.Bool.Decides.{nat_tests}

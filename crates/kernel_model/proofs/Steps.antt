@@ -35,7 +35,8 @@ use Rattle.kernel_model.specs.Parts.{acting_on, slot_of_name}
 use Rattle.kernel_model.specs.World.{telling_nobody, transmitting, unmade}
 use Rattle.kernel_model.specs.Histories.{is_end, is_ended_in, turns_in}
 use Rattle.kernel_model.specs.Parts.{happened}
-use Rattle.kernel_model.proofs.Places.{of_stepped, ran-other, ran-own}
+use Rattle.kernel_model.specs.Named.{can_run}
+use Rattle.kernel_model.proofs.Places.{free_where_may, may_where_ready, of_stepped, ran-other, ran-own}
 use Rattle.kernel_model.specs.Laws.{edge_done, one_answered, quiet}
 use Rattle.kernel_model.proofs.Told.{edge_answer, labels_at, of_device, told_at, told_there, with_arrived, with_rest}
 
@@ -163,11 +164,12 @@ of_answers w P none quietly edges each acts device =
       edges = λ button pressed rest. edges button pressed (with_rest w.devices rest);
       nobody = λ rest. quietly (with_rest w.devices rest);
       acts = λ verb rest. acts verb (with_rest w.devices rest);
-      alarms = λ slot r is. each slot r is (alarmed w.settings w.clock.time w.devices) refl;
-      sends = λ slot r is. each slot r is (transmitting (lane_in w) w.clock.time w.devices slot r) (sent_is_answer _);
-      receives = λ slot r is. each slot r is (receive_step (lane_in w) w.devices slot r) refl;
+      alarms = λ slot r first is. each slot r is (alarmed w.settings w.clock.time w.devices) refl;
+      sends = λ slot r first is.
+          each slot r is (transmitting (lane_in w) w.clock.time w.devices slot r) (sent_is_answer _);
+      receives = λ slot r first is. each slot r is (receive_step (lane_in w) w.devices slot r) refl;
       draws = λ slot r first is. each slot r is (random_step (lane_in w) w.devices slot r) (drawn_is_answer _);
-      stores = λ slot r is. each slot r is (storing (lane_in w) w.devices slot r) refl;
+      stores = λ slot r first is. each slot r is (storing (lane_in w) w.devices slot r) refl;
     }) device
 
 -- what is told is no turn
@@ -274,7 +276,8 @@ only_answers w dev.Store apart = serving_only w (storing (lane_in w) w.devices) 
 -- it, of what its turn tells, if it has one, and of its record afterwards
 pub record OfEachStep (w : World) (slot : ℕ) (P : Bool → List TurnTrace → Option Record → Type 0) : Type 0 where
   pub stays : P false [] (slice_get w.records slot)
-  pub turn : (r : Record) → slice_get w.records slot ≡ Some r → let t = turned w.settings w.clock.time r in
+  pub turn : (r : Record) → slice_get w.records slot ≡ Some r → r.process.held ≡ false →
+      let t = turned w.settings w.clock.time r in
       P false (t.told ∷ []) (Some t.after)
   pub answer : (r : Record) → slice_get w.records slot ≡ Some r → (event : Event) → IsAnswer event
       → P false [] (Some (apply w.settings event r))
@@ -319,12 +322,12 @@ module _ (w : World) (slot : ℕ) (P : Bool → List TurnTrace → Option Record
   abbrev ended_by : List Event → Bool
   ended_by es = list_any (is_end (slice_get w.records slot)) es
 
-  of_ran : (other : ℕ) (o : Option Record) → slice_get w.records other ≡ o
+  of_ran : (other : ℕ) (o : Option Record) → slice_get w.records other ≡ o → can_run o ≡ true
       → P (ended_by (flat_map (happened slot) (ran w other o).labels))
       (flat_map (turns_in slot) (ran w other o).labels) (slice_get (ran w other o).after.records slot)
   unfolding apply
-  of_ran other None is = each.stays
-  of_ran other (Some r) is = by_slot (other == slot) refl
+  of_ran other None is may = each.stays
+  of_ran other (Some r) is may = by_slot (other == slot) refl
     where
       t : Turned
       t = turned w.settings w.clock.time r
@@ -336,7 +339,7 @@ module _ (w : World) (slot : ℕ) (P : Bool → List TurnTrace → Option Record
           let same : other ≡ slot = eqb-true other slot e in
           subst (P false (t.told ∷ [])) (sym (ap (slice_get (ran w other (Some r)).after.records) (sym same)
           ∙ ran-own w other (Some r) is))
-          (each.turn r (ap (slice_get w.records) (sym same) ∙ is))
+          (each.turn r (ap (slice_get w.records) (sym same) ∙ is) (free_where_may r may))
       by_slot false e =
           subst (P false []) (sym (ran-other w other slot (Some r)
           (λ same. false≢true (sym e ∙ eq-eqb other slot (sym same))))) each.stays
@@ -429,7 +432,8 @@ module _ (w : World) (slot : ℕ) (P : Bool → List TurnTrace → Option Record
       (slice_get (after w choice).records slot)
   unfolding carried_out
   of_step (Run other) =
-      of_stepped Does w (Run other) each.stays (λ ready. of_ran other (slice_get w.records other) refl)
+      of_stepped Does w (Run other) each.stays
+      (λ ready. of_ran other (slice_get w.records other) refl (may_where_ready w other ready))
   of_step (Device device) =
       of_stepped Does w (Device device) each.stays
       (λ ready. of_deed (device_step_of w device) (device_answers w device))

@@ -238,7 +238,7 @@ edge_answer button pressed (Some r) a e = by_test (differs r.pressed button pres
     by_test true e = cc
     by_test false e = absurd (cc)
 
-edge_silent : (w : World) (button : ℕ) (pressed : Bool) → All IsSilent (edge_labels button pressed w)
+pub edge_silent : (w : World) (button : ℕ) (pressed : Bool) → All IsSilent (edge_labels button pressed w)
 edge_silent w button pressed =
     told_labels IsSilent (telling_edge button pressed w.records w.devices).told 0 w.records
     (λ slot at r a here there is.
@@ -274,15 +274,15 @@ pub record OfEachDevice (w : World) (P : Stepped → Type 0) : Type 0 where
   pub nobody : (rest : List Arrival) → P (quiet w (with_rest w.devices rest))
   pub acts : (verb : Verb) (rest : List Arrival) (slot : ℕ) (r : Record) → slice_get w.records slot ≡ Some r
       → P (one_answered w slot r (operating verb (with_rest w.devices rest) slot r))
-  pub alarms : (slot : ℕ) (r : Record) → slice_get w.records slot ≡ Some r
+  pub alarms : (slot : ℕ) (r : Record) → served_by w dev.Alarm ≡ Some slot → slice_get w.records slot ≡ Some r
       → P (one_answered w slot r (alarmed w.settings w.clock.time w.devices))
-  pub sends : (slot : ℕ) (r : Record) → slice_get w.records slot ≡ Some r
+  pub sends : (slot : ℕ) (r : Record) → served_by w dev.Uart ≡ Some slot → slice_get w.records slot ≡ Some r
       → P (one_answered w slot r (transmitting (lane_in w) w.clock.time w.devices slot r))
-  pub receives : (slot : ℕ) (r : Record) → slice_get w.records slot ≡ Some r
+  pub receives : (slot : ℕ) (r : Record) → served_by w dev.Receive ≡ Some slot → slice_get w.records slot ≡ Some r
       → P (one_answered w slot r (receive_step (lane_in w) w.devices slot r))
   pub draws : (slot : ℕ) (r : Record) → served_by w dev.Random ≡ Some slot → slice_get w.records slot ≡ Some r
       → P (one_answered w slot r (random_step (lane_in w) w.devices slot r))
-  pub stores : (slot : ℕ) (r : Record) → slice_get w.records slot ≡ Some r
+  pub stores : (slot : ℕ) (r : Record) → served_by w dev.Store ≡ Some slot → slice_get w.records slot ≡ Some r
       → P (one_answered w slot r (storing (lane_in w) w.devices slot r))
 
 module _ (w : World) (P : Stepped → Type 0) (none : P (unmade w)) where
@@ -341,17 +341,17 @@ of_device w P each dev.Event =
     of_arrived w P each.none each.arrives each.edges each.nobody each.acts w.devices.arrivals
 of_device w P each dev.Alarm =
     of_serving w P each.none (λ slot r. alarmed w.settings w.clock.time w.devices) (served_by w dev.Alarm)
-    (λ slot r first. each.alarms slot r)
+    each.alarms
 of_device w P each dev.Uart =
     of_serving w P each.none (transmitting (lane_in w) w.clock.time w.devices) (served_by w dev.Uart)
-    (λ slot r first. each.sends slot r)
+    each.sends
 of_device w P each dev.Receive =
     of_serving w P each.none (receive_step (lane_in w) w.devices) (served_by w dev.Receive)
-    (λ slot r first. each.receives slot r)
+    each.receives
 of_device w P each dev.Random =
     of_serving w P each.none (random_step (lane_in w) w.devices) (served_by w dev.Random) each.draws
 of_device w P each dev.Store =
-    of_serving w P each.none (storing (lane_in w) w.devices) (served_by w dev.Store) (λ slot r first. each.stores slot r)
+    of_serving w P each.none (storing (lane_in w) w.devices) (served_by w dev.Store) each.stores
 
 -- so it is with each device's step
 comes_to : (w : World) (device : Dev) → ComesTo w (done w (device_step_of w device))
@@ -367,11 +367,11 @@ comes_to w device =
       })));
       nobody = λ rest. inr (inl (with_rest w.devices rest, refl));
       acts = λ verb rest slot r is. answers slot r is (operating verb (with_rest w.devices rest) slot r);
-      alarms = λ slot r is. answers slot r is (alarmed w.settings w.clock.time w.devices);
-      sends = λ slot r is. answers slot r is (transmitting (lane_in w) w.clock.time w.devices slot r);
-      receives = λ slot r is. answers slot r is (receive_step (lane_in w) w.devices slot r);
+      alarms = λ slot r first is. answers slot r is (alarmed w.settings w.clock.time w.devices);
+      sends = λ slot r first is. answers slot r is (transmitting (lane_in w) w.clock.time w.devices slot r);
+      receives = λ slot r first is. answers slot r is (receive_step (lane_in w) w.devices slot r);
       draws = λ slot r first is. answers slot r is (random_step (lane_in w) w.devices slot r);
-      stores = λ slot r is. answers slot r is (storing (lane_in w) w.devices slot r);
+      stores = λ slot r first is. answers slot r is (storing (lane_in w) w.devices slot r);
     }) device
   where
     answers : (slot : ℕ) (r : Record) → slice_get w.records slot ≡ Some r → (a : DeviceAnswer)

@@ -11,13 +11,14 @@ use Rattle.rv32_model.specs.Laws.{stores_at}
 use Rattle.process_model.specs.Own.{Own}
 use Rattle.process_model.specs.Changes.{ChangesAt, IsInside, IsWhole}
 use Rattle.driver_model.specs.Bytes.{clock_buffer, input_buffer, shows_clock, stored_buffer, word_buffer}
+use Rattle.driver_model.specs.Requests.{waiting_in}
 use Rattle.driver_model.specs.Storage as storage
+use Rattle.grant_values.specs.declared.storage.StorageKind.TheVariants.{Write}
 use Rattle.process_record.specs.declared.emit.CallMade.{CallMade}
 use Rattle.kernel_model.specs.Record.{Record}
 use Rattle.kernel_model.specs.declared.settings.Settings.{Settings}
 use Rattle.kernel_model.specs.Turn.{Act, Event, Turn, Alarmed, Input, Word, Stored, TurnTrace}
 use Rattle.kernel_model.specs.Turn.{apply, turned}
-use Rattle.kernel_model.specs.Record.{flash_of}
 use Rattle.kernel_model.specs.World.{World, Label, after, labels}
 use Rattle.kernel_model.specs.Histories.{ends_life}
 use Rattle.kernel_model.specs.Choices.{OfEachProcess, Throughout}
@@ -48,12 +49,12 @@ buffer_for (Word word) own = word_buffer own
 buffer_for (Stored moved) own = stored_buffer own
 buffer_for other own = (0, 0)
 
--- an answer that writes over a place of the storage: a request that was served, not one that failed, and that writes
--- bytes from an offset on which cover it
+-- an answer that writes over a place of the storage: it serves a request that waits in the process's grant, and does
+-- not fail; and what that asks is to write so many bytes from an offset on, of which the place is one
 abbrev pub Overwrites : Event → Record → ℕ → Type 0
 Overwrites (Stored true) r k =
-    let written = (storage.answered false (flash_of r) r.storage r.own).written in
-    IsSomeAnd written (λ w. (w.0 ≤ k) × (k < w.0 + length w.1))
+    IsSomeAnd (waiting_in storage.storages r.own) (λ request.
+    (request.kind ≡ Write) × (request.offset ≤ k) × (k < request.offset + request.length))
 Overwrites other r k = ⊥
 
 -- A cause in what a process is told, or in what an operator does to it, by its record before that and after it: the
@@ -77,7 +78,7 @@ StorageChangesAt Cause bytes after =
 pub record ChangeHasACause (w : World) (choice : Choice) (slot : ℕ) (r s : Record) : Type 0 where
   -- each byte that lies below the kernel break before and after it is as it was, or a label of the step has the cause
   pub own : ChangesAt (λ at. Any (IsCause slot r s at) (labels w choice)) r.own s.own
-  -- so it is with its storage, where the cause is an answer that writes over it
+  -- so it is with each byte of its storage, where the cause is a request of its own to write there, which is served
   pub storage : (k : ℕ) → k < length r.storage → (slice_index s.storage k ≡ slice_index r.storage k)
       ⊎ Any (λ label. (label.slot ≡ slot) × Overwrites label.event r k) (labels w choice)
   -- and where the step is no turn of it, no answer to it and no act on it, all is as it was, the bytes of its grants
@@ -105,7 +106,7 @@ pub record StepsHaveCauses : Type 0 where
   pub stretch : (k : ℕ) (w after : World) → IsStretch k w after → AllHaveCauses w (chosen k w)
 
 -- An answer to a process, or an operator's act on it, changes a byte of its own with such a cause alone, and one of its
--- storage only where what it writes covers it, if its own is whole.
+-- storage only where the request that it serves asks to write there, if its own is whole.
 pub record AnswerHasCauses (event : Event) (r s : Record) : Type 0 where
   pub own : ChangesAt (IsDoneByAnswer event r s) r.own s.own
   pub storage : StorageChangesAt (Overwrites event r) r.storage s.storage

@@ -9,6 +9,7 @@ pub mod Choices
 pub mod Replay
 pub mod Shown
 pub mod Accesses
+pub mod Filter
 pub mod Stretch
 pub mod Laws
 pub mod Histories

@@ -1,4 +1,5 @@
--- Only proofs use this: names of parts of what a call, a turn and a step come to.
+-- Names of parts of what a call, a turn and a step come to, for proofs and for contracts of inner functions
+-- (kernel_calls, board_turns, board_state). Each is equal by unfolding.
 use Rattle.std.specs.Prelude.{◌≡◌, ℕ, ◌&&◌, ◌==◌, Bool, not, if◌then◌else◌, List, [], ◌∷◌, ◌++◌, length, map, option_and_then}
 use Rattle.std.specs.Prelude.{option_map, option_to_list, unwrap_or, is_none, slice_get, slice_index_or, Option, None, Some, Result}
 use Rattle.std.specs.Result.{result_ok}
@@ -53,7 +54,7 @@ use Rattle.kernel_model.specs.World.{Answer, DeviceAnswer, DeviceStep, Devices, 
 use Rattle.std.specs.Prelude.{◌+◌}
 use Rattle.kernel_model.specs.Named.{slots_in}
 use Rattle.kernel_model.specs.World.{now_in, owns_in}
-use Rattle.kernel_model.specs.World.{WaitingSlots, may_serve, only_in, operating, serving, telling, telling_nobody, work_in}
+use Rattle.kernel_model.specs.World.{may_serve, only_in, operating, serving, telling, telling_nobody, work_in}
 use Rattle.kernel_model.specs.Run.{Ran}
 
 -- a record with other registers, state and counts

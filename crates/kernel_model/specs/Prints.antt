@@ -44,7 +44,7 @@ PrintsItsBuffer w label = 0 < length label.printed →
     let there = slice_get w.records label.slot in
     (is_some there ≡ true) × IfSome there (IsPrintedBy label.event label.slot label.printed)
 
--- so it is in each step after any choices; no process that has ended prints anything
+-- so it is in each step after any choices; of a process that has ended nothing is printed but its line in a list
 abbrev pub PrintsAreOfBuffers : Type 0
 PrintsAreOfBuffers = (w : World) (choices : List Choice) (choice : Choice) →
     let v = after_all w choices in All (PrintsItsBuffer v) (labels v choice)

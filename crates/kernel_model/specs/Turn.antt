@@ -144,9 +144,9 @@ turn_in settings time Yielded r =
     idle (unwrap_or (option_map (λ next. deliver (turn_counted r) next (left_by next)) (due r.own.inbox)) r)
 turn_in settings time other r = idle r
 
--- the turn of a process at a time, by its state
+-- the turn of a process at a time, by its state; one that an operator holds has none
 unfoldable pub turned : Settings → ℕ → Record → Turned
-turned settings time r = turn_in settings time r.process.state r
+turned settings time r = if r.process.held then idle r else turn_in settings time r.process.state r
 
 -- What happens to a process: its turn at a time; and what devices tell it, or an operator does to it. Its alarm fires,
 -- when the clock shows a tick. A button is pressed, or released. The UART took the next bytes of its write, or has

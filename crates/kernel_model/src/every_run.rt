@@ -1,6 +1,7 @@
 //! Laws of whole runs, each the contract of a function that does nothing.
 ghost use Rattle.kernel_model.specs.Accesses.{EachAccessIsPermitted, EachDenialIsDue};
 ghost use Rattle.kernel_model.specs.Accesses.{StepsAreGuarded};
+ghost use Rattle.kernel_model.specs.Filter.{StepsAreFiltered};
 
 use rv32_model::{accesses_are_permitted, data_is_aligned, denials_are_due};
 
@@ -19,3 +20,10 @@ pub fn each_access_is_permitted()
     data_is_aligned();
     denials_are_due();
 }
+
+/// The system call filter holds in every step, whoever makes the choices: a subscribe, an allow or
+/// a command that was not refused is one that the object of its process allows by its list of
+/// permissions, or, without one, a filter that is not strict (Tock Binary Format, "Permissions").
+pub fn calls_are_filtered()
+    ensures { StepsAreFiltered }
+{}

@@ -229,13 +229,28 @@ impl Pmp {
         self.search(access, at, width)
     }
 
-    /// The addresses between which every fetch is permitted, the second one above the last of them. Elsewhere one may be
-    /// permitted nevertheless.
+    /// The addresses between which every fetch and every load is permitted, the second one above the last of them.
+    /// Elsewhere one may be permitted nevertheless.
+    #[inline(always)]
     pub fn executable(&self) -> Range<u64>
-        ensures { PermitsBetween self.now Fetch result.start result.end }
+        ensures fetch { PermitsBetween self.now Fetch result.start result.end }
+        ensures load { PermitsBetween self.now Load result.start result.end }
+        ensures order { result.start ≤ result.end }
     {
         let from = u64::from(self.executable.from);
         from..from + self.executable.length
+    }
+
+    /// The addresses between which every load and every store is permitted, the second one above the last of them.
+    /// Elsewhere one may be permitted nevertheless.
+    #[inline(always)]
+    pub fn writable(&self) -> Range<u64>
+        ensures load { PermitsBetween self.now Load result.start result.end }
+        ensures store { PermitsBetween self.now Store result.start result.end }
+        ensures order { result.start ≤ result.end }
+    {
+        let from = u64::from(self.writable.from);
+        from..from + self.writable.length
     }
 
     /// Whether an access lies in the window where every load and every store is permitted. Where it does

@@ -1,3 +1,4 @@
 pub mod Executed
 pub mod Fetched
 pub mod SmallMemory
+pub mod Near

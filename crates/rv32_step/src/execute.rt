@@ -24,8 +24,9 @@ pub fn denial(access: Access, address: Addr, rule: Rule) -> Denial
     }
 }
 
+/// How wide the access of a load is.
 #[inline(always)]
-fn read_width(kind: LoadKind) -> Width
+pub fn read_width(kind: LoadKind) -> Width
     ensures { result ≡ load_width kind }
 {
     match kind {
@@ -35,8 +36,9 @@ fn read_width(kind: LoadKind) -> Width
     }
 }
 
+/// What a load gives of the number that was read.
 #[inline(always)]
-fn extend(kind: LoadKind, number: u32) -> u32
+pub fn extend(kind: LoadKind, number: u32) -> u32
     ensures { result ≡ loaded kind number }
 {
     match kind {

@@ -1,5 +1,6 @@
 //! Any memory, without a parcel at hand.
 use rv32_model::Prefetch;
+use rv32_predecode::{Entry, Predecoded};
 use tk_base::{Addr, Bus, Rule, Width};
 
 /// A bus that has nothing at hand: each parcel is fetched on its own.
@@ -38,5 +39,37 @@ impl<B: Bus> Prefetch for NothingAhead<'_, B> {
     #[inline(always)]
     fn word(&self, _at: Addr) -> Option<u32> {
         None
+    }
+}
+
+/// It has one place, of which nothing is known.
+impl<B: Bus> Predecoded for NothingAhead<'_, B> {
+    ghost start = { λ _. 0 };
+
+    ghost count = { λ _. 1 };
+
+    #[inline(always)]
+    fn start(&self) -> Addr {
+        0
+    }
+
+    #[inline(always)]
+    fn count(&self) -> usize {
+        1
+    }
+
+    #[inline(always)]
+    fn entry(&self, _place: usize) -> Entry {
+        Entry::Cold
+    }
+
+    #[inline(always)]
+    fn load_near(&self, _at: Addr, _width: Width) -> Option<u32> {
+        None
+    }
+
+    #[inline(always)]
+    fn store_near(&mut self, _at: Addr, _width: Width, _value: u32) -> bool {
+        false
     }
 }

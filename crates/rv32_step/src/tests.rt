@@ -2,25 +2,28 @@
 
 use super::*;
 use crate::operate::operate;
-use rv32_model::Op;
+use rv32_model::{Op, Prefetch};
+use rv32_predecode::{Entry, Predecoded, entry_in};
 use tk_base::{Rule, Width, a_store_is_put, number_in, put_number};
 
-/// 64 bytes from address 0 on: the first 32 may be executed, the others written; all may be read.
+/// 64 bytes from address 0 on: the first 32 may be executed, the others written; all may be read. Its instructions may
+/// be known.
 #[derive(Drop)]
 struct SmallMemory {
     bytes: [u8; 64],
+    is_known: bool,
 }
 
 impl SmallMemory {
     /// Instruction words from address 0 on, and 0 elsewhere.
-    fn of(words: &[u32]) -> SmallMemory {
+    fn of(words: &[u32], is_known: bool) -> SmallMemory {
         let mut bytes = [0; 64];
         for (i, word) in words.iter().enumerate() {
             if i < 16 {
                 put_number(&mut bytes, i * 4, Width::Word, *word);
             }
         }
-        SmallMemory { bytes }
+        SmallMemory { bytes, is_known }
     }
 }
 
@@ -75,6 +78,46 @@ impl Prefetch for SmallMemory {
     }
 }
 
+impl Predecoded for SmallMemory {
+    ghost use Rattle.std.specs.Prelude.{if◌then◌else◌};
+
+    ghost start = { λ _. 0 };
+
+    ghost count = { λ m. if m.is_known then 16 else 0 };
+
+    fn start(&self) -> Addr {
+        0
+    }
+
+    fn count(&self) -> usize {
+        if self.is_known { 16 } else { 0 }
+    }
+
+    fn entry(&self, place: usize) -> Entry {
+        let entry = entry_in(&self.bytes, 2 * place);
+        if usize::from(entry.reach()) > 32 - 2 * place {
+            return Entry::Cold;
+        }
+        entry
+    }
+
+    fn load_near(&self, at: Addr, width: Width) -> Option<u32> {
+        if at % width.bytes() != 0 || at > 64 - width.bytes() {
+            return None;
+        }
+        Some(number_in(&self.bytes, at as usize, width))
+    }
+
+    fn store_near(&mut self, at: Addr, width: Width, value: u32) -> bool {
+        if at % width.bytes() != 0 || at < 32 || at > 64 - width.bytes() {
+            return false;
+        }
+        a_store_is_put();
+        put_number(&mut self.bytes, at as usize, width, value);
+        true
+    }
+}
+
 #[test]
 fn operations_give_the_values_of_the_manual(rt: HostRuntime) {
     let rows = [
@@ -120,7 +163,7 @@ fn products_and_quotients_have_the_edge_cases_of_the_manual(rt: HostRuntime) {
 
 #[test]
 fn a_store_is_read_back_with_its_sign(rt: HostRuntime) {
-    let mut memory = SmallMemory::of(&[
+    let words = [
         // sw x5, 40(x0)
         0x0250_2423,
         // lb x6, 43(x0)
@@ -133,22 +176,25 @@ fn a_store_is_read_back_with_its_sign(rt: HostRuntime) {
         0x02a0_5483,
         // lw x10, 40(x0)
         0x0280_2503,
-    ]);
-    let mut regs = Regs::at(0);
-    regs.set(5, 0x80ff_7f01);
-    let stretch = turns(&mut regs, &mut memory, 6);
-    assert_eq!(rt; stretch.went, 6);
-    assert_eq!(rt; stretch.end, TurnEnd::Went);
-    for (n, value) in [
-        (6, 0xffff_ff80),
-        (7, 0x80),
-        (8, 0xffff_80ff),
-        (9, 0x80ff),
-        (10, 0x80ff_7f01),
-    ] {
-        assert_eq!(rt; regs.get(n), value, "x{n}");
+    ];
+    for is_known in [false, true] {
+        let mut memory = SmallMemory::of(&words, is_known);
+        let mut regs = Regs::at(0);
+        regs.set(5, 0x80ff_7f01);
+        let stretch = turns(&mut regs, &mut memory, 6);
+        assert_eq!(rt; stretch.went, 6);
+        assert_eq!(rt; stretch.end, TurnEnd::Went);
+        for (n, value) in [
+            (6, 0xffff_ff80),
+            (7, 0x80),
+            (8, 0xffff_80ff),
+            (9, 0x80ff),
+            (10, 0x80ff_7f01),
+        ] {
+            assert_eq!(rt; regs.get(n), value, "x{n}");
+        }
+        assert_eq!(rt; regs.pc(), 24);
     }
-    assert_eq!(rt; regs.pc(), 24);
 }
 
 #[test]
@@ -174,21 +220,28 @@ fn pc_and_link_follow_the_manual(rt: HostRuntime) {
         (0x0000_9282, 0xffff_fffe, 1, 2),
     ];
     for (word, pc, n, value) in rows {
-        let mut regs = Regs::at(0);
-        regs.set(5, 0xffff_ffff);
-        let mut memory = SmallMemory::of(&[word]);
-        assert_eq!(rt; turn(&mut regs, &mut memory), TurnEnd::Went);
-        assert_eq!(rt; regs.pc(), pc, "{word}");
-        assert_eq!(rt; regs.get(n), value, "{word}");
+        for is_known in [false, true] {
+            let mut regs = Regs::at(0);
+            regs.set(5, 0xffff_ffff);
+            let mut memory = SmallMemory::of(&[word], is_known);
+            assert_eq!(rt; turns(&mut regs, &mut memory, 1).end, TurnEnd::Went);
+            assert_eq!(rt; regs.pc(), pc, "{word}");
+            assert_eq!(rt; regs.get(n), value, "{word}");
+        }
     }
 }
 
 #[test]
 fn a_system_call_leaves_pc(rt: HostRuntime) {
-    let mut memory = SmallMemory::of(&[0x0000_0073]);
-    let mut regs = Regs::at(0);
-    assert_eq!(rt; turn(&mut regs, &mut memory), TurnEnd::Call);
-    assert_eq!(rt; regs, Regs::at(0));
+    for is_known in [false, true] {
+        let mut memory = SmallMemory::of(&[0x0000_0073], is_known);
+        let mut regs = Regs::at(0);
+        assert_eq!(rt; turn(&mut regs, &mut memory), TurnEnd::Call);
+        assert_eq!(rt; regs, Regs::at(0));
+        let stretch = turns(&mut regs, &mut memory, 2);
+        assert_eq!(rt; stretch.went, 0);
+        assert_eq!(rt; stretch.end, TurnEnd::Call);
+    }
 }
 
 #[test]
@@ -213,19 +266,19 @@ fn each_denial_names_its_access_and_rule(rt: HostRuntime) {
         (0x0000_9002, Access::Fetch, 0, Rule::Breakpoint),
     ];
     for (word, access, address, rule) in rows {
-        let mut regs = Regs::at(0);
-        let mut memory = SmallMemory::of(&[word]);
         let denial = Denial {
             access,
             address,
             rule,
         };
-        assert_eq!(rt;
-            turn(&mut regs, &mut memory),
-            TurnEnd::Trap(denial),
-            "{word}"
-        );
-        assert_eq!(rt; regs, Regs::at(0), "{word}");
+        for is_known in [false, true] {
+            let mut regs = Regs::at(0);
+            let mut memory = SmallMemory::of(&[word], is_known);
+            let stretch = turns(&mut regs, &mut memory, 3);
+            assert_eq!(rt; stretch.went, 0, "{word}");
+            assert_eq!(rt; stretch.end, TurnEnd::Trap(denial), "{word}");
+            assert_eq!(rt; regs, Regs::at(0), "{word}");
+        }
     }
 }
 
@@ -239,22 +292,53 @@ fn a_denied_fetch_names_its_parcel(rt: HostRuntime) {
         (64, 64, Rule::NoRegion),
     ] {
         let mut regs = Regs::at(pc);
-        let mut memory = SmallMemory::of(&words);
+        let mut memory = SmallMemory::of(&words, true);
         let denial = Denial {
             access: Access::Fetch,
             address,
             rule,
         };
-        assert_eq!(rt; turn(&mut regs, &mut memory), TurnEnd::Trap(denial));
+        assert_eq!(rt; turns(&mut regs, &mut memory, 1).end, TurnEnd::Trap(denial));
     }
 }
 
 #[test]
 fn a_compressed_instruction_is_fetched_alone(rt: HostRuntime) {
     // c.li x10, -1 in the last parcel that may be executed
-    let mut memory = SmallMemory::of(&[0, 0, 0, 0, 0, 0, 0, 0x557d_0000]);
+    let mut memory = SmallMemory::of(&[0, 0, 0, 0, 0, 0, 0, 0x557d_0000], true);
     let mut regs = Regs::at(30);
-    assert_eq!(rt; turn(&mut regs, &mut memory), TurnEnd::Went);
+    assert_eq!(rt; turns(&mut regs, &mut memory, 1).end, TurnEnd::Went);
     assert_eq!(rt; regs.pc(), 32);
     assert_eq!(rt; regs.get(10), 0xffff_ffff);
+}
+
+#[test]
+fn a_loop_goes_on_until_it_leaves_what_is_known(rt: HostRuntime) {
+    let words = [
+        // addi x5, x5, 3
+        0x0032_8293,
+        // sw x5, 60(x0)
+        0x0250_2e23,
+        // addi x6, x6, -1
+        0xfff3_0313,
+        // bne x6, x0, -12
+        0xfe03_1ae3,
+        // jal x1, 24: to 40, where nothing may be executed
+        0x0180_00ef,
+    ];
+    for is_known in [false, true] {
+        let mut memory = SmallMemory::of(&words, is_known);
+        let mut regs = Regs::at(0);
+        regs.set(6, 5);
+        let stretch = turns(&mut regs, &mut memory, 100);
+        assert_eq!(rt; stretch.went, 21);
+        let denial = Denial {
+            access: Access::Fetch,
+            address: 40,
+            rule: Rule::NoExecute,
+        };
+        assert_eq!(rt; stretch.end, TurnEnd::Trap(denial));
+        assert_eq!(rt; (regs.pc(), regs.get(1), regs.get(5)), (40, 20, 15));
+        assert_eq!(rt; number_in(&memory.bytes, 60, Width::Word), 15);
+    }
 }

@@ -122,6 +122,7 @@ impl StorageCapsule {
 
     /// The process of an id ended, or starts again: no request of it waits any more. The others
     /// keep their order.
+    #[inline(always)]
     pub fn gone(&mut self, id: ProcessId)
         ensures { self.new.waiting ≡ without id.slot self.old.waiting }
     {

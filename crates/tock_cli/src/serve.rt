@@ -122,13 +122,19 @@ fn act<H: Shelf, K: Sink>(
 /// board shows the last world of the run.
 ///
 /// In the run that is told each byte of a process that changes has its cause. One below its kernel
-/// break is changed by an own permitted act, or lies in a buffer that the process then allowed to
-/// the driver which answers it; one of its grants, above, is changed in its own turn or by an
-/// answer to it; one of its storage by a served request of its own. Each access was permitted, and
+/// break is changed by an own permitted act, also by the command that has it shown the clock, lies
+/// in a buffer that the process then allowed to the driver which answers it, or is zeroed where an
+/// operator starts the process again; one of its grants, above, is changed in its own turn or by an
+/// answer to it; one of its storage by a served write of its own. Each access was permitted, and
 /// each denial was due and names its address and rule; and the record of a process is what becomes
-/// of it alone, by its own turns and by what devices answer it, whatever others do. Under a script
-/// with time partitions even the times of its turns and answers are: with any other image that has
-/// the same object in the same place of its slot they are the same.
+/// of it alone, by its own turns and answers, whatever others do: an answer is what a device tells
+/// it, an edge of a button, or an operator's act on it. Under a script with time partitions even
+/// the times of its turns and answers are: with any other image under that script that has the same
+/// object in the same place of its slot they are the same, up to each time that both runs have
+/// reached.
+///
+/// Clauses `run` and `partitions` speak of the run that the words and the files make, clause
+/// `serves` of what is written of it.
 ///
 /// | Answer | Comes |
 /// |---|---|

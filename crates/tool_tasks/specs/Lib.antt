@@ -2,3 +2,4 @@ pub mod Causes
 pub mod Comes
 pub mod Ready
 pub mod Parts
+pub mod RunFiles

@@ -16,6 +16,7 @@ ghost use Rattle.tool_tasks.specs.Causes.{Cause, CauseOf, told_by};
 ghost use Rattle.tool_tasks.specs.Ready.{HasNoReading, IsReady, IsReadyFor, IsSoak};
 ghost use Rattle.tool_tasks.specs.Ready.{IsNotPacked, IsPackedFile, IsUnread, IsWithinLimits};
 ghost use Rattle.tool_tasks.specs.Ready.{KeepsShelf, refusal_of};
+ghost use Rattle.tool_tasks.specs.RunFiles.{AreFilesOf, AreWithinLimits};
 
 use image_make::{EditFault, PackFault, image_of, pack_one, rename, set_enabled};
 use run_text::Mode;
@@ -76,7 +77,7 @@ fn read_file<H: Shelf>(
 }
 
 /// Reads what a script says.
-fn said_in(alloc: Global, script: &[u8]) -> Result<Script, Refusal>
+pub fn said_in(alloc: Global, script: &[u8]) -> Result<Script, Refusal>
     requires { length script.now ≤ SCRIPT_LIMIT }
     ensures said { IfOk result (λ said. reading script.now ≡ Ok said) }
     ensures refused { IfErr result (HasNoReading script.now) }
@@ -105,6 +106,31 @@ fn load_run<H: Shelf>(alloc: Global, words: RunCommand<'_>, shelf: &mut H) -> Re
         mode: words.mode,
         turns: words.turns,
     })
+}
+
+/// The two files of a run.
+#[derive(Drop)]
+pub struct RunFiles {
+    pub flash: Vec<u8>,
+    pub script: Vec<u8>,
+}
+
+/// Reads the two files of a run, and sees that the script has a reading. What refuses a run refuses
+/// them.
+pub fn load_files<H: Shelf>(
+    alloc: Global,
+    words: RunCommand<'_>,
+    shelf: &mut H,
+) -> Result<RunFiles, Refusal>
+    ensures task { IfOk result (AreFilesOf (H.tells shelf.old) words.entry) }
+    ensures within { IfOk result AreWithinLimits }
+    ensures refused { IfErr result
+        (CauseOf (told_by H.tells shelf.old shelf.new) (runs_of words.entry)) }
+{
+    let flash = read_file(alloc, shelf, File::Flash, words.flash)?;
+    let script = read_file(alloc, shelf, File::Script, words.script)?;
+    let _said = said_in(alloc, &script)?;
+    Ok(RunFiles { flash, script })
 }
 
 /// Generates the two files of a soak run.

@@ -1,9 +1,8 @@
 use Rattle.std.specs.List.{zip}
 use Rattle.process_record.specs.declared.process.Process.{Process}
-use Rattle.std.proofs.Common.{◌≡◌, ◌+◌, ◌<◌, List, [], true, Some, refl, ap, sym, subst, ◌∙◌, arith, length}
+use Rattle.std.proofs.Common.{◌≡◌, ◌+◌, ◌<◌, List, [], true, None, Some, refl, ap, sym, subst, ◌∙◌, arith, length}
 use Rattle.tk_base.specs.declared.process.Choice.TheVariants.{Run}
 use Rattle.tk_base.specs.declared.limits.TheConstants.{STEP_LIMIT}
-use Rattle.grant_enter.specs.Homes.{Homes}
 use Rattle.kernel_model.specs.World.{carried_out, is_ready}
 use Rattle.process_record.specs.declared.emit.Emit.{Emit}
 use Rattle.board_devices.specs.Clock.{clock_at}
@@ -11,21 +10,20 @@ use Rattle.alarm_capsule.specs.Times.{OthersTell}
 use Rattle.board_drivers.specs.Calm.{AlarmsTell, IsCalm}
 use Rattle.board_drivers.specs.Driven.{AreFreeSoon}
 use Rattle.board_drivers.proofs.Lanes.{later_free, same_free}
-use Rattle.board_drivers.specs.Residents.{id_of}
 use Rattle.board_turns.specs.Turning.{told_in_emit, with_shown}
 use Rattle.board_drivers.specs.declared.moment.Moment.{Moment}
 use Rattle.board_state.specs.Shows.{IsBoard, world_of}
 use Rattle.board_state.proofs.Boards.{ready_within}
-use Rattle.board_drivers.proofs.Calm.{idle_calm, later_calm}
-use Rattle.board_state.proofs.SameAlarms.{same_alarms_calm}
+use Rattle.driver_model.specs.Alarm.{ticks_left_in}
 use Rattle.board_state.proofs.Changes.{others_stay_ready, owns_after, turn_later, turn_shown, world_after}
 use Rattle.board_drivers.proofs.Records.{beside}
 use Rattle.board_state.proofs.Devices.{made_so}
 use Rattle.board_state.proofs.Boards.{may_turn_on}
+use Rattle.board_state.proofs.Looks.{free_there}
 use Rattle.board_state.proofs.KnownEnds.{known_at}
-use Rattle.board_state.proofs.TurnLines.{alarms_later, lines_stay, may_serve, others_later}
+use Rattle.board_state.proofs.TurnLines.{alarms_later, lines_stay, may_serve, none_left_after, others_later}
 use Rattle.board_state.specs.ReadySlots.{OtherTurnsTell, TurnsTell}
-use Rattle.board_state.proofs.TurnLines.{turn_is_idle, turn_leaves_alarm, turned_board}
+use Rattle.board_state.proofs.TurnLines.{turn_leaves_alarm, turn_stays_calm, turned_board}
 use Rattle.board_state.proofs.turns.make_turn.Goals as goal
 use Rattle.board_state.proofs.turns.make_turn.Goals.{After-clear, After-look}
 
@@ -42,6 +40,11 @@ pub turn_at-requires-clause-turn : goal.turn_at-requires-clause-turn
 turn_at-requires-clause-turn c =
     let w = within (goal.at.turn_at-requires-clause-turn c).After-clear in
     may_turn_on 1 c.args.state.now c.args.slot c.requires.board w.1 (omega (arith, w.0))
+
+pub turn_at-requires-clause-free : goal.turn_at-requires-clause-free
+turn_at-requires-clause-free c =
+    free_there c.args.state.now c.requires.board c.args.slot
+    (can_run_is (goal.at.turn_at-requires-clause-free c).After-clear)
 
 pub turn_at-requires-clause-may : goal.turn_at-requires-clause-may
 turn_at-requires-clause-may c =
@@ -69,18 +72,9 @@ calm_after-state-requires-clause-calm c quiet =
     let b = c.args.state.now in
     let x = c.turn_at.new.self in
     let t = c.turn_at.ensures.turn in
-    let start = b.machine.moment.settings.start in
-    let window = b.machine.moment.window in
-    let leaves = turn_is_idle b c.args.slot x c.turn_at.new.processes.items (told_in_emit c.turn_at.new.emit)
-    c.requires.board t c.alarms_change_at_their_commands.ensures.quiet quiet in
     subst (λ (m : Moment). IsCalm m.settings.start m.window (m.time + 1) b.calm x.home.owns x.drivers) (sym t.moment)
-    (subst (λ (h : Homes). IsCalm start window (b.machine.moment.time + 1) b.calm h.owns x.drivers) (sym t.at.own_is)
-    (same_alarms_calm c.args.slot b.machine.home.owns t.at.before.1 t.at.after.1 t.at.own_was leaves.0
-    start window (b.machine.moment.time + 1) b.calm x.drivers
-    (idle_calm start window (b.machine.moment.time + 1) b.calm b.machine.home.owns (id_of c.args.slot t.at.before.1)
-    b.machine.drivers x.drivers leaves.1
-    (later_calm start window b.machine.moment.time (b.machine.moment.time + 1) b.calm b.machine.home.owns b.machine.drivers
-    (omega arith) c.requires.board.calm))))
+    (turn_stays_calm b c.args.slot x c.turn_at.new.processes.items (told_in_emit c.turn_at.new.emit)
+    c.requires.board t c.alarms_change_at_their_commands.ensures.quiet quiet)
 
 pub look_again-requires-clause-others : goal.look_again-requires-clause-others
 look_again-requires-clause-others c =
@@ -91,6 +85,16 @@ look_again-requires-clause-others c =
     x.home.owns) (sym t.moment)
     (others_later b c.args.slot x c.turn_at.new.processes.items (told_in_emit c.turn_at.new.emit) c.requires.board t
     c.time_brings_an_alarm_nearer.ensures)
+
+pub look_again-requires-clause-denied : goal.look_again-requires-clause-denied
+look_again-requires-clause-denied c denied =
+    let b = c.args.state.now in
+    let x = c.turn_at.new.self in
+    let t = c.turn_at.ensures.turn in
+    subst (λ (m : Moment). ticks_left_in (clock_at m.settings.start (m.time + 1)) x.home.owns c.args.slot ≡ None)
+    (sym t.moment)
+    (none_left_after b c.args.slot x c.turn_at.new.processes.items (told_in_emit c.turn_at.new.emit) c.requires.board t
+    denied _)
 
 pub look_again-requires-clause-unarmed : goal.look_again-requires-clause-unarmed
 look_again-requires-clause-unarmed c unarmed =

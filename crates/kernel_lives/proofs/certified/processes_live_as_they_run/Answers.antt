@@ -1,3 +1,4 @@
+use Rattle.kernel_lives.proofs.Ended.{free_stays}
 use Rattle.kernel_lives.proofs.Lives.{ended_stays, lives_stay}
 use Rattle.kernel_lives.proofs.certified.processes_live_as_they_run.Goals as goal
 
@@ -6,3 +7,6 @@ returns-clause-lives c = lives_stay c.drivers_keep_places_and_order.ensures
 
 pub returns-clause-ended : goal.returns-clause-ended
 returns-clause-ended c = ended_stays
+
+pub returns-clause-free : goal.returns-clause-free
+returns-clause-free c = free_stays c.drivers_keep_places_and_order.ensures

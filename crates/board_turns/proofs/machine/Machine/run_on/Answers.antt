@@ -1,5 +1,4 @@
 use Rattle.std.proofs.Common.{refl, sym, subst, ◌∙◌}
-use Rattle.process_record.specs.declared.emit.Emit.{Emit}
 use Rattle.board_turns.specs.declared.turn.Shown.{Shown}
 use Rattle.board_drivers.specs.Residents.{resident}
 use Rattle.board_turns.specs.Turning.{TurnsOn, told_in_emit}
@@ -14,7 +13,7 @@ returns-in-Went-clause-turns c =
     i.new.process s) (sym c.requires.quiet)
     (went x.moment c.args.slot x.home i.new.home c.args.process.now i.new.process i.ensures.made i.ensures.rest
     x.drivers
-    c.requires.runs (sym i.ensures.end ∙ c.in-Went.is))
+    c.requires.runs c.requires.free (sym i.ensures.end ∙ c.in-Went.is))
 
 pub returns-in-Went-clause-leaves : goal.returns-in-Went-clause-leaves
 returns-in-Went-clause-leaves c =
@@ -29,8 +28,8 @@ returns-in-Went-clause-leaves c =
     }
 
 -- what drivers ask of the process stays
-pub serve_call-shown-requires-clause-may : goal.serve_call-shown-requires-clause-may
-serve_call-shown-requires-clause-may c =
+pub serve_call-requires-clause-may : goal.serve_call-requires-clause-may
+serve_call-requires-clause-may c =
     let i = c.end_instruction-end in
     let x = c.args.self.now in
     may_serve_still x.moment c.args.slot x.home i.new.home c.args.process.now i.new.process i.ensures.made
@@ -40,31 +39,28 @@ serve_call-shown-requires-clause-may c =
 pub returns-in-Call-clause-turns : goal.returns-in-Call-clause-turns
 returns-in-Call-clause-turns c =
     let i = c.end_instruction-end in
-    let s = c.serve_call-shown in
+    let s = c.serve_call in
     let x = c.args.self.now in
-    subst (λ (e : Emit). TurnsOn c.args.slot x s.new.self c.args.process.now s.new.process (told_in_emit e))
-    (sym c.tell.ensures)
-    (makes_call x.moment c.args.slot x.home i.new.home c.args.process.now i.new.process i.ensures.made i.ensures.rest
-    (resident s.new.self.home c.args.slot s.new.process) s.result x.drivers s.new.self.drivers c.requires.runs
-    (sym i.ensures.end ∙ c.in-Call.is) s.ensures.serves)
+    makes_call x.moment c.args.slot x.home i.new.home c.args.process.now i.new.process i.ensures.made i.ensures.rest
+    (resident s.new.self.home c.args.slot s.new.process) (told_in_emit s.new.emit) x.drivers s.new.self.drivers
+    c.requires.runs c.requires.free (sym i.ensures.end ∙ c.in-Call.is) s.ensures.serves
 
 pub returns-in-Call-clause-leaves : goal.returns-in-Call-clause-leaves
 returns-in-Call-clause-leaves c =
-    leaves_on c.args.slot c.args.self.now _ _ c.serve_call-shown.new.self c.serve_call-shown.new.process
-    c.end_instruction-end.ensures.rest c.serve_call-shown.ensures.leaves
+    leaves_on c.args.slot c.args.self.now _ _ c.serve_call.new.self c.serve_call.new.process
+    c.end_instruction-end.ensures.rest c.serve_call.ensures.leaves
 
 pub returns-in-Trap-clause-turns : goal.returns-in-Trap-clause-turns
 returns-in-Trap-clause-turns c =
     let i = c.end_instruction-end in
-    let f = c.fault_at-shown in
+    let f = c.fault_at in
     let x = c.args.self.now in
-    subst (λ (e : Emit). TurnsOn c.args.slot x f.new.self c.args.process.now f.new.process (told_in_emit e))
-    (sym c.tell-in-Trap.ensures)
-    (trapped x.moment c.args.slot x.home i.new.home c.args.process.now i.new.process i.ensures.made i.ensures.rest
-    (resident f.new.self.home c.args.slot f.new.process) c.in-Trap.denial f.result x.drivers f.new.self.drivers
-    c.requires.runs (sym i.ensures.end ∙ c.in-Trap.is) f.ensures.shown f.ensures.settles f.ensures.gone)
+    trapped x.moment c.args.slot x.home i.new.home c.args.process.now i.new.process i.ensures.made i.ensures.rest
+    (resident f.new.self.home c.args.slot f.new.process) c.in-Trap.denial (told_in_emit f.new.emit) x.drivers
+    f.new.self.drivers c.requires.runs c.requires.free (sym i.ensures.end ∙ c.in-Trap.is) f.ensures.shown
+    f.ensures.settles f.ensures.gone
 
 pub returns-in-Trap-clause-leaves : goal.returns-in-Trap-clause-leaves
 returns-in-Trap-clause-leaves c =
-    leaves_on c.args.slot c.args.self.now _ _ c.fault_at-shown.new.self c.fault_at-shown.new.process
-    c.end_instruction-end.ensures.rest c.fault_at-shown.ensures.leaves
+    leaves_on c.args.slot c.args.self.now _ _ c.fault_at.new.self c.fault_at.new.process
+    c.end_instruction-end.ensures.rest c.fault_at.ensures.leaves

@@ -15,7 +15,7 @@ returns-then-is_due-clause-turns c =
     let own = own_of home c.args.slot in
     let flash = only_flash c.args.slot home c.deliver.new.home c.deliver.ensures.rest in
     woken c.args.self.now.moment c.args.slot home.flash (resident home c.args.slot c.args.process.now)
-    (resident c.deliver.new.home c.args.slot c.deliver.new.process) drivers c.requires.waits
+    (resident c.deliver.new.home c.args.slot c.deliver.new.process) drivers c.requires.waits c.requires.free
     (sym c.is_due.ensures ∙ c.if-is_due.true)
     (λ beside.
     ap (λ (f : List ℕ). record_in f c.deliver.new.process (own_of c.deliver.new.home c.args.slot) beside) (sym flash)
@@ -27,4 +27,4 @@ returns-else-is_due-clause-turns c =
     let drivers = c.args.self.now.drivers in
     let home = c.args.self.now.home in
     waits_on c.args.self.now.moment c.args.slot home.flash (resident home c.args.slot c.args.process.now) drivers
-    c.requires.waits (sym c.is_due.ensures ∙ c.if-is_due.false)
+    c.requires.waits c.requires.free (sym c.is_due.ensures ∙ c.if-is_due.false)

@@ -1,0 +1,12 @@
+use Rattle.std.proofs.Common.{List, ℕ, ap, ◌∙◌}
+use Rattle.board_memory.specs.Bytes.{memory_byte_at}
+use Rattle.board_memory.proofs.Near.{data_put}
+use Rattle.board_memory.proofs.view.ViewPredecoded.store_near.Goals as goal
+
+pub returns-clause-stored : goal.returns-clause-stored
+returns-clause-stored c =
+    let view = c.args.self.now in
+    ap (λ (ram : List ℕ). memory_byte_at view.flash.now ram) c.put_number.ensures
+    ∙ data_put view.flash.now view.ram.now view.pmp.now view.near.start view.near.size c.args.at c.args.width
+    c.in-Some.offset
+    c.a_store_is_put.ensures c.args.value view.data_near c.in-Some.ensures

@@ -1,0 +1,3 @@
+mod Stretches
+mod Texts
+mod Turning

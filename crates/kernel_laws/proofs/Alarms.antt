@@ -1,0 +1,285 @@
+-- That an alarm fires when it is due: devices come before turns and passes, and the clock's answer is to the one that
+-- is due.
+use Rattle.std.proofs.Common.{◌≡◌, ◌≤◌, ◌<◌, ℕ, zero, suc, ◌+◌, ◌-◌, ◌*◌, ◌/◌, ◌==◌, Bool, true, false, cond, List, []}
+use Rattle.std.proofs.Common.{◌∷◌, find, Option, None, Some, is_some, slice_get, unwrap_or, refl, ap, sym, subst, ◌∙◌}
+use Rattle.std.proofs.Common.{arith, eqb-true, fold}
+use Rattle.std.specs.Prelude.{All, IfSome, IsSomeAnd}
+use Rattle.std.proofs.lemmas.Bool.Decides.{nat_tests}
+use Rattle.std.specs.List.{range_with_len}
+use Rattle.std.specs.Option.{option_and_then, option_map, option_or}
+use Rattle.std.proofs.lemmas.Bool.{false≢true}
+use Rattle.std.proofs.lemmas.List.Elements.{All-nil, All-cons}
+use Rattle.std.proofs.lemmas.Option.{slice_get_within}
+use Rattle.tk_base.specs.declared.limits.TheConstants.{SLOT_COUNT}
+use Rattle.tk_base.specs.declared.process.Choice.{Choice}
+use Rattle.tk_base.specs.declared.process.Choice.TheVariants.{Run, Device, Pass}
+use Rattle.tk_base.specs.declared.process.Dev.{Dev}
+use Rattle.tk_base.specs.declared.process.Dev.TheVariants as dev
+use Rattle.turn_scheduler.specs.RoundRobin.{choice, next_slot, ready_device}
+use Rattle.process_model.specs.Own.{Own}
+use Rattle.board_devices.specs.Arriving.{first_arrival_time}
+use Rattle.driver_model.specs.Alarm.{due_alarm, due_for, due_slot, has_due, left_for, nearer, next_left, ticks_left_in}
+use Rattle.driver_model.specs.Alarm.{ticks_left_of}
+use Rattle.driver_model.specs.Parts.{nearer_with}
+use Rattle.driver_model.specs.Console as console
+use Rattle.kernel_model.specs.Record.{Record, flash_of}
+use Rattle.kernel_model.specs.Turn.{Alarmed, NoWord, Taken, Word, WriteDone, turned}
+use Rattle.kernel_model.specs.World.{Answer, DeviceAnswer, Stepped, World, answer_label, can_act, carried_out}
+use Rattle.kernel_model.specs.World.{device_step_of, done, is_let, now_in, only_in, operating, owns_in, ran}
+use Rattle.kernel_model.specs.World.{receive_step, random_step, storing, telling_edge, transmitting, turn_label}
+use Rattle.kernel_model.specs.World.{lane_in, sending_time, work_in}
+use Rattle.kernel_model.specs.Parts.{alarmed}
+use Rattle.kernel_model.specs.Laws.{one_answered}
+use Rattle.kernel_model.specs.Run.{is_left, passes_to, next, next_time, ready_devices, ready_slots}
+use Rattle.kernel_model.proofs.Places.{of_stepped}
+use Rattle.kernel_model.proofs.Told.{edge_answer, of_device, told_labels, with_rest}
+use Rattle.kernel_laws.specs.Alarms.{AlarmsComeFirst, FiresWhenDue, NoneFiresEarly, PassesStopAtAlarms, takes_time}
+use Rattle.kernel_laws.proofs.OneRun.{left_at, mapped_get, none_in_range}
+
+-- a choice that takes time is made where no device step is ready
+no_device : (d : Option Dev) (rest : Option Choice) (c : Choice) → option_or (option_map Device d) rest ≡ Some c
+    → takes_time c ≡ true → d ≡ None
+no_device None rest c e takes = refl
+no_device (Some device) rest c e takes = let same : Device device ≡ c = cc in
+    absurd (false≢true (ap takes_time same ∙ takes))
+
+none_ready : (w : World) (c : Choice) → next w ≡ Some c → takes_time c ≡ true → ready_device (ready_devices w) ≡ None
+unfolding next choice
+none_ready w c e takes =
+    no_device (ready_device (ready_devices w))
+    (option_or (option_map Run (next_slot (ready_slots w) w.present.slot w.present.used w.pace.slice))
+    (option_map (λ (at : ℕ). Pass (at - w.clock.time)) (next_time w))) c e takes
+
+second_not : (a b : Bool) (rest : Option Dev) → cond a (Some dev.Event) (cond b (Some dev.Alarm) rest) ≡ None
+    → b ≡ false
+second_not true b rest e = absurd (cc)
+second_not false true rest e = absurd (cc)
+second_not false false rest e = refl
+
+no_alarm_ready : (w : World) → ready_device (ready_devices w) ≡ None → can_act w dev.Alarm ≡ false
+unfolding ready_device
+no_alarm_ready w e = second_not (can_act w dev.Event) (can_act w dev.Alarm) _ e
+
+-- where the alarm's step is not ready, no alarm is due of a process that may be served
+no_some : {X : Type 0} (o : Option X) → is_some o ≡ false → o ≡ None
+no_some None e = refl
+no_some (Some x) e = absurd (false≢true (sym e))
+
+none_due : (now : ℕ) (owns : List Own) (only : Option ℕ) (slot : ℕ) → is_some (due_for only now owns) ≡ false
+    → is_let only slot ≡ true → slot + 1 ≤ SLOT_COUNT → has_due now (slice_get owns slot) ≡ false
+unfolding due_slot
+none_due now owns None slot e may within =
+    none_in_range (λ (s : ℕ). has_due now (slice_get owns s)) 0 SLOT_COUNT slot (no_some _ e) (omega arith)
+    (omega (arith, within))
+none_due now owns (Some only) slot e may within =
+    ap (λ (s : ℕ). has_due now (slice_get owns s)) (eqb-true slot only may)
+    ∙ by_test (has_due now (slice_get owns only)) e
+  where
+    by_test : (b : Bool) → is_some (cond b (Some only) None) ≡ false → b ≡ false
+    by_test true f = absurd (false≢true (sym f))
+    by_test false f = refl
+
+due_there : (w : World) (slot : ℕ) (r : Record) → slice_get w.records slot ≡ Some r
+    → has_due (now_in w) (slice_get (owns_in w) slot) ≡ is_some (due_alarm (now_in w) r.own)
+due_there w slot r there =
+    ap (has_due (now_in w)) (mapped_get (λ (r : Record). r.own) w.records slot)
+    ∙ ap (λ (o : Option Record). has_due (now_in w) (option_map (λ (r : Record). r.own) o)) there
+
+pub alarms_come_first : AlarmsComeFirst
+alarms_come_first w c slot r few e takes there may =
+    let within = slice_get_within w.records slot r there in
+    no_some (due_alarm (now_in w) r.own)
+    (sym (due_there w slot r there)
+    ∙ none_due (now_in w) (owns_in w) (only_in w) slot (no_alarm_ready w (none_ready w c e takes)) may
+    (omega (arith, few, within)))
+
+-- the slot whose alarm fires has one that is due
+found : {X : Type 0} (p : X → Bool) (xs : List X) (x : X) → find p xs ≡ Some x → p x ≡ true
+found p [] x e = absurd (cc)
+found p (y ∷ ys) x e = by_test (p y) refl e (found p ys x)
+  where
+    by_test : (b : Bool) → p y ≡ b → cond b (Some y) (find p ys) ≡ Some x
+        → (find p ys ≡ Some x → p x ≡ true) → p x ≡ true
+    by_test true is f later = let same : y ≡ x = cc in ap p (sym same) ∙ is
+    by_test false is f later = later f
+
+is_due : (now : ℕ) (owns : List Own) (only : Option ℕ) (slot : ℕ) → due_for only now owns ≡ Some slot
+    → has_due now (slice_get owns slot) ≡ true
+unfolding due_slot
+is_due now owns None slot e = found (λ (s : ℕ). has_due now (slice_get owns s)) (range_with_len 0 SLOT_COUNT) slot e
+is_due now owns (Some only) slot e = by_test (has_due now (slice_get owns only)) refl e
+  where
+    by_test : (b : Bool) → has_due now (slice_get owns only) ≡ b → cond b (Some only) None ≡ Some slot
+        → has_due now (slice_get owns slot) ≡ true
+    by_test true is f = let same : only ≡ slot = cc in ap (λ (s : ℕ). has_due now (slice_get owns s)) (sym same) ∙ is
+    by_test false is f = absurd (cc)
+
+module _ (w : World) where
+  abbrev Fires : Stepped → Type 0
+  Fires s = All (FiresWhenDue w) s.labels
+
+  none : All (FiresWhenDue w) []
+  none = All-nil (FiresWhenDue w)
+
+  -- an answer that is no alarm's
+  other : (slot : ℕ) (r : Record) (a : DeviceAnswer)
+      → ((now : ℕ) → a.answer.event ≡ Alarmed now → ⊥) → Fires (one_answered w slot r a)
+  other slot r a apart =
+      All-cons (FiresWhenDue w) (answer_label slot a.answer) [] (λ now is. absurd (apart now is)) none
+
+  sent_apart : (b : Bool) (now : ℕ) → cond b WriteDone Taken ≡ Alarmed now → ⊥
+  sent_apart true now e = cc
+  sent_apart false now e = cc
+
+  drawn_apart : (o : Option ℕ) (now : ℕ) → unwrap_or (option_map Word o) NoWord ≡ Alarmed now → ⊥
+  drawn_apart None now e = cc
+  drawn_apart (Some word) now e = cc
+
+  of_devices : (device : Dev) → Fires (done w (device_step_of w device))
+  of_devices device = of_device w Fires (record {
+    none = none;
+    arrives = λ bytes rest. none;
+    edges = λ button pressed rest.
+        told_labels (FiresWhenDue w) (telling_edge button pressed w.records w.devices).told 0 w.records
+        (λ slot at r a here there is now e.
+        let same = edge_answer button pressed (slice_get w.records at) a is in
+        let apart = sym (ap (λ (x : Answer). x.event) same) ∙ e in absurd (cc));
+    nobody = λ rest. none;
+    acts = λ verb rest slot r is. other slot r (operating verb (with_rest w.devices rest) slot r) (λ now e. cc);
+    alarms = λ slot r first is.
+        All-cons (FiresWhenDue w) (answer_label slot (alarmed w.settings w.clock.time w.devices).answer) []
+        (λ now e. let same : now ≡ now_in w = cc in (
+          same,
+          subst (λ (o : Option Record). IsSomeAnd o (λ r. is_some (due_alarm now r.own) ≡ true)) (sym is)
+              (ap (λ (n : ℕ). is_some (due_alarm n r.own)) same ∙ sym (due_there w slot r is)
+              ∙ is_due (now_in w) (owns_in w) (only_in w) slot first),
+        )) none;
+    sends = λ slot r first is. other slot r (transmitting (lane_in w) w.clock.time w.devices slot r)
+        (sent_apart (console.sent (flash_of r) r.own).completed);
+    receives = λ slot r first is. other slot r (receive_step (lane_in w) w.devices slot r) (λ now e. cc);
+    draws = λ slot r first is. other slot r (random_step (lane_in w) w.devices slot r) (drawn_apart _);
+    stores = λ slot r first is. other slot r (storing (lane_in w) w.devices slot r) (λ now e. cc);
+  }) device
+
+  of_ran : (slot : ℕ) (o : Option Record) → Fires (ran w slot o)
+  of_ran slot None = none
+  of_ran slot (Some r) =
+      All-cons (FiresWhenDue w) (turn_label slot w.clock.time (turned w.settings w.clock.time r).told) []
+      (λ now e. absurd (cc)) none
+
+  of_choice : (c : Choice) → Fires (carried_out w c)
+  unfolding carried_out
+  of_choice (Run slot) = of_ran slot (slice_get w.records slot)
+  of_choice (Device device) = of_devices device
+  of_choice (Pass ticks) = none
+
+pub none_fires_early : NoneFiresEarly
+none_fires_early w c = of_stepped (Fires w) w c (none w) (λ ready. of_choice w c)
+
+-- Time that passes ends no later than when the next alarm becomes due: what is nearest is no later than each.
+abbrev IsUpTo : ℕ → Option ℕ → Type 0
+IsUpTo x o = IsSomeAnd o (λ k. k ≤ x)
+
+nearer_left : (a b : Option ℕ) (x : ℕ) → IsUpTo x a → IsUpTo x (nearer a b)
+nearer_left None b x h = absurd h
+nearer_left (Some m) None x h = h
+nearer_left (Some m) (Some n) x h = omega (arith, h)
+
+nearer_right : (a b : Option ℕ) (x : ℕ) → IsUpTo x b → IsUpTo x (nearer a b)
+nearer_right None b x h = h
+nearer_right (Some m) None x h = absurd h
+nearer_right (Some m) (Some n) x h = omega (arith, h)
+
+fold_keeps : (now : ℕ) (owns : List Own) (slots : List ℕ) (least : Option ℕ) (x : ℕ) → IsUpTo x least
+    → IsUpTo x (fold (nearer_with now owns) least slots)
+fold_keeps now owns [] least x h = h
+fold_keeps now owns (slot ∷ slots) least x h =
+    fold_keeps now owns slots (nearer_with now owns least slot) x
+    (nearer_left least (ticks_left_in now owns slot) x h)
+
+fold_finds : (now : ℕ) (owns : List Own) (from count slot : ℕ) (least : Option ℕ) (x : ℕ) → from ≤ slot
+    → slot < from + count → IsUpTo x (ticks_left_in now owns slot)
+    → IsUpTo x (fold (nearer_with now owns) least (range_with_len from count))
+fold_finds now owns from zero slot least x low high h = absurd (omega (arith, low, high))
+fold_finds now owns from (suc count) slot least x low high h =
+    by_first (slot == from) refl (λ above.
+    fold_finds now owns (from + 1) count slot (nearer_with now owns least from) x above (omega (arith, high)) h)
+  where
+    later : List ℕ
+    later = range_with_len (from + 1) count
+
+    by_first : (b : Bool) → (slot == from) ≡ b
+        → (from + 1 ≤ slot → IsUpTo x (fold (nearer_with now owns) (nearer_with now owns least from) later))
+        → IsUpTo x (fold (nearer_with now owns) (nearer_with now owns least from) later)
+    by_first true same rest =
+        let at : slot ≡ from = grind (arith, nat_tests) in
+        fold_keeps now owns later (nearer_with now owns least from) x
+        (nearer_right least (ticks_left_in now owns from) x
+        (subst (λ (n : ℕ). IsUpTo x (ticks_left_in now owns n)) at h))
+    by_first false apart rest = rest (grind (arith, nat_tests))
+
+left_up_to : (now : ℕ) (owns : List Own) (only : Option ℕ) (slot x : ℕ) → is_let only slot ≡ true
+    → slot + 1 ≤ SLOT_COUNT → IsUpTo x (ticks_left_in now owns slot) → IsUpTo x (left_for only now owns)
+unfolding next_left
+left_up_to now owns None slot x may within h =
+    fold_finds now owns 0 SLOT_COUNT slot None x (omega arith) (omega (arith, within)) h
+left_up_to now owns (Some only) slot x may within h =
+    subst (λ (n : ℕ). IsUpTo x (ticks_left_in now owns n)) (eqb-true slot only may) h
+
+later_up_to : (time x : ℕ) (o : Option ℕ) → IsUpTo x o → IsUpTo (time + x) (option_map (λ left. time + left) o)
+later_up_to time x None h = absurd h
+later_up_to time x (Some left) h = omega (arith, h)
+
+-- a pass leads to the next time
+record PassesTo (time ticks : ℕ) (o : Option ℕ) : Type 0 where
+  at : ℕ
+  is : o ≡ Some at
+  by : ticks ≡ at - time
+
+chosen_pass : (time ticks : ℕ) (d : Option Dev) (q : Option ℕ) (o : Option ℕ)
+    → option_or (option_map Device d) (option_or (option_map Run q) (option_map (λ (at : ℕ). Pass (at - time)) o))
+    ≡ Some (Pass ticks) → PassesTo time ticks o
+chosen_pass time ticks (Some device) q o e = absurd (cc)
+chosen_pass time ticks None (Some slot) o e = absurd (cc)
+chosen_pass time ticks None None None e = absurd (cc)
+chosen_pass time ticks None None (Some at) e = record { at = at; is = refl; by = cc }
+
+passes_up_to : (w : World) (n x at : ℕ) → passes_to w n ≡ Some at → IsUpTo x (work_in w (only_in w)).next → at ≤ x
+passes_up_to w zero x at e h = subst (IsUpTo x) e h
+passes_up_to w (suc n) x at e h = by_left (is_left w) e
+  where
+    window_end : ℕ
+    window_end = (w.clock.time / suc n + 1) * suc n
+
+    by_left : (b : Bool) → cond b (nearer (work_in w (only_in w)).next (Some window_end)) None ≡ Some at → at ≤ x
+    by_left true f = subst (IsUpTo x) f (nearer_left (work_in w (only_in w)).next (Some window_end) x h)
+    by_left false f = absurd (cc)
+
+work_up_to : (w : World) (slot x : ℕ) (r : Record) → slot + 1 ≤ SLOT_COUNT → slice_get w.records slot ≡ Some r
+    → is_let (only_in w) slot ≡ true → ticks_left_of (now_in w) r.own ≡ Some x
+    → IsUpTo (w.clock.time + x) (work_in w (only_in w)).next
+work_up_to w slot x r within there may left =
+    let own = left_for (only_in w) (now_in w) (owns_in w) in
+    let later = option_map (λ (left : ℕ). w.clock.time + left) own in
+    let sends = sending_time (only_in w) w.devices in
+    nearer_right (first_arrival_time w.devices.arrivals) (nearer later sends) (w.clock.time + x)
+    (nearer_left later sends (w.clock.time + x)
+    (later_up_to w.clock.time x own
+    (left_up_to (now_in w) (owns_in w) (only_in w) slot x may within
+    (subst (IsUpTo x)
+    (sym (left_at w slot ∙ ap (option_and_then (λ (r : Record). ticks_left_of (now_in w) r.own)) there ∙ left))
+    (omega arith)))))
+
+pub passes_stop_at_alarms : PassesStopAtAlarms
+unfolding next choice
+passes_stop_at_alarms w ticks slot r few e there may = by_left (ticks_left_of (now_in w) r.own) refl
+  where
+    by_left : (o : Option ℕ) → ticks_left_of (now_in w) r.own ≡ o → IfSome o (λ left. ticks ≤ left)
+    by_left None is = tt
+    by_left (Some left) is =
+        let within = slice_get_within w.records slot r there in
+        let pass = chosen_pass w.clock.time ticks (ready_device (ready_devices w))
+        (next_slot (ready_slots w) w.present.slot w.present.used w.pace.slice) (next_time w) e in
+        let up = passes_up_to w w.pace.window (w.clock.time + left) pass.at pass.is
+        (work_up_to w slot left r (omega (arith, few, within)) there may is) in
+        omega (arith, up, pass.by)

@@ -1,0 +1,8 @@
+use Rattle.kernel_laws.proofs.Queues.{first_are_served, queues_keep_order}
+use Rattle.kernel_laws.proofs.steps.queues_are_first_come_first_served.Goals as goal
+
+pub returns-clause-order : goal.returns-clause-order
+returns-clause-order c = queues_keep_order
+
+pub returns-clause-first : goal.returns-clause-first
+returns-clause-first c = first_are_served

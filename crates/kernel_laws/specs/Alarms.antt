@@ -1,0 +1,43 @@
+-- That an alarm fires when it is due. The alarm is Tock's driver 0x0; that devices come before turns and passes is this
+-- board's own rule.
+use Rattle.std.specs.Prelude.{◌≡◌, ◌≤◌, ℕ, Bool, true, false, length, slice_get, Some, None, is_some, All, IfSome}
+use Rattle.std.specs.Prelude.{IsSomeAnd}
+use Rattle.tk_base.specs.declared.limits.TheConstants.{SLOT_COUNT}
+use Rattle.tk_base.specs.declared.process.Choice.{Choice}
+use Rattle.tk_base.specs.declared.process.Choice.TheVariants.{Device, Pass}
+use Rattle.driver_model.specs.Alarm.{due_alarm, ticks_left_of}
+use Rattle.kernel_model.specs.Record.{Record}
+use Rattle.kernel_model.specs.Turn.{Alarmed}
+use Rattle.kernel_model.specs.World.{Label, World, is_let, labels, now_in, only_in}
+use Rattle.kernel_model.specs.Run.{next}
+
+-- whether a choice takes time: a turn of a process, or a pass
+abbrev pub takes_time : Choice → Bool
+takes_time (Device device) = false
+takes_time other = true
+
+-- As long as the alarm of a process is due that may be served, the next choice, of the round robin or of the windows,
+-- gives no process a turn and lets no time pass.
+abbrev pub AlarmsComeFirst : Type 0
+AlarmsComeFirst =
+    (w : World) (choice : Choice) (slot : ℕ) (r : Record) → length w.records ≤ SLOT_COUNT →
+    next w ≡ Some choice → takes_time choice ≡ true →
+    slice_get w.records slot ≡ Some r → is_let (only_in w) slot ≡ true → due_alarm (now_in w) r.own ≡ None
+
+-- and time that it lets pass ends when the next of these alarms becomes due, if not before
+abbrev pub PassesStopAtAlarms : Type 0
+PassesStopAtAlarms =
+    (w : World) (ticks slot : ℕ) (r : Record) → length w.records ≤ SLOT_COUNT → next w ≡ Some (Pass ticks) →
+    slice_get w.records slot ≡ Some r → is_let (only_in w) slot ≡ true →
+    IfSome (ticks_left_of (now_in w) r.own) (λ left. ticks ≤ left)
+
+-- an alarm that fires is due: of a process that lives and has one armed, whose delta has passed since its reference, by
+-- the clock as it shows then, and as the process is told it
+abbrev pub FiresWhenDue : World → Label → Type 0
+FiresWhenDue w label =
+    (now : ℕ) → label.event ≡ Alarmed now →
+    (now ≡ now_in w) × IsSomeAnd (slice_get w.records label.slot) (λ r. is_some (due_alarm now r.own) ≡ true)
+
+-- no alarm fires before it is due, whoever makes the choice
+abbrev pub NoneFiresEarly : Type 0
+NoneFiresEarly = (w : World) (choice : Choice) → All (FiresWhenDue w) (labels w choice)

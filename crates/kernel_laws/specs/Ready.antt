@@ -1,0 +1,22 @@
+-- Which processes have turns (TRD 104, "Yield", "Exit"). That one which an operator holds has none is this board's own
+-- rule.
+use Rattle.std.specs.Prelude.{◌≡◌, ℕ, true, false, All, slice_get, IsSomeAnd}
+use Rattle.tk_base.specs.declared.process.Choice.{Choice}
+use Rattle.kernel_model.specs.Record.{Record}
+use Rattle.kernel_model.specs.declared.settings.Settings.{Settings}
+use Rattle.kernel_model.specs.Turn.{idle, is_turn, may_turn, turned}
+use Rattle.kernel_model.specs.World.{Label, World, labels}
+
+-- a turn that a label tells is that of a process which may have one then: no operator holds it; and it runs, or has
+-- yielded and something is due to it
+abbrev pub IsOfReady : World → Label → Type 0
+IsOfReady w label = is_turn label.event ≡ true → IsSomeAnd (slice_get w.records label.slot) (λ r. may_turn r ≡ true)
+
+-- so it is in every step of every world, whoever makes the choice
+abbrev pub TurnsAreOfReadyProcesses : Type 0
+TurnsAreOfReadyProcesses = (w : World) (choice : Choice) → All (IsOfReady w) (labels w choice)
+
+-- a turn of one that may have none changes nothing, tells nothing and asks for nothing
+abbrev pub UnreadyTurnsDoNothing : Type 0
+UnreadyTurnsDoNothing = (settings : Settings) (time : ℕ) (r : Record) →
+    may_turn r ≡ false → turned settings time r ≡ idle r

@@ -1,0 +1,102 @@
+-- Where the buffers of a process lie whose own is whole.
+use Rattle.std.proofs.Common.{◌≡◌, ◌⊎◌, inl, inr, ◌≤◌, ℕ, ◌+◌, ◌==◌, ◌||◌, Bool, true, false, refl, arith, eqb-true}
+use Rattle.std.proofs.Common.{length}
+use Rattle.std.specs.Prelude.{IsTrue}
+use Rattle.std.proofs.lemmas.Bool.Decides.{nat_tests}
+use Rattle.tk_base.specs.declared.kinds.PairKind.{PairKind}
+use Rattle.tk_base.specs.declared.kinds.PairKind.TheVariants.{Upcall, ReadOnly, ReadWrite, Readable}
+use Rattle.tk_base.specs.Kinds.{is_buffer}
+use Rattle.process_layout.specs.Interval.{lies_within}
+use Rattle.process_layout.specs.Bounds.{Bounds}
+use Rattle.process_model.specs.Changes.{IsInside}
+use Rattle.process_model.specs.Handed.{held, lies_in_flash, lies_in_ram, may_keep}
+use Rattle.process_model.specs.Own.{Own}
+use Rattle.kernel_model.specs.Record.{Record}
+use Rattle.kernel_model.specs.Wholes.{HasWholeOwn}
+use Rattle.kernel_lives.specs.OwnBuffers.{IsInOwnFlash, IsInOwnRam, WholeOwnsHoldTheirBuffers}
+
+in_interval : (low high at size : ℕ) → lies_within low high at size ≡ true → (low ≤ at) × (at + size ≤ high)
+in_interval low high at size is = grind (arith, nat_tests)
+
+-- a buffer that has bytes, where it may be kept
+abbrev LiesIn : PairKind → Bounds → ℕ × ℕ → Type 0
+LiesIn kind e pair =
+    (lies_in_ram e pair.0 pair.1 ≡ true) ⊎ ((kind ≡ ReadOnly) × (lies_in_flash e pair.0 pair.1 ≡ true))
+
+one_lies : (n : ℕ) (none ram : Bool) {A : Type 0} → (n == 0) ≡ none → 1 ≤ n → IsTrue (none || ram) → (ram ≡ true) ⊎ A
+one_lies n true ram zero some may = let is : n ≡ 0 = eqb-true n 0 zero in absurd (omega (arith, some, is))
+one_lies n false true zero some may = inl refl
+one_lies n false false zero some may = absurd (cc)
+
+kept_lies : (kind : PairKind) (e : Bounds) (pair : ℕ × ℕ) → is_buffer kind ≡ true → IsTrue (may_keep kind e pair)
+    → 1 ≤ pair.1 → LiesIn kind e pair
+kept_lies Upcall e pair is may some = absurd (cc)
+kept_lies ReadOnly e pair is may some =
+    by_place (pair.1 == 0) (lies_in_ram e pair.0 pair.1) (lies_in_flash e pair.0 pair.1) refl may
+  where
+    by_place : (none ram flash : Bool) → (pair.1 == 0) ≡ none → IsTrue (none || ram || flash)
+        → (ram ≡ true) ⊎ ((ReadOnly ≡ ReadOnly) × (flash ≡ true))
+    by_place true ram flash zero may = let is : pair.1 ≡ 0 = eqb-true pair.1 0 zero in absurd (omega (arith, some, is))
+    by_place false true flash zero may = inl refl
+    by_place false false true zero may = inr (refl, refl)
+    by_place false false false zero may = absurd (cc)
+kept_lies ReadWrite e pair is may some = one_lies pair.1 (pair.1 == 0) (lies_in_ram e pair.0 pair.1) refl some may
+kept_lies Readable e pair is may some = one_lies pair.1 (pair.1 == 0) (lies_in_ram e pair.0 pair.1) refl some may
+
+module _ (r : Record) (whole : HasWholeOwn r) (kind : PairKind) (driver number : ℕ) (is : is_buffer kind ≡ true) where
+  abbrev buffer : ℕ × ℕ
+  buffer = held kind driver number r.own
+
+  -- it lies below the mark, or in flash
+  lies : 1 ≤ buffer.1 → LiesIn kind (record r.own.layout { brk = r.own.layout.mark }) buffer
+  lies some =
+      kept_lies kind (record r.own.layout { brk = r.own.layout.mark }) buffer is
+      (whole.1.buffers.each kind driver number) some
+
+  each : (at : ℕ) → IsInside buffer at → IsInOwnRam at r.own ⊎ ((kind ≡ ReadOnly) × IsInOwnFlash at r.own)
+  each at inside = by_place (lies (omega (arith, inside.0, inside.1)))
+    where
+      by_place : LiesIn kind (record r.own.layout { brk = r.own.layout.mark }) buffer
+          → IsInOwnRam at r.own ⊎ ((kind ≡ ReadOnly) × IsInOwnFlash at r.own)
+      by_place (inl ram) =
+          let within = in_interval r.own.layout.start r.own.layout.mark buffer.0 buffer.1 ram in
+          let order = whole.0.places in
+          inl (record {
+            start = omega (arith, inside.0, within.0);
+            brk = omega (arith, inside.1, within.1, order.brk);
+            below = omega (arith, inside.1, within.1, order.brk, order.grants);
+          })
+      by_place (inr flash) =
+          let within = in_interval r.own.layout.flash_start r.own.layout.flash_end buffer.0 buffer.1 flash.1 in
+          inr (
+            flash.0,
+            record {
+              start = omega (arith, inside.0, within.0);
+              end = omega (arith, inside.1, within.1);
+            },
+          )
+
+pub whole_owns_hold_their_buffers : WholeOwnsHoldTheirBuffers
+whole_owns_hold_their_buffers r whole kind driver number at is inside = each r whole kind driver number is at inside
+
+-- a buffer that may be written, and has bytes, lies in the process's own bytes
+pub record LiesInOwn (own : Own) (pair : ℕ × ℕ) : Type 0 where
+  pub low : own.layout.start ≤ pair.0
+  pub fits : pair.0 + pair.1 ≤ own.layout.start + length own.ram
+
+pub read_write_lies : (r : Record) → HasWholeOwn r → (driver number : ℕ) → 1 ≤ (held ReadWrite driver number r.own).1
+    → LiesInOwn r.own (held ReadWrite driver number r.own)
+read_write_lies r whole driver number some = by_place (lies r whole ReadWrite driver number refl some)
+  where
+    pair : ℕ × ℕ
+    pair = held ReadWrite driver number r.own
+
+    by_place : LiesIn ReadWrite (record r.own.layout { brk = r.own.layout.mark }) pair → LiesInOwn r.own pair
+    by_place (inl ram) =
+        let within = in_interval r.own.layout.start r.own.layout.mark pair.0 pair.1 ram in
+        let order = whole.0.places in
+        record {
+          low = within.0;
+          fits = omega (arith, within.1, order.mark, order.brk, order.grants, whole.1.bytes);
+        }
+    by_place (inr flash) = absurd (cc)

@@ -1,0 +1,62 @@
+-- That requests which begin to wait are completed once at most, and that none outlives the life in which it waits.
+-- Requests wait in grants (Levy et al., SOSP 2017, section 4); their queues are this board's own rule.
+use Rattle.std.specs.Prelude.{◌≡◌, ◌≤◌, ℕ, ◌+◌, ◌==◌, ◌&&◌, Bool, true, false, not, List, [], ◌∷◌, slice_get, Some}
+use Rattle.std.specs.Prelude.{IfSome, option_map, unwrap_or}
+use Rattle.std.specs.List.{list_any}
+use Rattle.tk_base.specs.declared.process.Choice.{Choice}
+use Rattle.driver_model.specs.Commands.{QueueName, order_of}
+use Rattle.driver_model.specs.Lines.{has_waiting}
+use Rattle.kernel_model.specs.Record.{Record}
+use Rattle.kernel_model.specs.World.{Label, World, after, labels}
+use Rattle.kernel_model.specs.Lives.{LivesAsItRuns}
+use Rattle.kernel_model.specs.Replay.{after_all}
+use Rattle.kernel_laws.specs.Queues.{queue_for}
+use Rattle.kernel_lives.specs.Lists.{ListsAreOfRequests, asks_at, once_if}
+
+-- whether the process in a slot, if there is one, has a request that waits in a queue
+abbrev pub asks_in : QueueName → ℕ → World → Bool
+asks_in queue slot w = asks_at queue (slice_get w.records slot)
+
+-- whether a request of it begins to wait in a step: it has one after it, and had none before
+abbrev pub begins_in : QueueName → ℕ → World → Choice → Bool
+begins_in queue slot w choice = not (asks_in queue slot w) && asks_in queue slot (after w choice)
+
+-- whether a label tells it something of the queue's device
+abbrev pub answers_for : QueueName → ℕ → Label → Bool
+answers_for queue slot label =
+    label.slot == slot
+    && unwrap_or (option_map (λ name. order_of name == order_of queue) (queue_for label.event)) false
+
+-- whether an answer in a step completes its request: it is told one, and has no request after it
+abbrev pub completes_in : QueueName → ℕ → World → Choice → Bool
+completes_in queue slot w choice =
+    list_any (answers_for queue slot) (labels w choice) && not (asks_in queue slot (after w choice))
+
+-- in how many of some steps a request begins to wait
+abbrev pub requests_begun : QueueName → ℕ → World → List Choice → ℕ
+requests_begun queue slot w [] = 0
+requests_begun queue slot w (choice ∷ choices) =
+    once_if (begins_in queue slot w choice) + requests_begun queue slot (after w choice) choices
+
+-- and in how many an answer completes one
+abbrev pub requests_completed : QueueName → ℕ → World → List Choice → ℕ
+requests_completed queue slot w [] = 0
+requests_completed queue slot w (choice ∷ choices) =
+    once_if (completes_in queue slot w choice) + requests_completed queue slot (after w choice) choices
+
+-- After any choices the answers that completed a request of a process, and the one that waits still, are no more than
+-- its requests that began to wait, and the one that waited at first.
+abbrev pub RequestsCompleteOnce : Type 0
+RequestsCompleteOnce = (w : World) (choices : List Choice) (queue : QueueName) (slot : ℕ) → ListsAreOfRequests w →
+    requests_completed queue slot w choices + once_if (asks_in queue slot (after_all w choices))
+    ≤ requests_begun queue slot w choices + once_if (asks_in queue slot w)
+
+-- a process that has a request after a step is in the life in which it was before it
+abbrev pub HasRequestsOfItsLife : Record → Record → Type 0
+HasRequestsOfItsLife r s = (queue : QueueName) → has_waiting queue s.own ≡ true → s.own.life ≡ r.own.life
+
+-- so it is in every step of every world with a process that lives as it runs: no request outlives its life
+abbrev pub RequestsEndWithTheirLife : Type 0
+RequestsEndWithTheirLife = (w : World) (choice : Choice) (slot : ℕ) (r : Record) →
+    slice_get w.records slot ≡ Some r → LivesAsItRuns r →
+    IfSome (slice_get (after w choice).records slot) (HasRequestsOfItsLife r)

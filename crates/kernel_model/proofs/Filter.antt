@@ -1,0 +1,131 @@
+-- That the system call filter holds in runs, by the call that was served.
+use Rattle.std.proofs.Common.{◌≡◌, ℕ, ◌==◌, ◌&&◌, Bool, true, false, cond, not, List, Option, None, Some, refl, sym}
+use Rattle.std.proofs.Common.{ap, subst, ◌∙◌}
+use Rattle.std.specs.Prelude.{IfSome}
+use Rattle.std.proofs.lemmas.Bool.{false≢true}
+use Rattle.tk_base.specs.declared.call.CallRule.TheVariants.{Permission}
+use Rattle.tk_base.specs.declared.kinds.PairKind.{PairKind}
+use Rattle.tk_base.specs.declared.kinds.PairKind.TheVariants.{Upcall, ReadOnly, ReadWrite, Readable}
+use Rattle.tk_base.specs.Regs.{Registers}
+use Rattle.tbf_headers.specs.Permissions.{allows, lists}
+use Rattle.rv32_model.specs.declared.turn_end.TurnEnd.{TurnEnd}
+use Rattle.rv32_model.specs.declared.turn_end.TurnEnd.TheVariants as ends
+use Rattle.rv32_model.specs.UserTurn.{MemoryAccess}
+use Rattle.upcall_queue.specs.declared.inbox.Delivery.{Delivery}
+use Rattle.upcall_queue.specs.Pending.{due}
+use Rattle.syscall_abi.specs.declared.call.Call.{Call as SystemCall}
+use Rattle.syscall_abi.specs.declared.form.CallForm.{CallForm}
+use Rattle.syscall_abi.specs.declared.form.CallForm.TheVariants as forms
+use Rattle.syscall_abi.specs.Call.{a0, a1, call_of, class, form_of}
+use Rattle.syscall_filter.specs.Permission.{permitted}
+use Rattle.process_record.specs.declared.emit.CallMade.{CallMade}
+use Rattle.process_record.specs.declared.outcome.Outcome.{Outcome}
+use Rattle.process_record.specs.declared.process.State.{State}
+use Rattle.process_record.specs.declared.process.State.TheVariants.{Running, Yielded, Faulted, Terminated}
+use Rattle.driver_model.specs.Drivers.{CommandContext}
+use Rattle.kernel_model.proofs.Places.{of_turned}
+use Rattle.kernel_model.specs.Record.{Record, instruction, with_effect}
+use Rattle.kernel_model.specs.declared.settings.Settings.{Settings}
+use Rattle.kernel_model.specs.Calls.{by_form, failure_of, refused_with, served}
+use Rattle.kernel_model.specs.Histories.{class_of}
+use Rattle.kernel_model.specs.Parts.{calls, delivery, object_permits}
+use Rattle.kernel_model.specs.Turn.{at_turn_end, made, rule_shown, surroundings, turn_counted, turn_in, turned}
+use Rattle.kernel_model.proofs.Accesses.{step_labels}
+use Rattle.kernel_model.proofs.Classes.{of_registers, swap_in}
+use Rattle.kernel_model.specs.Filter.{IsFiltered, StepsAreFiltered, is_allowed, names_driver, permissions_of}
+
+-- what is permitted by the form of a call is allowed by what a turn shows of it
+module _ (strict : Bool) (list : Option (List ℕ)) (regs : Registers) (outcome : Outcome) where
+  abbrev Follows : Option SystemCall → Type 0
+  Follows o = IfSome o (λ call. permitted strict list (form_of call) ≡ true → names_driver (class regs) ≡ true
+      → is_allowed strict list (made regs outcome) ≡ true)
+
+  -- without a list a filter that lets such a call through is not strict
+  open_filter : (strict : Bool) → not (strict && true) ≡ true → not strict ≡ true
+  open_filter true e = e
+  open_filter false e = e
+
+  -- a class that names no driver
+  nameless : (n : ℕ) {A : Type 0} → names_driver n ≡ false → class regs ≡ n → names_driver (class regs) ≡ true → A
+  nameless n none is names = absurd (false≢true (sym (ap names_driver is ∙ none) ∙ names))
+
+  -- a swap is no command, so that its driver alone is looked for
+  not_command : (kind : PairKind) (x y : Bool) → cond (class_of kind == 2) x y ≡ y
+  not_command Upcall x y = refl
+  not_command ReadOnly x y = refl
+  not_command ReadWrite x y = refl
+  not_command Readable x y = refl
+
+  of_swap : (kind : PairKind) → class regs ≡ class_of kind → (list : Option (List ℕ))
+      → permitted strict list (forms.Swap (swap_in kind regs)) ≡ true
+      → is_allowed strict list (made regs outcome) ≡ true
+  of_swap kind is None may = open_filter strict may
+  of_swap kind is (Some entries) may =
+      ap (λ (c : ℕ). cond (c == 2) (allows entries (a0 regs) (a1 regs)) (lists entries (a0 regs))) is
+      ∙ not_command kind (allows entries (a0 regs) (a1 regs)) (lists entries (a0 regs)) ∙ may
+
+  of_command : (x y : ℕ) → class regs ≡ 2 → (list : Option (List ℕ))
+      → permitted strict list (forms.Command (a0 regs) (a1 regs) x y) ≡ true
+      → is_allowed strict list (made regs outcome) ≡ true
+  of_command x y is None may = open_filter strict may
+  of_command x y is (Some entries) may =
+      ap (λ (c : ℕ). cond (c == 2) (allows entries (a0 regs) (a1 regs)) (lists entries (a0 regs))) is ∙ may
+
+  follows : Follows (call_of regs)
+  follows =
+      of_registers Follows regs (λ is may names. nameless 0 refl is names)
+      (λ kind call is form may names.
+      of_swap kind is list (subst (λ (f : CallForm). permitted strict list f ≡ true) form may))
+      (λ is may names. of_command _ _ is list may)
+      (λ is may names. nameless 5 refl is names) (λ is may names. nameless 6 refl is names) tt
+
+-- a call that was not refused was permitted
+not_refused : (strict : Bool) (around : CommandContext) (r : Record) (call : SystemCall)
+    → rule_shown (served strict around r call).outcome ≡ None → object_permits strict r.object call ≡ true
+unfolding served
+not_refused strict around r call e = by_test (object_permits strict r.object call) e
+  where
+    by_test : (b : Bool)
+        → rule_shown (cond b (by_form around r (form_of call))
+        (refused_with r Permission (failure_of (form_of call) Permission))).outcome ≡ None → b ≡ true
+    by_test true e = refl
+    by_test false e = absurd (cc)
+
+module _ (settings : Settings) (time : ℕ) where
+  of_calls : (r : Record) (accesses : List MemoryAccess) (call : Option SystemCall) → call_of r.process.regs ≡ call
+      → IsFiltered settings r (calls settings time r accesses call).told
+  of_calls r accesses None is shown e names rule = absurd (cc)
+  of_calls r accesses (Some call) is shown e names rule =
+      let s = served settings.strict (surroundings settings time r) r call in
+      let same : made r.process.regs s.outcome ≡ shown = cc in
+      let may = not_refused settings.strict (surroundings settings time r) r call
+      (ap (λ (m : CallMade). m.rule) same ∙ rule) in
+      let names_it = ap (λ (m : CallMade). names_driver m.class) same ∙ names in
+      let allowed =
+      subst (λ (o : Option SystemCall). Follows settings.strict (permissions_of r) r.process.regs s.outcome o) is
+      (follows settings.strict (permissions_of r) r.process.regs s.outcome) may names_it in
+      ap (is_allowed settings.strict (permissions_of r)) (sym same) ∙ allowed
+
+  of_end : (r : Record) (accesses : List MemoryAccess) (end : TurnEnd)
+      → IsFiltered settings r (at_turn_end settings time r accesses end).told
+  of_end r accesses ends.Went shown e names rule = absurd (cc)
+  of_end r accesses ends.Call shown e names rule =
+      of_calls r accesses (call_of r.process.regs) refl shown e names rule
+  of_end r accesses (ends.Trap denial) shown e names rule = absurd (cc)
+
+  of_delivery : (r : Record) (next : Option Delivery) → IsFiltered settings r (delivery r next).told
+  of_delivery r next shown e names rule = absurd (cc)
+
+  of_state : (state : State) (r : Record) → IsFiltered settings r (turn_in settings time state r).told
+  of_state Running r = let t = instruction r in of_end (with_effect (turn_counted r) t) t.accesses t.end
+  of_state Yielded r = of_delivery r (due r.own.inbox)
+  of_state Faulted r = λ shown e names rule. absurd (cc)
+  of_state (Terminated code) r = λ shown e names rule. absurd (cc)
+
+  of_turn : (r : Record) → IsFiltered settings r (turned settings time r).told
+  of_turn r =
+      of_turned (λ t. IsFiltered settings r t.told) settings time r (of_state Faulted r) (of_state r.process.state r)
+
+pub steps_are_filtered : StepsAreFiltered
+steps_are_filtered w choice =
+    step_labels (IsFiltered w.settings) w (λ r shown e names rule. absurd (cc)) (of_turn w.settings w.clock.time) choice

@@ -1,0 +1,239 @@
+//! The entry of an instruction.
+use crate::decoded::Entry;
+use crate::register::Register;
+use rv32_model::{BranchTest, InstrVisitor, LoadKind, Op};
+use tk_base::Width;
+
+/// The visitor that answers the entry of an instruction of a length. A jump by an odd offset, which no bits mean, has
+/// none.
+#[derive(Clone, Copy)]
+pub struct ToEntry {
+    /// How many bytes the instruction has.
+    pub length: u8,
+}
+
+impl InstrVisitor for ToEntry {
+    ghost use Rattle.rv32_predecode.specs.Entries.{IsEntryOf};
+
+    type Answer = Entry;
+
+    ghost handles = { λ before instr entry _. IsEntryOf before.length instr entry };
+
+    fn lui(&mut self, rd: u8, imm: u32) -> Entry {
+        let Some(rd) = Register::of(rd) else {
+            return Entry::Cold;
+        };
+        match self.length {
+            4 => Entry::Lui { rd, imm },
+            2 => Entry::CLui { rd, imm },
+            _ => Entry::Cold,
+        }
+    }
+
+    fn auipc(&mut self, rd: u8, imm: u32) -> Entry {
+        let Some(rd) = Register::of(rd) else {
+            return Entry::Cold;
+        };
+        match self.length {
+            4 => Entry::Auipc { rd, imm },
+            _ => Entry::Cold,
+        }
+    }
+
+    fn jal(&mut self, rd: u8, offset: u32) -> Entry {
+        if offset % 2 != 0 {
+            return Entry::Cold;
+        }
+        let Some(rd) = Register::of(rd) else {
+            return Entry::Cold;
+        };
+        match self.length {
+            4 => Entry::Jal { rd, offset },
+            2 => Entry::CJal { rd, offset },
+            _ => Entry::Cold,
+        }
+    }
+
+    fn jalr(&mut self, rd: u8, rs1: u8, offset: u32) -> Entry {
+        let Some(rd) = Register::of(rd) else {
+            return Entry::Cold;
+        };
+        let Some(rs1) = Register::of(rs1) else {
+            return Entry::Cold;
+        };
+        match self.length {
+            4 => Entry::Jalr { rd, rs1, offset },
+            2 => Entry::CJalr { rd, rs1, offset },
+            _ => Entry::Cold,
+        }
+    }
+
+    fn branch(&mut self, test: BranchTest, rs1: u8, rs2: u8, offset: u32) -> Entry {
+        if offset % 2 != 0 {
+            return Entry::Cold;
+        }
+        let Some(rs1) = Register::of(rs1) else {
+            return Entry::Cold;
+        };
+        let Some(rs2) = Register::of(rs2) else {
+            return Entry::Cold;
+        };
+        match self.length {
+            4 => match test {
+                BranchTest::Beq => Entry::Beq { rs1, rs2, offset },
+                BranchTest::Bne => Entry::Bne { rs1, rs2, offset },
+                BranchTest::Blt => Entry::Blt { rs1, rs2, offset },
+                BranchTest::Bge => Entry::Bge { rs1, rs2, offset },
+                BranchTest::Bltu => Entry::Bltu { rs1, rs2, offset },
+                BranchTest::Bgeu => Entry::Bgeu { rs1, rs2, offset },
+            },
+            2 => match test {
+                BranchTest::Beq => Entry::CBeq { rs1, rs2, offset },
+                BranchTest::Bne => Entry::CBne { rs1, rs2, offset },
+                _ => Entry::Cold,
+            },
+            _ => Entry::Cold,
+        }
+    }
+
+    fn load(&mut self, kind: LoadKind, rd: u8, rs1: u8, offset: u32) -> Entry {
+        let Some(rd) = Register::of(rd) else {
+            return Entry::Cold;
+        };
+        let Some(rs1) = Register::of(rs1) else {
+            return Entry::Cold;
+        };
+        match self.length {
+            4 => match kind {
+                LoadKind::Lb => Entry::Lb { rd, rs1, offset },
+                LoadKind::Lh => Entry::Lh { rd, rs1, offset },
+                LoadKind::Lw => Entry::Lw { rd, rs1, offset },
+                LoadKind::Lbu => Entry::Lbu { rd, rs1, offset },
+                LoadKind::Lhu => Entry::Lhu { rd, rs1, offset },
+            },
+            2 => match kind {
+                LoadKind::Lw => Entry::CLw { rd, rs1, offset },
+                _ => Entry::Cold,
+            },
+            _ => Entry::Cold,
+        }
+    }
+
+    fn store(&mut self, width: Width, rs1: u8, rs2: u8, offset: u32) -> Entry {
+        let Some(rs1) = Register::of(rs1) else {
+            return Entry::Cold;
+        };
+        let Some(rs2) = Register::of(rs2) else {
+            return Entry::Cold;
+        };
+        match self.length {
+            4 => match width {
+                Width::Byte => Entry::Sb { rs1, rs2, offset },
+                Width::Half => Entry::Sh { rs1, rs2, offset },
+                Width::Word => Entry::Sw { rs1, rs2, offset },
+            },
+            2 => match width {
+                Width::Word => Entry::CSw { rs1, rs2, offset },
+                _ => Entry::Cold,
+            },
+            _ => Entry::Cold,
+        }
+    }
+
+    fn op_imm(&mut self, op: Op, rd: u8, rs1: u8, imm: u32) -> Entry {
+        let Some(rd) = Register::of(rd) else {
+            return Entry::Cold;
+        };
+        let Some(rs1) = Register::of(rs1) else {
+            return Entry::Cold;
+        };
+        match self.length {
+            4 => match op {
+                Op::Add => Entry::Addi { rd, rs1, imm },
+                Op::Slt => Entry::Slti { rd, rs1, imm },
+                Op::Sltu => Entry::Sltiu { rd, rs1, imm },
+                Op::Xor => Entry::Xori { rd, rs1, imm },
+                Op::Or => Entry::Ori { rd, rs1, imm },
+                Op::And => Entry::Andi { rd, rs1, imm },
+                Op::Sll => Entry::Slli { rd, rs1, imm },
+                Op::Srl => Entry::Srli { rd, rs1, imm },
+                Op::Sra => Entry::Srai { rd, rs1, imm },
+                _ => Entry::Cold,
+            },
+            2 => match op {
+                Op::Add => Entry::CAddi { rd, rs1, imm },
+                Op::And => Entry::CAndi { rd, rs1, imm },
+                Op::Sll => Entry::CSlli { rd, rs1, imm },
+                Op::Srl => Entry::CSrli { rd, rs1, imm },
+                Op::Sra => Entry::CSrai { rd, rs1, imm },
+                _ => Entry::Cold,
+            },
+            _ => Entry::Cold,
+        }
+    }
+
+    fn op(&mut self, op: Op, rd: u8, rs1: u8, rs2: u8) -> Entry {
+        let Some(rd) = Register::of(rd) else {
+            return Entry::Cold;
+        };
+        let Some(rs1) = Register::of(rs1) else {
+            return Entry::Cold;
+        };
+        let Some(rs2) = Register::of(rs2) else {
+            return Entry::Cold;
+        };
+        match self.length {
+            4 => match op {
+                Op::Add => Entry::Add { rd, rs1, rs2 },
+                Op::Sub => Entry::Sub { rd, rs1, rs2 },
+                Op::Sll => Entry::Sll { rd, rs1, rs2 },
+                Op::Slt => Entry::Slt { rd, rs1, rs2 },
+                Op::Sltu => Entry::Sltu { rd, rs1, rs2 },
+                Op::Xor => Entry::Xor { rd, rs1, rs2 },
+                Op::Srl => Entry::Srl { rd, rs1, rs2 },
+                Op::Sra => Entry::Sra { rd, rs1, rs2 },
+                Op::Or => Entry::Or { rd, rs1, rs2 },
+                Op::And => Entry::And { rd, rs1, rs2 },
+                Op::Mul => Entry::Mul { rd, rs1, rs2 },
+                Op::Mulh => Entry::Mulh { rd, rs1, rs2 },
+                Op::Mulhsu => Entry::Mulhsu { rd, rs1, rs2 },
+                Op::Mulhu => Entry::Mulhu { rd, rs1, rs2 },
+                Op::Div => Entry::Div { rd, rs1, rs2 },
+                Op::Divu => Entry::Divu { rd, rs1, rs2 },
+                Op::Rem => Entry::Rem { rd, rs1, rs2 },
+                Op::Remu => Entry::Remu { rd, rs1, rs2 },
+            },
+            2 => match op {
+                Op::Add => Entry::CAdd { rd, rs1, rs2 },
+                Op::Sub => Entry::CSub { rd, rs1, rs2 },
+                Op::Xor => Entry::CXor { rd, rs1, rs2 },
+                Op::Or => Entry::COr { rd, rs1, rs2 },
+                Op::And => Entry::CAnd { rd, rs1, rs2 },
+                _ => Entry::Cold,
+            },
+            _ => Entry::Cold,
+        }
+    }
+
+    fn fence(&mut self) -> Entry {
+        match self.length {
+            4 => Entry::Fence,
+            _ => Entry::Cold,
+        }
+    }
+
+    fn ecall(&mut self) -> Entry {
+        match self.length {
+            4 => Entry::Ecall,
+            _ => Entry::Cold,
+        }
+    }
+
+    fn ebreak(&mut self) -> Entry {
+        Entry::Cold
+    }
+
+    fn illegal(&mut self) -> Entry {
+        Entry::Cold
+    }
+}
