@@ -3,14 +3,13 @@
 import re
 from dataclasses import dataclass, field
 
-from sources import Unread, comment_above, model_part
+from sources import INSIDE, Unread, comment_above, model_part
 
 WORD = re.compile(r"[^\s(){}\[\],;.\"\\`]+")
 TEXT = re.compile(r'"(?:[^"\\]|\\.)*"')
 READ = re.compile(r"\.([^\W\d]\w*)")
 FIELD = re.compile(r"\s+(?:pub(?:\([^)]*\))? )?(\w+): ")
 TYPE_NAME = re.compile(r"\b[A-Z]\w*")
-INSIDE = ("TheVariants", "TheConstants", "TheInside", "TheFields")
 CLAUSE = re.compile(r"(?:ensures|requires|ghost)[^{;]*\{(.*?)\}\s*(?=ensures|requires|;|fn|$)", re.S)
 
 
@@ -191,11 +190,16 @@ def opened(names, starts):
 
 @dataclass
 class Contract:
-    """A public function of src/: its comment, its signature with its clauses, and what these name."""
+    """A public function of src/: where it stands, its comment, its signature with its clauses, and what these name."""
+    module: object
     name: str
     comment: str
     text: str
     starts: list
+
+    def code(self):
+        """Its lines."""
+        return self.text.split("\n")
 
     @property
     def premises(self):
@@ -217,4 +221,4 @@ def contract_of(names, place, function):
         raise Unread("%s of %s: %s" % (function, place, unread)) from None
     comment = "\n".join(line[3:].strip() for line in comment_above(module.text, found.start()).split("\n"))
     text = "\n".join(line[len(found[1]):] for line in found[0].rstrip().split("\n"))
-    return Contract(function, comment, text, starts)
+    return Contract(module, function, comment, text, starts)

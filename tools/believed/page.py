@@ -1,81 +1,26 @@
-"""Makes the page of the headline from what was read, and the numbers that it gives."""
+"""Makes the page of the headline from what was reached, and the numbers that it gives."""
 
 import re
 from collections import defaultdict
-from dataclasses import dataclass, field
 
-from closure import Closure, closure, contract_of, opened
-from sources import Unread
-
-
-@dataclass
-class Reach:
-    """What the page is about: the contract with all under it, what a board shows beyond that, and further contracts,
-    each with what it adds to those before it."""
-    headline: object
-    under: Closure
-    board: Closure
-    steps: list = field(default_factory=list)
-    laws: list = field(default_factory=list)
-
-    @property
-    def limited(self):
-        """The lines that the limit counts: definitions and types under the headline, and what a board shows."""
-        return sum(part.size + size_of_types(part.types, self.under is not part) for part in (self.under, self.board))
-
-    @property
-    def parts(self):
-        """All that the page has, part by part."""
-        return [self.under, self.board] + [added for _, added in self.steps + self.laws]
-
-
-def size_of_types(types, is_open=True):
-    """The lines of types; one that is seen as its value counts as one where it is not opened."""
-    return sum(len(of.code()) if is_open or not of.value else 1 for of in types)
-
-
-def added_to(seen, reached):
-    """What is reached and was not seen; it is seen then."""
-    new = Closure([found for found in reached.definitions if id(found) not in seen],
-                  [found for found in reached.types if id(found) not in seen], reached.library)
-    seen |= {id(found) for found in new.definitions + new.types}
-    return new
-
-
-def public_functions(names, place):
-    """The public functions of a file, in their order."""
-    crate, _, file = place.partition("/")
-    module = names.sources.modules.get((crate, file))
-    if not module:
-        raise Unread("there is no file %s" % place)
-    return re.findall(r"^ *pub fn (\w+)", module.text, re.M)
-
-
-def reach(names, plan):
-    """Follows all contracts that the page shows."""
-    headline = contract_of(names, *plan.HEADLINE)
-    under = closure(names, headline.starts)
-    seen = {id(found) for found in under.definitions + under.types if not getattr(found, "value", "")}
-    board = added_to(seen, opened(names, names.view_of(*plan.BOARD)))
-    seen |= {id(found) for found in under.types}
-    found = Reach(headline, under, board)
-    for place, function in plan.STEPS:
-        contract = contract_of(names, place, function)
-        found.steps.append((contract, added_to(seen, closure(names, contract.starts))))
-    for place in plan.LAWS:
-        for function in public_functions(names, place):
-            contract = contract_of(names, place, function)
-            found.laws.append((contract, added_to(seen, closure(names, contract.starts))))
-    return found
+from aliases import ambiguous, meant_in_contract, meant_in_spec
+from library import LIBRARY, NOTATION
+from remarks import REMARKS
+from standards import BESIDE, STANDARDS
 
 
 def section_of(plan, definition):
     """The number of the section in which a definition stands, None where no section has it."""
-    for wanted in (definition.place, definition.crate):
+    for wanted in (key(definition), definition.place, definition.crate):
         for number, (_, listed) in enumerate(plan.SECTIONS):
             if wanted in listed:
                 return number
     return None
+
+
+def rank(listed, place):
+    """Where a section lists a file first, or a definition of it."""
+    return min(at for at, entry in enumerate(listed) if entry.split(":")[0] in (place, place.split("/")[0]))
 
 
 def in_sections(plan, definitions):
@@ -86,10 +31,7 @@ def in_sections(plan, definitions):
         if number is not None:
             sections[number][definition.place].append(definition)
     for (_, listed), files in zip(plan.SECTIONS, sections):
-        def rank(place, listed=listed):
-            """Where the section lists a file."""
-            return listed.index(place if place in listed else place.split("/")[0])
-        yield {place: files[place] for place in sorted(files, key=rank)}
+        yield {place: files[place] for place in sorted(files, key=lambda place, listed=listed: rank(listed, place))}
 
 
 def counted(number, word):
@@ -115,36 +57,27 @@ def fenced(language, text):
     return ["```" + language, text.strip("\n"), "```", ""]
 
 
-def ambiguous(reached):
-    """The names that several definitions or types of the page have, each with the places of these."""
-    places = defaultdict(set)
-    for part in reached.parts:
-        for found in part.definitions:
-            places[found.name].add("%s/specs/%s.antt" % (found.crate, found.file))
-        for found in part.types:
-            places[found.name].add("%s/src/%s" % (found.crate, found.file))
-    return {name: sorted(found) for name, found in sorted(places.items()) if len(found) > 1}
+def remarks_text(definitions):
+    """What is said of those of some definitions that have no comment."""
+    return ["`%s`: %s." % (found.name, REMARKS[key(found)]) for found in definitions if key(found) in REMARKS]
 
 
-def meant_here(spec, several):
-    """A line that says from where a file takes names which mean several things on the page."""
-    taken = []
-    for here, (path, name) in sorted(spec.imports.items()):
-        parts = path.split(".")
-        if name in several and parts[0] == "Rattle" and parts[1] != "std":
-            place = parts[1] if parts[3] == "declared" else "/".join([parts[1]] + parts[3:])
-            taken.append("`%s` is `%s` of `%s`" % (here, name, place) if here != name
-                         else "`%s` is that of `%s`" % (name, place))
-    return ["Here " + ", ".join(taken) + ".", ""] if taken else []
+def key(definition):
+    """By what sections and remarks name a definition."""
+    return "%s:%s" % (definition.place, definition.name)
 
 
 def file_text(sources, place, definitions, several):
-    """A file of the page: its head comment, and its definitions as they stand in it."""
+    """A file of the page: its head comment, its source where that tells none, what its names mean, and its definitions
+    as they stand in it."""
     crate, _, file = place.partition("/")
     spec = sources.specs[crate, file]
     text = "\n\n".join(found.written for found in sorted(definitions, key=lambda found: found.first))
     head = [spec.head, ""] if spec.head else []
-    return ["### %s/specs/%s.antt" % (crate, file), ""] + head + meant_here(spec, several) + fenced("antt", text)
+    beside = ["Source: %s." % BESIDE[place], ""] if place in BESIDE else []
+    remarks = remarks_text(definitions)
+    return (["### %s/specs/%s.antt" % (crate, file), ""] + head + beside + meant_in_spec(spec, definitions, several)
+            + remarks + [""] * bool(remarks) + fenced("antt", text))
 
 
 def by_file(definitions):
@@ -162,15 +95,15 @@ def types_text(types, is_open):
         if of.key[:2] != last:
             lines += [""] * bool(lines) + ["// %s/src/%s" % of.key[:2]]
         last = of.key[:2]
-        seen = "%s %s: seen as `%s`" % (of.kind, of.name, of.value)
-        written = "\n".join([of.comment] * bool(of.comment) + [of.text.strip("\n")])
-        lines.append(seen if of.value and not is_open else written)
+        seen = ["%s %s: seen as `%s`" % (of.kind, of.name, of.value)]
+        lines += seen if of.value and not is_open else [of.comment] * bool(of.comment) + of.written()
     return fenced("rust", "\n".join(lines)) if lines else []
 
 
-def contract_text(contract):
-    """A contract with its comment."""
-    return ["### `%s`" % contract.name, ""] + fenced("rust", contract.text) + [plain(contract.comment), ""]
+def contract_text(contract, several):
+    """A contract with its comment, and what its names mean."""
+    return (["### `%s`" % contract.name, "", "`%s/src/%s`" % (contract.module.crate, contract.module.file), ""]
+            + meant_in_contract(contract, several) + fenced("rust", contract.text) + [plain(contract.comment), ""])
 
 
 def added_text(sources, added, several, is_open=False):
@@ -181,23 +114,34 @@ def added_text(sources, added, several, is_open=False):
     return lines + types_text(added.types, is_open)
 
 
-def premises_text(plan, contract):
-    """What the contract asks of its caller, and what a reader is told beside it."""
-    asks = ["The contract asks of its caller:", ""] + fenced("rust", "\n".join(contract.premises))
-    none = ["The contract asks nothing of its caller: it holds for all words, shelves and sinks.", ""]
-    return ["## Premises", ""] + (asks if contract.premises else none) + [plan.PREMISES, ""]
-
-
 def numbers_text(plan, reached):
     """How much there is to believe."""
-    rows = [("Definitions under the contract", reached.under.size),
-            ("The program's types that they name", size_of_types(reached.under.types, False)),
-            ("What a board shows, beyond these", reached.limited - reached.under.size
-             - size_of_types(reached.under.types, False))]
-    table = ["| Of | Lines |", "|---|---|"] + ["| %s | %s |" % (of, format(size, ",")) for of, size in rows]
-    return [size_text(reached.under.definitions), ""] + table + [
-        "| Together, of at most %s | %s |" % (format(plan.LIMIT, ","), format(reached.limited, ",")), "",
-        "Lines are counted without blank ones, comments and imports.", ""]
+    rows = zip(("Contracts", "Definitions", "The program's types that they name", "What a board shows, beyond these"),
+               reached.lines(), reached.lines_of_guarantees())
+    one, five = sum(reached.lines()), sum(reached.lines_of_guarantees())
+    table = ["| %s | %s | %s |" % (of, format(here, ","), format(there, ",")) for of, here, there in rows]
+    return ["## How much there is to believe", "",
+            "Lines as they are printed here, without blank ones and comments.", "",
+            "| Of | `%s` | All five guarantees |" % reached.headline.name, "|---|---|---|"] + table + [
+            "| Together | %s, of at most %s | %s |" % tuple(format(size, ",") for size in (one, plan.LIMIT, five)), "",
+            "Under `%s` there are %s" % (reached.headline.name, size_text(reached.under.definitions)), ""]
+
+
+def premises_text(plan, contract):
+    """What the contract asks of its caller, and what a reader assumes beside it."""
+    asks = ["The contract asks of its caller:", ""] + fenced("rust", "\n".join(contract.premises))
+    none = ["The contract asks nothing of its caller: it holds for all words, shelves and sinks.", ""]
+    listed = ["%d. %s" % (number, text) for number, text in enumerate(plan.ASSUMPTIONS, 1)]
+    return (["## Assumptions", ""] + (asks if contract.premises else none)
+            + ["Beside what is printed here a reader assumes:", ""] + listed + [""])
+
+
+def headline_text(plan, reached, several):
+    """The headline in a sentence, which names have its parts, what is assumed, and the contract."""
+    lines = ["## The headline", "", "**%s**" % plan.SENTENCE, "", "Where each part of it stands:", ""]
+    lines += ["- " + part for part in plan.PARTS] + [""] + numbers_text(plan, reached)
+    lines += premises_text(plan, reached.headline) + ["## The contract of `%s`" % reached.headline.name, ""]
+    return lines + contract_text(reached.headline, several)[2:]
 
 
 def sections_text(names, plan, reached, several):
@@ -211,44 +155,62 @@ def sections_text(names, plan, reached, several):
     return lines
 
 
+def group_text(names, title, told, group, several):
+    """Contracts, each before what it adds."""
+    lines = ["## " + title, "", told, ""]
+    for contract, added in group:
+        below = added_text(names.sources, added, several)
+        lines += contract_text(contract, several) + ["#" * line.startswith("### ") + line for line in below]
+    return lines
+
+
 def beside_text(names, reached, several):
-    """What stands beside the headline: what a board shows, its steps, and the laws."""
+    """What stands beside the headline: what a board shows, the other guarantees, steps, and the laws."""
     lines = ["## What a board shows", "", "The board that a run leaves is a world to contracts: this reads it from "
              "what a board keeps.", ""] + added_text(names.sources, reached.board, several, True)
-    lines += ["## Steps that somebody else chooses", ""]
-    for contract, added in reached.steps:
-        lines += contract_text(contract) + added_text(names.sources, added, several)
-    lines += ["## Laws", "", "Each is the contract of a function that does nothing, and stands before the definitions "
-              "that it adds.", ""]
-    for contract, added in reached.laws:
-        lines += contract_text(contract) + added_text(names.sources, added, several)
+    lines += group_text(names, "The other guarantees", "The contracts of guarantees 1 to 4 of the README, each before "
+                        "what it adds.", reached.guarantees, several)
+    lines += group_text(names, "Steps that somebody else chooses", "The contract of any list of choices.",
+                        reached.steps, several)
+    for heading, laws in reached.laws:
+        title = heading if heading.startswith("Laws") else "Laws: " + heading
+        lines += group_text(names, title, "Laws that [claims.md](claims.md) cites under that heading: "
+                            "the contracts of functions that do nothing, each before what it adds.", laws, several)
     return lines
 
 
 def last_text(reached, several):
-    """The names of the library, and those that mean several things."""
-    library = ", ".join("`%s`" % name for name in sorted({name for _, name in reached.under.library}))
-    lines = ["## What is taken from the library", "", library, "", "## Names that mean several things", "",
-             "| Name | Where |", "|---|---|"]
-    return lines + ["| `%s` | %s |" % (name, ", ".join("`%s`" % place for place in places))
-                    for name, places in several.items()]
+    """The words of the library that are reached, the names that mean several things, and the standards."""
+    lines = ["## The words of the library", "", NOTATION, ""]
+    for subject, words in LIBRARY:
+        rows = ["| `%s` | %s |" % (word, told) for word, told in words.items() if word in reached.library]
+        lines += (["### " + subject, "", "| Word | Means |", "|---|---|"] + rows + [""]) if rows else []
+    lines += ["## Names that mean several things", "", "| Name | Where |", "|---|---|"]
+    lines += ["| `%s` | %s |" % (name, ", ".join("`%s`" % place for place in places))
+              for name, places in several.items()]
+    return lines + ["", "## Standards", "", "| Named as | Is |", "|---|---|"] + [
+        "| %s | %s |" % row for row in STANDARDS.items()]
 
 
 def contents_text(lines):
     """A list of the headings, each of which leads there."""
     titles = [line[3:] for line in lines if line.startswith("## ")]
     anchors = [re.sub(r"[^\w -]", "", title.lower()).replace(" ", "-") for title in titles]
-    return ["- [%s](#%s)" % pair for pair in zip(titles, anchors)] + [""]
+    return ["## Contents", ""] + ["- [%s](#%s)" % pair for pair in zip(titles, anchors)] + [""]
 
 
 def page(names, plan, reached):
     """The page of the headline."""
-    several, name = ambiguous(reached), reached.headline.name
+    several = ambiguous(reached)
     first = ["# The headline in full", "", "`tools/headline` makes this page from the sources; do not edit it. It has "
-             "the contract of `%s`, which is what is proved of the whole program, and every definition under it, with "
-             "its comment and the standard that it comes from." % name, ""]
-    lines = premises_text(plan, reached.headline) + ["## The contract of `%s`" % name, ""]
-    lines += contract_text(reached.headline)[2:] + sections_text(names, plan, reached, several)
-    lines += ["## The types of the program that they name", ""] + types_text(reached.under.types, False)
-    lines += beside_text(names, reached, several) + last_text(reached, several)
-    return "\n".join(first + numbers_text(plan, reached) + contents_text(lines) + lines) + "\n"
+             "the contract of `%s`, which is what is proved of the whole program, with every definition under it, its "
+             "comment and the standard that it comes from; then the contracts of the other guarantees, and each law "
+             "that the README and [claims.md](claims.md) cite, with what they add. A name that no definition here has "
+             "is [a struct or an enum](#the-types-of-the-program-that-they-name) of the program, or [a word of the "
+             "library](#the-words-of-the-library)." % reached.headline.name, ""]
+    head = headline_text(plan, reached, several)
+    rest = sections_text(names, plan, reached, several)
+    rest += ["## The types of the program that they name", ""] + types_text(reached.under.types, False)
+    rest += beside_text(names, reached, several) + last_text(reached, several)
+    cut = head.index("## Assumptions")
+    return "\n".join(first + head[:cut] + contents_text(head + rest) + head[cut:] + rest) + "\n"

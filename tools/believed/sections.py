@@ -1,20 +1,56 @@
 """What the page is made of: the one place where the tool names crates, files and functions.
 
-A section is a heading with what stands in it, in reading order: crates, or files of specs/ as crate/File. A file that
-is named by itself stands there, and the rest of its crate where the crate is named.
+A section is a heading with what stands in it, in reading order: crates, files of specs/ as crate/File, or definitions
+as crate/File:Name. A definition that is named by itself stands there, then the rest of a file that is named, and the
+rest of a crate where the crate is named.
 """
 
 # The contract that the page is about, and how many lines a reader has to believe at most: what stands today fits.
 HEADLINE = ("tock_cli/serve.rt", "serve")
 LIMIT = 4000
 
+# What is proved of the program in one sentence, and which names below have each part of it.
+SENTENCE = """\
+For every flash file, script and turn limit, the tool writes exactly the console bytes and final states of TRD 104's
+abstract kernel under round-robin turns; there a process's byte changes only by its own permitted act or through a
+buffer it then allowed, every denial names its address and rule, and a process's record is the replay of its own turns
+and device answers alone, whatever others do."""
+PARTS = [
+    "*For every*: any words, shelf and sink; of the words `command_of`, of the files' bytes `comes_to`.",
+    "*Writes exactly*: `ProgramDoes`, fields `done` and `decided`; the text is `run_text`, for `boot` in mode `Boot`.",
+    "*Abstract kernel under round-robin turns*: `round`, a fold of `stepped` by `next`, from the world `opening`. "
+    "Under a script with `partition` the turns are those of the windows.",
+    "*Byte, act, buffer*: `IsAccountedFor`, field `causes`, for memory below the grants and for storage; a grant "
+    "changes only in a turn of its process, an answer to it or an act on it. An operator's restart counts as the "
+    "process's own act.",
+    "*Every denial*: fields `denials`, `recorded` and `shown`; conversely no access that is permitted is denied "
+    "(`DenialIsDue`).",
+    "*Replay alone*: `IsAccountedRun`, field `alone`. What an operator does to the process counts as an answer, as "
+    "does an edge of a button.",
+    "*What the others do*: how long a process waits for its turns and answers; with `partition` not even that "
+    "(`RunIsPartitioned`).",
+]
+
 SECTIONS = [
     ("What the program promises", [
         "tool_answers/Served", "tool_words/Refusals", "tool_tasks/Causes", "tool_tasks/Comes", "tk_outside"]),
     ("The command line", ["tool_words/Words", "decimal_number"]),
+    ("The nouns: own, record, event, label, world", [
+        "process_layout/Bounds:Bounds", "process_layout/LayoutView:LayoutView", "grant_values/Values:KeptValue",
+        "grant_model/Grants:Grant", "process_model/Own:Own", "kernel_model/Record:Record",
+        "kernel_model/Turn:TurnTrace", "kernel_model/Turn:Event", "kernel_model/World:Label",
+        "board_devices/SerialLine:SerialLine", "script_text/Settings:EventKind", "script_text/Settings:ScriptEvent",
+        "kernel_model/World:Pace", "kernel_model/World:WaitingSlots", "kernel_model/World:Devices",
+        "kernel_model/World:Clock", "kernel_model/World:Present", "kernel_model/World:World"]),
     ("The text of a run", [
         "run_text/RunText", "board_report", "kernel_model/Shown", "process_record/Name",
         "process_record/Summary", "process_record/Lines"]),
+    ("Runs by round robin, and by windows", ["kernel_model/Run", "turn_scheduler"]),
+    ("The opening world, and one step", ["board_opening/Opening", "board_opening/Settings", "kernel_model/World"]),
+    ("One process, and what happens to it", [
+        "kernel_model/Record", "kernel_model/Turn", "process_record/Process", "process_record/Operator",
+        "process_model/Own",
+        "process_model/Instruction", "fault_policy", "process_layout/LayoutView", "process_layout/Interval"]),
     ("What holds of the run", [
         "tool_answers/Accounts", "board_opening/Certified", "board_opening/Alone", "kernel_model/Accounts",
         "kernel_model/Causes", "kernel_model/Accesses", "kernel_model/Prints", "kernel_model/Refused",
@@ -22,12 +58,6 @@ SECTIONS = [
         "kernel_model/Replay", "kernel_model/Choices", "kernel_model/Histories", "process_model/Changes",
         "process_model/Permission", "driver_model/Bytes", "rv32_model/Laws"]),
     ("What time partitions promise of it", ["board_partitions", "kernel_partitions"]),
-    ("Runs by round robin, and by windows", ["kernel_model/Run", "turn_scheduler"]),
-    ("The opening world, and one step", ["board_opening/Opening", "board_opening/Settings", "kernel_model/World"]),
-    ("One process, and what happens to it", [
-        "kernel_model/Record", "kernel_model/Turn", "process_record/Process", "process_record/Operator",
-        "process_model/Own",
-        "process_model/Instruction", "fault_policy", "process_layout/LayoutView", "process_layout/Interval"]),
     ("System calls", [
         "kernel_model/Calls", "syscall_abi", "syscall_filter", "tk_base/Call", "process_model", "upcall_queue",
         "grant_model"]),
@@ -38,19 +68,35 @@ SECTIONS = [
     ("The image tool and soak runs", ["image_make"]),
 ]
 
-# The type of a board, and the functions whose contracts stand beside the headline.
+# The type of a board, and the contracts that stand beside the headline: those of the five guarantees, and one more of
+# steps that somebody else chooses. Which laws stand after them is what the documents below cite.
 BOARD = ("board_core/board.rt", "Board")
-STEPS = [("board_core/board.rt", "step"), ("board_core/play.rt", "play")]
-# Files of functions that do nothing: the contract of each public one is a law.
-LAWS = ["board_opening/certified.rt", "board_opening/laws.rt", "board_partitions/laws.rt", "kernel_partitions/laws.rt"]
+GUARANTEES = [
+    ("board_core/board.rt", "step"), ("board_opening/certified.rt", "changes_from_boot_have_causes"),
+    ("board_opening/laws.rt", "a_process_depends_on_its_own_view_alone"),
+    ("board_partitions/laws.rt", "partitions_from_boot_see_themselves_alone"),
+    ("kernel_calls/serving.rt", "kernel_call")]
+STEPS = [("board_core/play.rt", "play")]
+CITING = ["README.md", "docs/claims.md"]
 
-# What a reader is told before the contract, as it is no matter of definitions.
-PREMISES = """\
-What a file holds and what was written are known by what the shelf and the sink tell. Shelves and sinks in memory tell
-their bytes. The two adapters of the built program, for the files of the host and its standard output, tell none: of
-them the contract says no bytes. Beside the contract a reader trusts the checker, the compiler, the library of the kit,
-the statements of the ported crates, the tool that makes this page, and what the host does under the two adapters."""
+# What the page rests on that is no matter of definitions.
+ASSUMPTIONS = [
+    "*The checker*: what `rt check` accepts is proved, of the statements that it makes of contracts.",
+    "*The compilers*: LLVM, and what turns Rattle into its input; the machine that runs the program.",
+    "*The kit's library*: its functions keep their contracts, and its words mean what [their "
+    "sentences](#the-words-of-the-library) say.",
+    "*The C library* and the operating system under it.",
+    "*The two adapters*, for the files of the host and its standard output: shelves and sinks in memory tell their "
+    "bytes, these tell none, so that what a file holds and what was written through them is the host's to keep.",
+    "*The ported crates*: the contracts of `arrayvec`, `byteorder`, `circular_buffer`, `hex`, `itoa` and `thiserror` "
+    "hold of their code.",
+    "*Tables read from manuals*: instructions, system calls, error codes and formats stand here as in [the "
+    "standards](#standards), against which they were read. The decoders were compared once with LLVM's, on all 65,536 "
+    "parcels and a sample of words; that comparison is not kept.",
+    "*`./tock`*: the program that it runs is the one that was proved. It proves and builds anew where it finds that a "
+    "source has changed; `rt ci` proves all from nothing.",
+    "*The maker of this page*, `tools/headline`: it leaves out no definition on which a contract here rests, and its "
+    "sentences on names are right.",
+]
 
-# What of its words the head comment of a file says that is the source of its definitions.
-SOURCES = ["TRD 104", "Tock Binary Format", "Levy et al.", "manual", "Tock", "this board's own", "this tool's own"]
 PROOFS_ONLY = "Only proofs use this"

@@ -3,13 +3,15 @@
 import unittest
 from types import SimpleNamespace
 
+import aliases
 import faults
 import page
 from closure import Names, closure, contract_of, opened
+from reach import reach
 from sources import Sources, Unread, read_module, read_spec
 
 BASE = """\
--- Sums and pairs (a manual).
+-- Sums and pairs (RISC-V unprivileged manual, "Sums").
 use Rattle.std.specs.Prelude.{ℕ, ◌+◌}
 
 -- the double of a number
@@ -27,7 +29,7 @@ idle x = double x
 """
 
 TOP = """\
--- What the program promises (this board's own rule).
+-- What the program promises. It is this board's own.
 use Rattle.std.specs.Prelude.{ℕ, List, [], ◌∷◌}
 use Rattle.base.specs.Sums.{Pair, double as twice}
 use Rattle.base.specs.Sums as sums
@@ -60,6 +62,21 @@ pub fn keep(state: State) -> u8
     0
 }
 """
+
+LAW = """\
+ghost use Rattle.base.specs.Sums.{idle as lazy};
+
+/// It idles.
+pub fn it_idles()
+    ensures { lazy 1 ≡ 2 }
+{}
+
+pub fn it_works(by: u8)
+    ensures { lazy by ≡ 2 }
+{}
+"""
+
+CLAIMS = "# Claims\n## Rest\n\nOf `crates/top/src/law.rt`.\n\n- `it_idles`, `it_works`: both\n"
 
 STATE = """\
 /// On or off.
@@ -95,8 +112,9 @@ impl Model for Seen {
 def plan(**other):
     """A table of sections for the small sources."""
     usual = dict(HEADLINE=("top/lib.rt", "keep"), LIMIT=100, SECTIONS=[("First", ["top"]), ("Then", ["base"])],
-                 BOARD=("top/state.rt", "Seen"), STEPS=[], LAWS=[], PREMISES="Trust this.",
-                 SOURCES=["manual", "this board's own"], PROOFS_ONLY="Only proofs use this")
+                 BOARD=("top/state.rt", "Seen"), GUARANTEES=[], STEPS=[], ASSUMPTIONS=["Trust this.", "And that."],
+                 SENTENCE="It keeps its promise.", PARTS=["*Promise*: `Promises`."],
+                 PROOFS_ONLY="Only proofs use this")
     return SimpleNamespace(**{**usual, **other})
 
 
@@ -104,7 +122,8 @@ def small(top=TOP, base=BASE, code=CODE):
     """The small sources."""
     state = STATE.replace("ghost Value", "ghost use Rattle.base.specs.Sums.{double as seen_of};\n\n    ghost Value")
     specs = {("top", "Promise"): read_spec("top", "Promise", top), ("base", "Sums"): read_spec("base", "Sums", base)}
-    modules = {("top", file): read_module("top", file, text) for file, text in (("lib.rt", code), ("state.rt", state))}
+    files = (("lib.rt", code), ("state.rt", state), ("law.rt", LAW))
+    modules = {("top", file): read_module("top", file, text) for file, text in files}
     modules["top", "lib.rt"].uses["State"] = ("crate::state", "State")
     return Sources(specs, modules)
 
@@ -114,10 +133,16 @@ def names_of(found):
     return [each.name for each in found]
 
 
-def faults_of(sources, **other):
-    """What is wrong with sources under a table of sections."""
+def tables(**other):
+    """The tables beside the small sources: nothing but the words of the library that they use."""
+    words = {"ℕ": "numbers", "◌+◌": "sums"}
+    return faults.Tables(**{**dict(beside={}, library=[("Words", words)], remarks={}), **other})
+
+
+def faults_of(sources, beside=None, **other):
+    """What is wrong with sources under a table of sections, and under tables beside them."""
     made = plan(**other)
-    return faults.source_faults(sources, made, page.reach(Names(sources), made))
+    return faults.source_faults(sources, made, reach(Names(sources), made, []), beside or tables())
 
 
 class Following(unittest.TestCase):
@@ -172,32 +197,68 @@ class Page(unittest.TestCase):
     def setUp(self):
         self.sources = small()
         self.names = Names(self.sources)
-        self.reached = page.reach(self.names, plan())
+        self.reached = reach(self.names, plan(), [CLAIMS])
         self.made = page.page(self.names, plan(), self.reached)
 
-    def test_contract_and_premises(self):
+    def test_contract_and_assumptions(self):
         self.assertIn("pub fn keep(state: State) -> u8\n    requires", self.made)
         self.assertIn("Keeps the `State` of a promise.", self.made)
         self.assertIn("The contract asks of its caller:", self.made)
-        self.assertIn("Trust this.", self.made)
+        self.assertIn("1. Trust this.\n2. And that.\n", self.made)
+
+    def test_headline_before_the_contract(self):
+        first = self.made.index("**It keeps its promise.**")
+        self.assertLess(first, self.made.index("## The contract of `keep`"))
 
     def test_definitions_in_sections(self):
         self.assertIn("## 1. First\n\n3 definitions in 1 file, 8 lines.", self.made)
         self.assertIn("-- two numbers\npub record Pair", self.made)
-        self.assertIn("Sums and pairs (a manual).", self.made)
-        self.assertNotIn("idle : ", self.made)
+        self.assertIn('Sums and pairs (RISC-V unprivileged manual, "Sums").', self.made)
+
+    def test_definitions_by_name(self):
+        sections = [("Nouns", ["base/Sums:Pair", "top/Promise:Way"]), ("Rest", ["base", "top"])]
+        made = page.page(self.names, plan(SECTIONS=sections), self.reached)
+        self.assertLess(made.index("record Pair"), made.index("data Way"))
+        self.assertLess(made.index("data Way"), made.index("double : ℕ"))
 
     def test_types(self):
-        self.assertIn("/// On or off.\npub enum State {", self.made)
+        self.assertIn("/// On or off.\npub enum State {\n", self.made)
+        self.assertIn("    /// It is on.\n    On { since: u8, until: u8 },", self.made)
         self.assertIn("struct Seen: seen as `Pair`", self.made)
 
+    def test_laws_that_are_cited(self):
+        self.assertIn("## Laws: Rest", self.made)
+        self.assertIn("### `it_idles`\n\n`top/src/law.rt`\n\nHere `lazy` is `idle` of `base/Sums`.", self.made)
+        self.assertIn("#### base/specs/Sums.antt", self.made)
+        self.assertIn("idle : ", self.made)
+        self.assertNotIn("it_works", self.made)
+        self.assertNotIn("it_idles", page.page(self.names, plan(), reach(self.names, plan(), [])))
+
+    def test_other_names(self):
+        self.assertIn("Here `twice` is `double` of `base/Sums`.", self.made)
+        wanted = "Here `twice` is `double` of `base/Sums`, `sums.` stands before names of `base/Sums`."
+        sources = small(top=TOP.replace("Holds (twice 1)", "Holds (sums.idle (twice 1))"))
+        names = Names(sources)
+        self.assertIn(wanted, page.page(names, plan(), reach(names, plan(), [])))
+        self.assertEqual([here for _, _, here in aliases.renamed(sources, self.reached)], ["twice"])
+
+    def test_words_of_the_library(self):
+        self.assertIn("| `◌+◌` | The sum. |", self.made)
+        self.assertNotIn("| `min` |", self.made)
+
     def test_numbers(self):
-        document = "It rests on 1 definitions in 2 files (3 lines), and"
-        wanted = "It rests on 5 definitions in 2 files (13 lines), and"
+        self.assertEqual(self.reached.lines(), [3, 13, 5, 0])
+        form = ("It rests on %d definitions in 2 files (%d lines), %d lines as they are printed, all five guarantees "
+                "on %d.")
+        document, wanted = form % (1, 3, 4, 5), form % (5, 13, 21, 21)
         self.assertEqual(faults.with_numbers(document, self.reached), wanted)
         self.assertEqual(faults.stale(self.reached, self.made, self.made, wanted), [])
-        self.assertEqual(len(faults.stale(self.reached, self.made, "", document)), 2)
-        self.assertEqual(len(faults.stale(self.reached, self.made, self.made, "")), 1)
+        self.assertEqual(len(faults.stale(self.reached, self.made, "", document)), 3)
+        self.assertEqual(len(faults.stale(self.reached, self.made, self.made, "")), 2)
+
+    def test_numbers_of_all_guarantees(self):
+        reached = reach(self.names, plan(GUARANTEES=[("top/law.rt", "it_idles")]), [])
+        self.assertEqual(reached.lines_of_guarantees(), [5, 15, 5, 0])
 
 
 class Faults(unittest.TestCase):
@@ -223,13 +284,37 @@ class Faults(unittest.TestCase):
         bare = lone.replace("-- One (a manual).\n", "")
         self.assertFalse(read_spec("base", "One", bare).definitions["one"].is_explained)
 
+    def test_remarks(self):
+        remarks = {"top/Promise:Holds": "a number", "top/Promise:Way": "which way", "top/Promise:Gone": "it is gone"}
+        self.assertEqual(faults_of(small(), tables(remarks=remarks)),
+                         ["tools/believed/remarks.py: top/Promise:Way has a comment, or is not there",
+                          "tools/believed/remarks.py: top/Promise:Gone has a comment, or is not there"])
+
     def test_no_source(self):
-        base = BASE.replace(" (a manual)", "")
-        self.assertEqual(faults_of(small(self.sound(), base)), ["base/Sums: its head comment names no source"])
+        none = ["base/Sums: neither its head comment nor tools/believed/standards.py names a standard with its section"]
+        for source in ("", "a manual", "unprivileged manual", "TRD 104", "Tock's kernel", "Levy et al., SOSP 2017"):
+            base = BASE.replace('RISC-V unprivileged manual, "Sums"', source)
+            self.assertEqual(faults_of(small(self.sound(), base)), none)
+            self.assertEqual(faults_of(small(self.sound(), base), tables(beside={"base/Sums": "driver 0x1"})), [])
+
+    def test_needless_sources(self):
+        beside = {"base/Sums": "driver 0x1", "gone/File": "driver 0x1"}
+        self.assertEqual(faults_of(small(self.sound()), tables(beside=beside)),
+                         ["tools/believed/standards.py: the head of base/Sums names its source already",
+                          "tools/believed/standards.py: there is no gone/File"])
 
     def test_proofs_only(self):
-        base = BASE.replace("manual).", "manual). Only proofs use this.")
+        base = BASE.replace("Sums and", "Only proofs use this: sums and")
         self.assertEqual(faults_of(small(self.sound(), base)), ["base/Sums is marked for proofs only, and is reached"])
+
+    def test_words_without_a_sentence(self):
+        library = [("Words", {"ℕ": "numbers", "max": "the greater"})]
+        self.assertEqual(faults_of(small(self.sound()), tables(library=library)),
+                         ["tools/believed/library.py has no sentence on ◌+◌"])
+
+    def test_parts_that_are_nowhere(self):
+        self.assertEqual(faults_of(small(self.sound()), PARTS=["`Promises`, field `left`, by `Gone`"]),
+                         ["tools/believed/sections.py: Gone is nowhere on the page"])
 
     def test_no_section(self):
         found = faults_of(small(self.sound()), SECTIONS=[("First", ["top", "gone/File"])])
@@ -241,7 +326,7 @@ class Faults(unittest.TestCase):
 
     def test_functions_that_are_gone(self):
         with self.assertRaisesRegex(Unread, "no public function lose"):
-            page.reach(Names(small()), plan(HEADLINE=("top/lib.rt", "lose")))
+            reach(Names(small()), plan(HEADLINE=("top/lib.rt", "lose")), [])
 
 
 def run():

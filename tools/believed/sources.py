@@ -5,6 +5,7 @@ import re
 from dataclasses import dataclass, field
 
 KEYWORDS = {"abbrev", "unfoldable", "opaque", "pub", "record", "data", "lemma", "mod", "def"}
+INSIDE = ("TheVariants", "TheConstants", "TheInside", "TheFields")
 TYPE = re.compile(r"^[ \t]*(?:pub(?:\([^)]*\))? )?(struct|enum|trait|const|type)\s+(\w+)", re.M)
 MODEL = re.compile(r"^impl(?:<[^>]*>)? Model for (\w+)(?:<[^>]*>)? \{(.*?)^\}", re.M | re.S)
 USE = re.compile(r"^\s*(ghost )?(?:pub )?use ([^;]+);", re.M)
@@ -76,12 +77,15 @@ class Type:
         """By which types are ordered."""
         return (self.crate, self.file, self.name)
 
-    def code(self):
-        """Its lines without comments and attributes. A variant stands with its fields in one line, as a constructor of
-        a definition does."""
-        lines = (line.split("//")[0] for line in self.text.split("\n"))
-        lines = [line for line in lines if line.strip() and not line.strip().startswith("#[")]
+    def written(self):
+        """Its lines with comments, without attributes. A variant stands with its fields in one line, as a constructor
+        of a definition does."""
+        lines = [line for line in self.text.strip("\n").split("\n") if not line.strip().startswith("#[")]
         return variants_joined(lines) if lines[0].startswith("pub enum") else lines
+
+    def code(self):
+        """Its lines without comments."""
+        return [line for line in (line.split("//")[0] for line in self.written()) if line.strip()]
 
 
 @dataclass
@@ -104,7 +108,8 @@ def variants_joined(lines):
             joined[-1] = (joined[-1] + " " + line.strip()).replace(", },", " },")
         else:
             joined.append(line)
-        is_open = line.strip() != "}," and (is_open or line.startswith("    ") and line.endswith("{"))
+        begins = line.startswith("    ") and line.endswith("{") and not line.strip().startswith("//")
+        is_open = line.strip() != "}," and (is_open or begins)
     return joined
 
 
@@ -261,6 +266,11 @@ class Sources:
     def crates(self):
         """The names of all crates."""
         return {crate for crate, _ in list(self.specs) + list(self.modules)}
+
+    def text_of(self, place):
+        """The files of src/ of a crate, or one of them, as a document cites them: crate, or crate/src/file."""
+        crate, _, file = place.partition("/src/")
+        return "\n".join(module.text for (of, at), module in self.modules.items() if of == crate and file in ("", at))
 
     def types_named(self, crate, name):
         """The files of a crate that have a type of that name."""

@@ -6,7 +6,7 @@ ghost use Rattle.driver_model.specs.Alarm.{alarm_in, command};
 ghost use Rattle.alarm_capsule.specs.Answers.{AlarmAnswers, AlarmReplies};
 ghost use Rattle.alarm_capsule.specs.Times.{AllTell};
 
-use crate::answers::{fire, fire_first};
+use crate::answers::fire;
 use crate::commands::obey;
 use crate::times::AlarmTimes;
 use board_devices::Answer;
@@ -46,28 +46,10 @@ impl AlarmCapsule {
         reply_of(obey(home, now, id, number, a2, a3))
     }
 
-    /// The alarm of the lowest slot whose alarm is due at a tick of the clock fires, or that of the
-    /// one slot which is served: it is disarmed, the clock is shown as by command 2, and upcall 0 is scheduled with that tick and
-    /// its expiration. The answer is whose alarm it was, and the tick. [`NotReady`] comes exactly
-    /// where no alarm of a process that lives and is served is due, and then nothing changes. Nothing of another
-    /// slot changes.
-    // Inlined, an answer that its caller does not read is not made.
-    #[inline(always)]
-    pub fn answer(
-        &mut self,
-        home: &mut Home,
-        now: u32,
-        only: Option<Slot>,
-    ) -> Result<Answer, NotReady>
-        requires dropped { All (λ own. own.inbox.dropped + 1 < 2 ^ 32) home.old.owns }
-        ensures { AlarmAnswers only now home.old result home.new }
-    {
-        fire_first(home, now, only)
-    }
-
-    /// The same ([`AlarmCapsule::answer`]), by the times that are kept of the alarms: no process is
-    /// asked whose time lies ahead. It asks that they tell of all alarms. The process whose alarm
+    /// Answers as [`AlarmCapsule::answer`] does, by the times that are kept of the alarms: no process
+    /// is asked whose time lies ahead. It asks that they tell of all alarms. The process whose alarm
     /// fired has none armed any more.
+    // Inlined, an answer that its caller does not read is not made.
     #[inline(always)]
     pub fn answer_by(
         &mut self,

@@ -5,6 +5,7 @@
 mod answers;
 mod capsule;
 mod commands;
+mod standard;
 mod times;
 mod visits;
 

@@ -12,7 +12,7 @@ ghost use Rattle.driver_model.specs.Alarm.{ticks_left_in};
 ghost use Rattle.alarm_capsule.specs.Times.{AllBehind, AllTell, NoneDueBelow, OthersTell, Tells};
 ghost use Rattle.alarm_capsule.specs.Times.{comes_before, nearest_kept};
 
-use crate::answers::{Due, due_in};
+use crate::answers::{Due, expired_in};
 use crate::visits::alarms;
 use driver_model::an_alarm_is_due_where_no_ticks_are_left;
 use grant_enter::Home;
@@ -42,7 +42,7 @@ fn alarm_of(home: &Home, id: &ProcessId) -> Option<Armed>
 
 /// The ticks that are left of the alarm of the process that lives in a slot. None exactly where
 /// none lives there, or it has none armed.
-fn left_in(home: &Home, slot: Slot, now: u32) -> Option<u32>
+fn ticks_left_in(home: &Home, slot: Slot, now: u32) -> Option<u32>
     ensures { result ≡ ticks_left_in now home.now.owns slot }
 {
     let id = home.id(slot)?;
@@ -208,31 +208,20 @@ impl AlarmTimes {
         }
     }
 
-    /// The lowest slot whose alarm is due at a time at which the clock shows `now`, or the one slot
-    /// which is served, where its alarm is. None exactly where no alarm of a process that lives and
-    /// is served is due. It asks that the times that are kept tell of all alarms.
-    // Inlined, as are the two below: most often the nearest of the times lies ahead.
-    #[inline(always)]
-    pub fn due(&self, home: &Home, now: u32, time: u64, only: Option<Slot>) -> Option<Slot>
-        requires { AllTell now time self.now home.now.owns }
-        ensures slot { result ≡ due_for only now home.now.owns }
-        ensures due { IfSome result (λ slot. has_due now (slice_get home.now.owns slot) ≡ true) }
-    {
-        match self.due_alarm(home, now, time, only) {
-            Some(due) => Some(due.id.slot),
-            None => None,
-        }
-    }
-
-    /// Whether an alarm is due ([`AlarmTimes::due`]).
+    /// Whether an alarm is due of a process that lives, of any or of that in the one slot which is
+    /// served.
     pub fn is_due(&self, home: &Home, now: u32, time: u64, only: Option<Slot>) -> bool
         requires { AllTell now time self.now home.now.owns }
         ensures { result ≡ is_some (due_for only now home.now.owns) }
     {
-        self.due(home, now, time, only).is_some()
+        self.due_alarm(home, now, time, only).is_some()
     }
 
-    /// The alarm that is due ([`AlarmTimes::due`]), and whose it is.
+    /// The alarm of the lowest slot whose alarm is due at a time at which the clock shows `now`, or of
+    /// the one slot which is served, where its alarm is, and whose it is. None exactly where no alarm
+    /// of a process that lives and is served is due. It asks that the times that are kept tell of all
+    /// alarms.
+    // Inlined, as are the two below: most often the nearest of the times lies ahead.
     #[inline(always)]
     pub(crate) fn due_alarm(
         &self,
@@ -297,7 +286,7 @@ impl AlarmTimes {
         if time < at {
             return None;
         }
-        due_in(home, slot, now)
+        expired_in(home, slot, now)
     }
 
     /// The ticks that are left of the alarm of the process in a slot.
@@ -309,7 +298,7 @@ impl AlarmTimes {
         match self.times[slot.index()] {
             None => None,
             Some(at) if time < at => Some((at - time) as u32),
-            Some(_) => left_in(home, slot, now),
+            Some(_) => ticks_left_in(home, slot, now),
         }
     }
 

@@ -4,21 +4,18 @@ ghost use Rattle.std.specs.Prelude.{IsTrue, IfOk, IfSome, Some, OnOk, OnErr, vec
 ghost use Rattle.tk_base.specs.declared.process.Choice.TheVariants.{Run, Device, Pass};
 ghost use Rattle.tk_base.specs.declared.process.Dev.TheVariants.{Event};
 ghost use Rattle.tk_base.specs.declared.limits.TheConstants.{SLOT_COUNT, STEP_LIMIT};
-ghost use Rattle.turn_scheduler.specs.Status.{IsChoiceAhead, choice_by, lanes_told};
-ghost use Rattle.turn_scheduler.specs.Status.{situation_shown as status_situation};
 ghost use Rattle.partition_turns.specs.Windows.{window_choice};
 ghost use Rattle.kernel_laws.specs.Windows.{lanes_in};
 ghost use Rattle.kernel_model.specs.World.{is_ready, after, labels};
 ghost use Rattle.kernel_model.specs.Accounts.{IsAccountedFor};
 ghost use Rattle.kernel_model.specs.Causes.{AreWhole};
-ghost use Rattle.kernel_model.specs.Run.{next, ready_slots, situation_of};
+ghost use Rattle.kernel_model.specs.Run.{next};
 ghost use Rattle.kernel_model.specs.Shown.{shown_by, summary_of};
 ghost use Rattle.board_opening.specs.Alone.{IsReplayed, OpensAlone};
 ghost use Rattle.board_opening.specs.Opening.{opening};
 ghost use Rattle.board_devices.specs.Arriving.{is_time};
 ghost use Rattle.board_drivers.specs.Tells.{tells_one};
 ghost use Rattle.board_state.specs.KnownEnds.{IsKnownEnd};
-ghost use Rattle.board_state.specs.LanesOf.{lanes_of};
 ghost use Rattle.board_state.specs.Makes.{MakesStep, act_meant};
 
 use alarm_capsule::AlarmTimes;
@@ -26,10 +23,9 @@ use arrayvec::ArrayVec;
 use board_drivers::{Drivers, Moment};
 use board_opening::{LoadedProcesses, first_crew, placed_in, unplaced};
 use board_state::{
-    BoardState, ReadySlots, act_meant, devices_ready, forget_fired, hide, lanes, make_turn,
-    operate, settings_of, show, summary, time_ahead,
+    BoardState, act_meant, hide, make_turn, operate, settings_of, show, summary, time_ahead,
 };
-use board_turns::{ActivePmp, Machine};
+use board_turns::{ActivePmp, Machine, ReadySlots};
 use driver_model::{lines_follow_answers, time_brings_an_alarm_nearer};
 use grant_enter::Home;
 use kernel_alarms::answers_leave_alarms;
@@ -41,9 +37,9 @@ use rv32_model::TurnEnd;
 use script_text::Script;
 use std::alloc::Global;
 use std::marker::Model;
-use tk_base::{Choice, Dev, FLASH_LIMIT, NotReady, SLOT_COUNT, STEP_LIMIT, Slot};
+use tk_base::{Choice, Dev, FLASH_LIMIT, NotReady, STEP_LIMIT, Slot};
 use tk_outside::NoMemory;
-use turn_scheduler::{Situated, Status, next_choice_in, next_in_calm};
+use turn_scheduler::{Situated, next_choice_in, next_in_calm};
 
 /// A board with its processes. Contracts see the world that it shows.
 #[derive(Drop)]
@@ -74,20 +70,15 @@ impl Situated for Board {
 
     #[inline(always)]
     fn device_is_ready(&self, device: Dev) -> bool {
-        self.state.machine.moment.is_ready(
-            &self.state.machine.home,
-            &self.state.alarms,
-            &self.state.machine.drivers,
-            device,
-        )
+        self.state.machine.is_ready(device)
     }
 
     fn slot_is_ready(&self, slot: Slot) -> bool {
-        self.state.machine.moment.served().serves(slot) && self.state.ready.has(slot)
+        self.state.machine.moment.served().serves(slot) && self.state.machine.ready.has(slot)
     }
 
     fn slots(&self) -> usize {
-        if self.state.ready.has_any() {
+        if self.state.machine.ready.has_any() {
             self.state.processes.len()
         } else {
             0
@@ -145,23 +136,23 @@ impl Board {
         let slice = script.slice;
         let drivers = Drivers::new(alloc, script)?;
         let alarms = AlarmTimes::new();
-        let mut ready = ReadySlots::new();
-        ready.look_at_all(&home, &processes);
-        let calm = moment.look_ahead(&home, &alarms, &drivers);
-        let machine = Machine {
+        let ready = ReadySlots::new();
+        let mut machine = Machine {
             home,
             guard: ActivePmp::new(),
             drivers,
             moment,
+            alarms,
+            calm: 0,
+            ready,
         };
+        machine.look_at_all(&processes);
+        machine.calm = machine.look_ahead();
         Ok(Board {
             state: BoardState {
                 machine,
                 processes,
                 unplaced: unplaced(&placed),
-                calm,
-                alarms,
-                ready,
                 slice,
                 present: None,
                 used: 0,
@@ -205,16 +196,10 @@ impl Board {
             .machine
             .drivers
             .arrive(&mut self.state.machine.home, slots);
-        self.state
-            .ready
-            .look_at_all(&self.state.machine.home, &self.state.processes);
+        self.state.machine.look_at_all(&self.state.processes);
         hide(emit);
         self.state.machine.moment.steps += 1;
-        self.state.calm = self.state.machine.moment.look_ahead(
-            &self.state.machine.home,
-            &self.state.alarms,
-            &self.state.machine.drivers,
-        );
+        self.state.machine.calm = self.state.machine.look_ahead();
         Ok(())
     }
 
@@ -227,28 +212,15 @@ impl Board {
         devices_answer_one();
         answers_leave_alarms();
         let mut printed = ArrayVec::new();
-        let Ok(answer) = self.state.machine.drivers.act_by(
-            &mut self.state.machine.home,
-            &self.state.alarms,
-            device,
-            &self.state.machine.moment,
-            &mut printed,
-        )
-        else {
+        let Ok(answer) = self.state.machine.act(device, &mut printed) else {
             return Err(NotReady);
         };
         let served = answer.to.slot;
-        self.state
-            .ready
-            .look(&self.state.machine.home, &self.state.processes, served);
+        self.state.machine.look_at(&self.state.processes, served);
         show(emit, served, printed);
         self.state.machine.moment.steps += 1;
-        forget_fired(&mut self.state.alarms, served, device);
-        self.state.calm = self.state.machine.moment.look_ahead(
-            &self.state.machine.home,
-            &self.state.alarms,
-            &self.state.machine.drivers,
-        );
+        self.state.machine.forget_fired(served, device);
+        self.state.machine.calm = self.state.machine.look_ahead();
         Ok(())
     }
 
@@ -359,50 +331,6 @@ impl Board {
         }
     }
 
-    /// Adds for each slot whether it is ready. The table is filled where it lies: moving it would
-    /// cost more than filling it.
-    fn add_ready(&self, ready: &mut ArrayVec<bool, SLOT_COUNT>)
-        requires { ready.old.items ≡ [] }
-        ensures { ready.new.items ≡ ready_slots self.now }
-    {
-        for slot in 0..self.state.processes.len() {
-            ready.push(self.slot_is_ready(Slot::new(slot)));
-        }
-    }
-
-    /// What the next choice reads of the board: for the round robin, and with time partitions, what
-    /// there is in each slot's window. What [`turn_scheduler::next_choice`] makes of it is
-    /// [`Board::next_choice`].
-    #[inline(never)]
-    #[tactic(auto, unfolding(kernel_model::specs::Run::ready_devices))]
-    pub fn status(&self) -> Status
-        ensures status { status_situation result ≡ situation_of self.now }
-        ensures lanes { lanes_told result ≡ lanes_of self.now }
-        ensures next { choice_by (status_situation result) (lanes_told result) ≡ next self.now }
-        ensures ahead { IsChoiceAhead (status_situation result) (lanes_told result) }
-        ensures near { IfSome result.next (λ at. at - result.time < 2 ^ 32) }
-    {
-        next_is_ready();
-        next_is_of_the_window();
-        let mut status = Status {
-            ready: ArrayVec::new(),
-            devices: devices_ready(
-                &self.state.machine.home,
-                &self.state.alarms,
-                &self.state.machine.drivers,
-                &self.state.machine.moment,
-            ),
-            next: time_ahead(&self.state),
-            time: self.state.machine.moment.time,
-            present: self.state.present,
-            used: self.state.used,
-            slice: self.state.slice,
-            lanes: lanes(&self.state),
-        };
-        self.add_ready(&mut status.ready);
-        status
-    }
-
     /// The next choice of the round robin, with time partitions that in the window of the slot whose
     /// window it is; None exactly where no process can have a turn, no device has anything to do,
     /// nothing is still to come in, no write waits and no alarm is armed. It may be made while fewer
@@ -418,7 +346,7 @@ impl Board {
         next_is_ready();
         next_is_of_the_window();
         // What comes most often needs no look at the devices.
-        if self.state.machine.moment.time < self.state.calm {
+        if self.state.machine.moment.time < self.state.machine.calm {
             return next_in_calm(self);
         }
         next_choice_in(self)

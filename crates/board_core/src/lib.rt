@@ -5,6 +5,7 @@
 mod board;
 mod look;
 mod play;
+mod standard;
 mod stretch;
 
 pub use board::Board;

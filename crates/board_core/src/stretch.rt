@@ -11,7 +11,7 @@ ghost use Rattle.board_state.specs.KnownEnds.{IsKnownEnd};
 ghost use Rattle.board_core.specs.Stretches.{EndsStretch};
 
 use crate::board::Board;
-use board_state::{calm_ahead, is_over, present_after, runs, turn_in, turns_left, used_before};
+use board_state::{is_over, present_after, runs, turn_in, turns_left, used_before};
 use driver_model::time_brings_an_alarm_nearer;
 use kernel_laws::round_is_stretch;
 use kernel_lives::steps_are_accounted_for;
@@ -72,14 +72,8 @@ impl Board {
                 end: TurnEnd::Went,
             };
         }
-        self.state.calm = calm_ahead(
-            self.state.calm,
-            &self.state.machine.moment,
-            &self.state.machine.home,
-            &self.state.alarms,
-            &self.state.machine.drivers,
-        );
-        if self.state.calm <= self.state.machine.moment.time {
+        self.state.machine.calm = self.state.machine.calm_ahead();
+        if self.state.machine.calm <= self.state.machine.moment.time {
             return Part {
                 made: 0,
                 is_over: true,
@@ -92,7 +86,7 @@ impl Board {
             before,
             self.state.slice,
             &self.state.machine.moment,
-            self.state.calm,
+            self.state.machine.calm,
             most,
         );
         let stretch = self

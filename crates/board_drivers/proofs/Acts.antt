@@ -101,7 +101,8 @@ pub acts_sent : (b : BoardParts) (h : AreBoardParts b) (o : Result Answer NotRea
     → here ≡ line_at lane b.drivers.uarts → ActsSent b o home capsule line before printed here only lane
 acts_sent b h o home capsule line printed lines events law lent before empty only lane here is_only is_lane is_here =
     subst (λ (l : SerialLine). ActsSent b o home capsule line before printed l only lane) (sym is_here)
-    (at_lane (λ only lane. ActsSent b o home capsule line before printed (line_at lane b.drivers.uarts) only lane) b only
+    (at_lane (λ only lane. ActsSent b o home capsule line before printed (line_at lane b.drivers.uarts) only lane) b
+    only
     lane is_only is_lane (λ can answers uart reads.
     subst (λ (xs : List ProcessId). Acted b Uart o printed.items home (record b.drivers {
       console = record { writes = capsule.writes; reads = xs };
@@ -166,7 +167,8 @@ pub acts_drawn : (b : BoardParts) (h : AreBoardParts b) (o : Result Answer NotRe
     → here ≡ slice_index_or b.drivers.words lane [] → ActsDrawn b o home capsule words printed here only lane
 acts_drawn b h o home capsule words lines events printed empty only lane here is_only is_lane is_here =
     subst (λ (ws : List ℕ). ActsDrawn b o home capsule words printed ws only lane) (sym is_here)
-    (at_lane (λ only lane. ActsDrawn b o home capsule words printed (slice_index_or b.drivers.words lane []) only lane) b
+    (at_lane (λ only lane. ActsDrawn b o home capsule words printed (slice_index_or b.drivers.words lane []) only lane)
+    b
     only lane is_only is_lane (λ none answers.
     acted_silent b Random o home _ printed empty
     (acts_on b h (draws b) (words_on b)
@@ -190,7 +192,8 @@ pub acts_stored : (b : BoardParts) (h : AreBoardParts b) (o : Result Answer NotR
     → LinesFollowAnswers → ReadsOwnFlash → Lent b.home → (printed : List ℕ) → printed ≡ []
     → (only : Option ℕ) → only ≡ only_on b → ActsStored b o home capsule bytes printed only
 acts_stored b h o home capsule bytes lines law lent printed empty only is_only =
-    subst (ActsStored b o home capsule bytes printed) (sym is_only) (λ none answers. acted_silent b Store o home _ printed empty
+    subst (ActsStored b o home capsule bytes printed) (sym is_only)
+    (λ none answers. acted_silent b Store o home _ printed empty
     (acts_on b h (stores b) b.drivers.stores refl (serves_stored b h lines law lent)
     o home capsule.waiting bytes (waited_for (only_on b) (storage_to b.drivers.stores b.home) b.drivers.storage.waiting
     b.drivers.stores b.home o capsule.waiting bytes home none answers) answers))

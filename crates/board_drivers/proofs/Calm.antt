@@ -85,7 +85,8 @@ calm_for only start from time owns d next law serves is low more =
       | Event ↦ no_arrival time d.arrivals all.0
       | Alarm ↦ ap is_some (alarm_calm only start from time owns law low
           (ticks_before from time (left_for only (clock_at start from) owns) low others.0))
-      | Uart ↦ no_sending (waits_in only Writes (devices_of d)) (line_in (lane_by only) (devices_of d)).free time others.1
+      | Uart ↦ no_sending (waits_in only Writes (devices_of d)) (line_in (lane_by only) (devices_of d)).free time
+          others.1
       | Receive ↦ serves.receive
       | Random ↦ serves.random
       | Store ↦ serves.store

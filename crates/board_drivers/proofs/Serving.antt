@@ -208,7 +208,8 @@ module _ (b : BoardParts) (h : AreBoardParts b) (id : ProcessId) (is_there : IsT
 
   -- one that does leaves the others as they are
   uart_changes : (line : SerialLine) → line.ticks ≡ (line_on b).ticks
-      → ((line_on b).ticks ≤ BYTE_TICKS_LIMIT → (line_on b).free ≤ b.moment.time + SENDING_LIMIT → line.free ≤ b.moment.time + SENDING_LIMIT)
+      → ((line_on b).ticks ≤ BYTE_TICKS_LIMIT → (line_on b).free ≤ b.moment.time + SENDING_LIMIT → line.free ≤
+      b.moment.time + SENDING_LIMIT)
       → IsFreeSoon b.moment.time b.drivers.uarts (with_line b line)
   uart_changes line ticks free =
       let lines : List SerialLine = b.drivers.uarts in
@@ -309,7 +310,8 @@ acts_on b h is x before serves (Err refusal) home ids y may answers =
 acts_on b h is x before serves (Ok answer) home ids y may answers =
     let id : ProcessId = answer.to in
     let there : IsThere b.home.owns id =
-    first_is (IsThere b.home.owns) (only_on b) (ids_waiting_in b.drivers is.here) id answers.0 (waiters_there b h is.here) in
+    first_is (IsThere b.home.owns) (only_on b) (ids_waiting_in b.drivers is.here) id answers.0
+    (waiters_there b h is.here) in
     let a = is.answer_to id in
     told_by b h id there is.device (is.prints y) (own_after a.step) home (is.after ids y) answers.5 answers.2 may
     (subst (λ (xs : List ProcessId). DeviceServes b (its_process b h id there) is.device id.slot (is.prints y)
@@ -747,7 +749,8 @@ serves_alarmed b h id is_there lines due =
       stores = stores_stay b h id is_there;
       event = Alarmed now;
       leaves = λ other. absurd (false≢true (sym other));
-      deed = ap (serving (world_shown b).records (λ slot r. alarmed b.moment.settings b.moment.time (devices_of b.drivers))) due
+      deed = ap (serving (world_shown b).records (λ slot r. alarmed b.moment.settings b.moment.time
+          (devices_of b.drivers))) due
           ∙ ap (option_map (λ (r : Record). answering id.slot
           (alarmed b.moment.settings b.moment.time (devices_of b.drivers)))) (its_record_was b h id is_there);
       tells = alarm_applied b.moment.settings now (its_record b h id is_there);

@@ -41,6 +41,7 @@ use Rattle.driver_model.specs.Keeping.{IsInOrder, IsSettled}
 use Rattle.kernel_model.specs.Wholes.{HasWholeOwn}
 use Rattle.kernel_lives.specs.Ended.{IsFreeOnceEnded}
 use Rattle.kernel_lives.specs.Lists.{ListsAreOfRequests, asks_at, once_if, times_in}
+use Rattle.kernel_lives.specs.StoredBytes.{AsksWithin}
 use Rattle.board_drivers.proofs.Routing.{slots_by}
 use Rattle.kernel_model.specs.Lives.{AreApart, BlocksAreApart, HasOrder, HasPendingWithinLimit, IsAsAtFirst, IsAtFirst}
 use Rattle.kernel_model.specs.Lives.{LivesAsItRuns}
@@ -344,6 +345,17 @@ pub opens_erased : (script : Script) (flash : List ℕ) (slot : ℕ)
 opens_erased script flash slot =
     of_each script.storage flash RAM_START (λ r. r.storage ≡ replicate script.storage 0xFF)
     (erased_first script.storage flash) (opening script flash).records (opening_opened script flash) slot
+
+asking_first : (storage : ℕ) (flash : List ℕ) (low : ℕ) (r : Record) → IsOpened storage flash low r
+    → AsksWithin storage r
+unfolding opening_record
+asking_first storage flash low r o = subst (AsksWithin storage) (sym o.is) (tt, length-replicate storage 0xFF)
+
+pub opens_asking : (script : Script) (flash : List ℕ) (slot : ℕ)
+    → IfSome (slice_get (opening script flash).records slot) (AsksWithin script.storage)
+opens_asking script flash slot =
+    of_each script.storage flash RAM_START (AsksWithin script.storage) (asking_first script.storage flash)
+    (opening script flash).records (opening_opened script flash) slot
 
 pub opens_in_order : (script : Script) (flash : List ℕ) (slot : ℕ)
     → IfSome (slice_get (opening script flash).records slot) HasOrder

@@ -1,32 +1,37 @@
 -- Laws of each run from a boot, by any choices. They speak of processes as Levy et al., SOSP 2017, and of buffers as
 -- TRD 104.
-use Rattle.std.specs.Prelude.{◌≡◌, ◌≢◌, ◌↔◌, ◌≤◌, ◌<◌, ℕ, ◌+◌, true, false, replicate, List, ◌++◌, length, slice_get}
-use Rattle.std.specs.Prelude.{All, Some, None, IfSome}
+use Rattle.std.specs.Prelude.{◌≡◌, ◌≢◌, ◌↔◌, ◌≤◌, ◌<◌, ℕ, ◌+◌, true, false, replicate, List, [], ◌∷◌, ◌++◌, length}
+use Rattle.std.specs.Prelude.{slice_get, All, Some, None, IfSome}
+use Rattle.std.specs.List.{list_any}
 use Rattle.tk_base.specs.declared.process.Choice.{Choice}
 use Rattle.tk_base.specs.declared.process.Choice.TheVariants.{Pass}
 use Rattle.tk_base.specs.declared.process.Verb.TheVariants.{Restart}
 use Rattle.script_text.specs.Settings.{ScriptSettings as Script}
 use Rattle.process_record.specs.Process.{is_alive}
 use Rattle.driver_model.specs.Alarm.{due_alarm, ticks_left_of}
-use Rattle.driver_model.specs.Commands.{QueueName}
+use Rattle.driver_model.specs.Commands.{QueueName, Writes}
+use Rattle.driver_model.specs.Lines.{RequestOf}
 use Rattle.kernel_model.specs.Record.{Record}
-use Rattle.kernel_model.specs.Turn.{Act}
+use Rattle.kernel_model.specs.Turn.{Act, Stored}
 use Rattle.kernel_model.specs.World.{World, Label, after, is_let, labels, lane_count, now_in, only_in}
 use Rattle.kernel_model.specs.Named.{words_in}
 use Rattle.kernel_model.specs.Run.{next, round}
 use Rattle.kernel_model.specs.Accounts.{IsAccountedFor}
+use Rattle.kernel_model.specs.Edges.{arrivals_in}
 use Rattle.kernel_model.specs.Choices.{Throughout, are_ready, labels_of_all}
 use Rattle.kernel_model.specs.Replay.{after_all, chosen, history}
 use Rattle.kernel_model.specs.Causes.{AllHaveCauses}
 use Rattle.kernel_model.specs.Lives.{BlocksAreApart, IsAsAtFirst}
 use Rattle.kernel_laws.specs.Alarms.{takes_time}
+use Rattle.kernel_laws.specs.Inputs.{HasRoom, KeepsInput, bytes_arriving, inputs_told, ring_in}
 use Rattle.kernel_laws.specs.OneRun.{NothingIsLeft}
 use Rattle.kernel_laws.specs.Words.{of_lane, words_told}
 use Rattle.kernel_histories.specs.Drops.{drops_of}
 use Rattle.kernel_lives.specs.Lists.{ListsAreOfRequests, once_if}
-use Rattle.kernel_lives.specs.Requests.{asks_in, requests_begun, requests_completed}
-use Rattle.kernel_lives.specs.StoredBytes.{all_written, writes_in}
+use Rattle.kernel_lives.specs.Requests.{asks_in, begins_in, requests_begun, requests_completed, tells_asking}
+use Rattle.kernel_lives.specs.StoredBytes.{GaveStorage, all_written, writes_in}
 use Rattle.kernel_lives.specs.Counts.{ticks_passed, turns_made, turns_of_all}
+use Rattle.kernel_lives.specs.Writes.{StillWaits, WritesTruly, write_in}
 use Rattle.board_opening.specs.Alone.{alone}
 use Rattle.board_opening.specs.Opening.{opening}
 
@@ -88,6 +93,27 @@ WordsFromBootAreTheScripts = (script : Script) (flash : List ℕ) (choices : Lis
     ≡ words_told (of_lane script.partition lane (labels_of_all w choices))
     ++ words_in lane (after_all w choices).devices
 
+-- in each lane what its processes were told of input, in that order, and then what is left in the ring, is what remains
+-- of what came in by any choices from a boot, in its order; and all of that where the ring never overflowed
+abbrev pub InputFromBootIsKept : Type 0
+InputFromBootIsKept = (script : Script) (flash : List ℕ) (choices : List Choice) (lane : ℕ) →
+    let w = opening script flash in
+    lane < lane_count script.partition →
+    KeepsInput [] (bytes_arriving (arrivals_in w choices))
+    (inputs_told (of_lane script.partition lane (labels_of_all w choices)))
+    (ring_in lane (after_all w choices).devices) (Throughout (HasRoom lane) w choices)
+
+-- a write that begins to wait in a step after any choices from a boot, and waits after each of the next ones, prints the
+-- first bytes of its buffer, and completes truly
+abbrev pub WritesFromBootCompleteTruly : Type 0
+WritesFromBootCompleteTruly =
+    (script : Script) (flash : List ℕ) (before : List Choice) (begin : Choice) (choices : List Choice) (slot : ℕ)
+    (write : RequestOf Writes) →
+    let w = after_all (opening script flash) before in
+    let v = after w begin in
+    write_in slot w ≡ None → write_in slot v ≡ Some write → StillWaits slot v choices →
+    WritesTruly v choices slot write
+
 -- no step among any choices from a boot changes a byte of a process without a cause among its labels
 abbrev pub ChangesFromBootHaveCauses : Type 0
 ChangesFromBootHaveCauses = (script : Script) (flash : List ℕ) (choices : List Choice) →
@@ -112,6 +138,15 @@ StorageFromBootIsMemory = (script : Script) (flash : List ℕ) (choices : List C
     now.storage
     ≡ all_written (writes_in w.settings (history slot w choices) first) (replicate script.storage 0xFF))
 
+-- a step after any choices from a boot that serves a read of the storage gives its process each byte that it asks for,
+-- and that its buffer has room for, as the storage has it
+abbrev pub ReadsFromBootGiveStorage : Type 0
+ReadsFromBootGiveStorage =
+    (script : Script) (flash : List ℕ) (choices : List Choice) (choice : Choice) (slot : ℕ) (r s : Record) →
+    let v = after_all (opening script flash) choices in
+    slice_get v.records slot ≡ Some r → slice_get (after v choice).records slot ≡ Some s →
+    history slot v (choice ∷ []) ≡ Stored true ∷ [] → GaveStorage r s
+
 -- after any choices from a boot the answers that completed a request of a process in a queue, and the one that waits
 -- still, are no more than its requests that began to wait there
 abbrev pub RequestsFromBootCompleteOnce : Type 0
@@ -120,6 +155,13 @@ RequestsFromBootCompleteOnce =
     let w = opening script flash in
     requests_completed queue slot w choices + once_if (asks_in queue slot (after_all w choices))
     ≤ requests_begun queue slot w choices
+
+-- after any choices from a boot a request of a process begins to wait by an accepted command to its driver alone
+abbrev pub RequestsFromBootBeginByCommands : Type 0
+RequestsFromBootBeginByCommands =
+    (script : Script) (flash : List ℕ) (choices : List Choice) (choice : Choice) (queue : QueueName) (slot : ℕ) →
+    let v = after_all (opening script flash) choices in
+    begins_in queue slot v choice ≡ true → list_any (tells_asking queue slot) (labels v choice) ≡ true
 
 -- In a world the next choice, of the round robin or of the windows, is no turn and no pass of time as long as the alarm
 -- of a process is due that may be served; and a pass ends when the next of these becomes due, if not before.

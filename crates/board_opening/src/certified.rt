@@ -9,19 +9,25 @@ ghost use Rattle.board_opening.specs.Certified.{BlocksFromBootAreApart, ChangesF
 ghost use Rattle.board_opening.specs.Certified.{CountsFromBootAddUp, DropsFromBootAddUp};
 ghost use Rattle.board_opening.specs.Certified.{EachFromBoot};
 ghost use Rattle.board_opening.specs.Certified.{EachLabelFromBoot};
+ghost use Rattle.board_opening.specs.Certified.{InputFromBootIsKept};
 ghost use Rattle.board_opening.specs.Certified.{IsDoneFromBoot, ListsFromBootAreOfRequests};
+ghost use Rattle.board_opening.specs.Certified.{ReadsFromBootGiveStorage};
+ghost use Rattle.board_opening.specs.Certified.{RequestsFromBootBeginByCommands};
 ghost use Rattle.board_opening.specs.Certified.{RequestsFromBootCompleteOnce, RestartsFromBoot};
 ghost use Rattle.board_opening.specs.Certified.{RunsFromBootAreAccountedFor};
 ghost use Rattle.board_opening.specs.Certified.{StorageFromBootIsMemory};
 ghost use Rattle.board_opening.specs.Certified.{WordsFromBootAreTheScripts};
+ghost use Rattle.board_opening.specs.Certified.{WritesFromBootCompleteTruly};
 
 use crate::laws::a_process_depends_on_its_own_view_alone;
 use kernel_histories::drops_add_up;
-use kernel_laws::{a_run_is_one_run, alarms_fire_when_due, words_are_drawn_in_order};
+use kernel_laws::{
+    a_run_is_one_run, alarms_fire_when_due, input_is_kept, words_are_drawn_in_order,
+};
 use kernel_lives::{
     lists_are_of_requests, owns_stay_whole, places_never_change, prints_are_of_buffers,
     processes_live_as_they_run, requests_complete_once, restarts_are_as_opened,
-    steps_are_accounted_for, storage_is_memory, time_steps_and_turns_add_up,
+    steps_are_accounted_for, storage_is_memory, time_steps_and_turns_add_up, writes_complete_truly,
 };
 use process_model::only_handing_changes_pairs;
 
@@ -91,6 +97,29 @@ pub fn words_from_boot_are_the_scripts()
     words_are_drawn_in_order();
 }
 
+/// Whatever choices are made after a boot, what processes are told that came in on the serial line,
+/// in that order, and then what is left in the ring, is what remains of what came in, in its order;
+/// with time partitions so it is of each slot. It is all that came in where the ring never
+/// overflowed.
+pub fn input_from_boot_is_kept()
+    ensures { InputFromBootIsKept }
+{
+    input_is_kept();
+}
+
+/// Whatever choices are made after a boot, a write to the console that begins to wait prints the
+/// first bytes of the buffer that its process has allowed, in order, as long as that stays as it
+/// is; and where it completes, its upcall's first argument is how many bytes were printed of it,
+/// which are as many as it asked for, or as the buffer has that is held then (TRD 104, "Read-Only
+/// Allow").
+pub fn writes_from_boot_complete_truly()
+    ensures { WritesFromBootCompleteTruly }
+{
+    only_handing_changes_pairs();
+    owns_stay_whole();
+    writes_complete_truly();
+}
+
 /// Whatever choices are made after a boot: a process's own bytes end at its kernel break, where its
 /// grants begin, and each buffer that it has allowed lies in accessible flash, or in its RAM below
 /// the mark; so each byte of a buffer lies in accessible RAM below the kernel break, and so off its
@@ -147,10 +176,13 @@ pub fn ended_processes_from_boot_stay()
 
 /// Whatever choices are made after a boot, the storage of a process has each byte as the last of
 /// its own served writes that covers it left it, and 0xFF where none does, through each end and
-/// start of the process.
+/// start of the process; and a read of it that is served gives the process each byte that it asks
+/// for, and that its buffer has room for, as the storage has it then.
 pub fn storage_from_boot_is_memory()
-    ensures { StorageFromBootIsMemory }
+    ensures memory { StorageFromBootIsMemory }
+    ensures reads { ReadsFromBootGiveStorage }
 {
+    only_handing_changes_pairs();
     storage_is_memory();
 }
 
@@ -165,10 +197,13 @@ pub fn alarms_from_boot_are_exact()
 }
 
 /// Whatever choices are made after a boot, the answers that completed a request of a process in a
-/// queue, and the one that waits still, are no more than its requests that began to wait there.
+/// queue, and the one that waits still, are no more than its requests that began to wait there. And
+/// one begins to wait by an accepted command to its driver alone (TRD 104, "Command").
 pub fn requests_from_boot_complete_once()
-    ensures { RequestsFromBootCompleteOnce }
+    ensures once { RequestsFromBootCompleteOnce }
+    ensures begin { RequestsFromBootBeginByCommands }
 {
     requests_complete_once();
     lists_from_boot_are_of_requests();
+    processes_live_as_they_run();
 }

@@ -1,3 +1,4 @@
 mod Starts
 mod Boots
 mod Scripts
+mod Worked

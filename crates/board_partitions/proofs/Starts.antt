@@ -5,15 +5,15 @@ use Rattle.std.proofs.Common.{◌∙◌, arith, eqb-true}
 use Rattle.std.specs.List.{AllByRecursion, cons_option, filter_map}
 use Rattle.std.specs.Option.{option_map}
 use Rattle.std.proofs.lemmas.Bool.{false≢true}
-use Rattle.tk_base.specs.declared.access.TheConstants.{FLASH_START, RAM_START}
+use Rattle.tk_base.specs.declared.access.TheConstants.{RAM_START}
 use Rattle.tk_base.specs.declared.limits.TheConstants.{OBJECT_LIMIT, SLOT_COUNT}
 use Rattle.tk_base.specs.declared.process.PlaceFault.{PlaceFault}
 use Rattle.tk_base.specs.declared.process.PlaceFault.TheVariants.{FixedTaken, NoRoom, NoSlot}
 use Rattle.tbf_headers.specs.declared.fault.HeaderFault.{HeaderFault}
 use Rattle.tbf_headers.specs.declared.program.Main.{Main}
 use Rattle.tbf_headers.specs.Meaning.{Meaning, header_reading}
-use Rattle.flash_walk.specs.Image.{ends_at, found_at, object_bytes, objects_from, size_at, verdict_of}
-use Rattle.app_placement.specs.Applications.{application, application_of, applications, is_app}
+use Rattle.flash_walk.specs.Image.{object_bytes}
+use Rattle.app_placement.specs.Applications.{application, applications}
 use Rattle.app_placement.specs.Parts.{application_in}
 use Rattle.app_placement.specs.Placement.{block_length, extents, filled_after, is_start_taken}
 use Rattle.app_placement.specs.Parts.{Place, block_start}

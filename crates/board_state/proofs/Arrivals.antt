@@ -32,7 +32,7 @@ use Rattle.board_state.specs.PartsOf.{parts_of}
 use Rattle.board_state.specs.Shows.{IsBoard, world_of}
 use Rattle.board_state.proofs.Changes.{a_step_later, with_step}
 use Rattle.board_state.proofs.PartsOf.{are_parts}
-use Rattle.board_state.specs.ReadySlots.{TurnsTell}
+use Rattle.board_turns.specs.ReadySlots.{TurnsTell}
 
 -- where no act is meant for a process that is there, what comes in first is none, or means nobody
 pub means_nobody : (arrivals : List ScriptEvent) (rs : List Record)
@@ -90,30 +90,36 @@ module _ (b : BoardState) (home : Homes) (d : Drivers) (came : Arrives b.machine
     guards_then = record {
       protects = λ slot is. subst (Protect b.machine.guard.pmp)
           (sym (ap (λ (o : Own). o.layout) (parts.arrived_remains (parts_of b) lines home d came slot)))
-          (h.guard.protects slot is);
+          (h.machine.guard.protects slot is);
     }
 
     -- what always holds of a board holds then
     pub arrived_board : (calm : ℕ) (ready : List Bool) → TurnsTell ready (zip b.processes.items home.owns)
         → IsCalm b.machine.moment.settings.start b.machine.moment.window b.machine.moment.time calm home.owns d
         → IsBoard (record b {
-          machine = record b.machine { home = home; drivers = d; moment = a_step_later b.machine.moment };
-          calm = calm;
-          ready = ready;
+          machine = record b.machine {
+            home = home;
+            drivers = d;
+            moment = a_step_later b.machine.moment;
+            calm = calm;
+            ready = ready;
+          };
         })
     arrived_board calm ready turns quiet = record {
+      machine = record {
+        lost = parts_then.lost;
+        guard = guards_then;
+        driven = parts_then.driven;
+        lanes = parts_then.lanes;
+        served = parts_then.served;
+        steps = parts_then.steps;
+        time = parts_then.time;
+        calm = quiet;
+        alarms = parts.arrived_alarms (parts_of b) lines home d came b.machine.alarms h.machine.alarms;
+      };
       seated = parts_then.seated;
-      lost = parts_then.lost;
       owns = parts_then.owns;
       few = parts_then.few;
-      guard = guards_then;
-      driven = parts_then.driven;
-      lanes = parts_then.lanes;
-      served = parts_then.served;
-      steps = parts_then.steps;
-      time = parts_then.time;
-      calm = quiet;
-      alarms = parts.arrived_alarms (parts_of b) lines home d came b.alarms h.alarms;
       ready = turns;
       slice = h.slice;
       used = h.used;

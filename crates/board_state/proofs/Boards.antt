@@ -1,6 +1,7 @@
 -- What a board shows.
 use Rattle.std.proofs.Common.{◌≡◌, ℕ, zero, suc, ◌+◌, ◌-◌, ◌^◌, ◌<◌, ◌≤◌, Bool, true, false, List, [], ◌∷◌, ◌++◌}
-use Rattle.std.proofs.Common.{length, map, take, slice_get, slice_index_or, slice_set, nat_lt, ◌&&◌, ◌==◌, if◌then◌else◌, Option, None, Some, IfSome}
+use Rattle.std.proofs.Common.{length, map, take, slice_get, slice_index_or, slice_set, nat_lt, ◌&&◌, ◌==◌}
+use Rattle.std.proofs.Common.{if◌then◌else◌, Option, None, Some, IfSome}
 use Rattle.std.proofs.Common.{replicate, IsTrue, refl, sym, ap, ap₂, subst, ◌∙◌, add-one, arith}
 use Rattle.std.specs.List.{zip}
 use Rattle.std.specs.Option.{option_map, option_or}
@@ -53,7 +54,7 @@ use Rattle.board_turns.specs.Turning.{MayTurnAt}
 -- each process has storage
 pub has_storage : (b : BoardState) → IsBoard b → length (residents b) ≤ length b.machine.drivers.stores.slots
 has_storage b board =
-    omega (arith, board.few, board.driven.slots, length-firsts b.processes.items b.machine.home.owns board.owns)
+    omega (arith, board.few, board.machine.driven.slots, length-firsts b.processes.items b.machine.home.owns board.owns)
 
 -- what is the own of each process is whole, as it is in the home
 pub shown_whole : (b : BoardState) → IsBoard b
@@ -259,31 +260,6 @@ unfolding may_be_made
 ready_shown b slot board =
     ap (λ (c : Bool). nat_lt b.machine.moment.steps STEP_LIMIT && c) (run_shown b slot board)
 
--- the resident of a slot that was looked at
-pub slot_found : (home : Homes) (processes : List Process) (slot index : ℕ) (process : Process)
-    → length home.owns ≡ length processes → index ≡ slot → true ≡ nat_lt index (length processes)
-    → process ≡ slice_index_or processes index process
-    → slice_get (zip processes home.owns) slot ≡ Some (process, own_of home slot)
-slot_found home processes slot index process n i lt e =
-    let h : slot < length processes = let l : index < length processes = grind (arith, nat_tests) in omega arith in
-    let here : slice_get processes slot ≡ Some process =
-    slice_get-get_or processes slot process h
-    ∙ ap Some (ap (λ (k : ℕ). slice_index_or processes k process) (sym i) ∙ sym e) in
-    zip-get processes home.owns slot process (own_of home slot) here
-    (slice_get-get_or home.owns slot nobody (omega (arith, n)))
-
--- and one where there is none
-pub slot_missing : (home : Homes) (processes : List Process) (slot index : ℕ) → length home.owns ≡ length processes
-    → index ≡ slot → false ≡ nat_lt index (length processes) → slice_get (zip processes home.owns) slot ≡ None
-slot_missing home processes slot index n i lt =
-    let h : length processes ≤ slot = let l : length processes ≤ index = grind (arith, nat_tests) in omega arith in
-    past (zip processes home.owns) slot (omega (arith, h, length-firsts processes home.owns n))
-  where
-    past : (xs : List Resident) (k : ℕ) → length xs ≤ k → slice_get xs k ≡ None
-    past [] k h = refl
-    past (x ∷ xs) zero h = absurd (omega arith)
-    past (x ∷ xs) (suc k) h = past xs k (omega arith)
-
 -- below the limit of steps the process decides
 pub below_limit : (b : BoardState) (slot : ℕ) → IsBoard b → b.machine.moment.steps < STEP_LIMIT
     → can_turn_in (slice_get (residents b) slot) ≡ is_ready (world_of b) (Run slot)
@@ -351,7 +327,7 @@ pub may_turn_on : (turns : ℕ) (b : BoardState) (slot : ℕ) → IsBoard b → 
     → b.machine.moment.steps + turns ≤ STEP_LIMIT
     → MayTurnAt turns slot b.machine b.processes.items
 may_turn_on turns b slot board within limit =
-    record { within = within; owns = board.owns; seated = board.seated; limit = limit; guard = board.guard }
+    record { within = within; owns = board.owns; seated = board.seated; limit = limit; guard = board.machine.guard }
 
 -- no process has an alarm armed before the first step, and none is kept
 pub first_tell : (start : ℕ) (times : List (Option ℕ)) (home : Homes) (es : List Footprint)

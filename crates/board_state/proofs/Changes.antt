@@ -29,8 +29,8 @@ use Rattle.board_drivers.proofs.Pairs.{zip-set, zip-get}
 use Rattle.board_drivers.proofs.Routing.{drives_shown}
 use Rattle.board_drivers.proofs.Records.{bytes_of, record_found}
 use Rattle.board_turns.specs.declared.machine.Machine.{Machine}
-use Rattle.board_state.specs.ReadySlots.{OtherTurnsTell, TurnsTell}
-use Rattle.board_state.proofs.TurnsKept.{others_ready}
+use Rattle.board_turns.specs.ReadySlots.{OtherTurnsTell, TurnsTell}
+use Rattle.board_turns.proofs.TurnsKept.{others_ready}
 
 module _ (i : ℕ) (home home_after : Homes) (old new : List Process) (t : ChangesSlot i home home_after old new) where
   -- the residents after the change

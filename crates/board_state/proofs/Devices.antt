@@ -53,7 +53,7 @@ use Rattle.board_state.specs.Shows.{IsBoard, recorded, world_of, residents}
 use Rattle.board_drivers.specs.Tells.{DeviceTold, is_alarm, tells_one}
 use Rattle.kernel_alarms.specs.Acting.{AnswersLeaveAlarms, HasSameAlarm}
 use Rattle.board_state.proofs.SameAlarms.{same_alarms_tell}
-use Rattle.board_state.specs.ReadySlots.{TurnsTell}
+use Rattle.board_turns.specs.ReadySlots.{TurnsTell}
 use Rattle.board_drivers.proofs.Lines.{line_after}
 use Rattle.board_state.proofs.Changes.{a_step_later, as_many_owns, changed_records, found}
 use Rattle.board_drivers.proofs.Records.{beside, bytes_of}
@@ -201,7 +201,7 @@ module _ (b : BoardState) (device : Dev) (slot : ℕ) (printed : List ℕ) (home
       same ps i p was = ap (slice_set ps i) (sym (get_or_from_slice_get ps i p p was)) ∙ set-get_or ps i p
 
   few : length (residents b) ≤ length b.machine.drivers.stores.slots
-  few = beside b.processes.items b.machine.home.owns b.machine.drivers.stores.slots h.owns h.few h.driven.slots
+  few = beside b.processes.items b.machine.home.owns b.machine.drivers.stores.slots h.owns h.few h.machine.driven.slots
 
   told_found : slice_get (world_of b).records slot
       ≡ Some (recorded b ((t.process, own_of b.machine.home slot), bytes_of b.machine.drivers.stores.slots slot))
@@ -271,7 +271,8 @@ module _ (b : BoardState) (device : Dev) (slot : ℕ) (printed : List ℕ) (home
   told_line queue =
       left_line queue (t.serves.left queue) (ids_waiting_in b.machine.drivers queue) (ids_waiting_in d queue)
       b.machine.home.owns slot
-      (own_of b.machine.home slot) (own_of home slot) (h.driven.queues queue) own_was (t.serves.follows.lines queue)
+      (own_of b.machine.home slot) (own_of home slot) (h.machine.driven.queues queue) own_was
+      (t.serves.follows.lines queue)
       own_life
       (t.serves.lines queue)
 
@@ -280,73 +281,86 @@ module _ (b : BoardState) (device : Dev) (slot : ℕ) (printed : List ℕ) (home
       (sym told_owns) (record {
         queues = told_line;
         within = All-set (IsWithin b.machine.moment.settings.storage) b.machine.home.owns slot (own_of home slot)
-            (t.serves.follows.within b.machine.moment.settings.storage (h.driven.within slot nobody t.there))
-            h.driven.within;
-        leds = t.serves.leds ∙ h.driven.leds;
-        buttons = ap (λ (s : ButtonsView). s.count) t.serves.buttons ∙ h.driven.buttons;
-        size = t.serves.stores.size ∙ h.driven.size;
+            (t.serves.follows.within b.machine.moment.settings.storage (h.machine.driven.within slot nobody t.there))
+            h.machine.driven.within;
+        leds = t.serves.leds ∙ h.machine.driven.leds;
+        buttons = ap (λ (s : ButtonsView). s.count) t.serves.buttons ∙ h.machine.driven.buttons;
+        size = t.serves.stores.size ∙ h.machine.driven.size;
         slots = ap length t.serves.stores.slots ∙ length-set b.machine.drivers.stores.slots slot t.serves.bytes
-            ∙ h.driven.slots;
+            ∙ h.machine.driven.slots;
         ticks = t.serves.lines_ready.ticks;
         free = t.serves.lines_ready.free;
       })
 
   -- what is told of the alarms of all other processes stays true
   pub others_still : OthersTell slot (clock_at b.machine.moment.settings.start b.machine.moment.time)
-      b.machine.moment.time b.alarms home.owns
+      b.machine.moment.time b.machine.alarms home.owns
   others_still =
       subst (OthersTell slot (clock_at b.machine.moment.settings.start b.machine.moment.time) b.machine.moment.time
-      b.alarms) (sym told_owns)
-      (others_tell (clock_at b.machine.moment.settings.start b.machine.moment.time) b.machine.moment.time slot b.alarms
-      b.machine.home.owns (own_of home slot) h.alarms)
+      b.machine.alarms) (sym told_owns)
+      (others_tell (clock_at b.machine.moment.settings.start b.machine.moment.time) b.machine.moment.time slot
+      b.machine.alarms
+      b.machine.home.owns (own_of home slot) h.machine.alarms)
 
   -- and where the device is another one than the alarm, so does what is told of its own
   pub all_still : AnswersLeaveAlarms → is_alarm device ≡ false
-      → AlarmsTell b.machine.moment b.alarms home.owns
+      → AlarmsTell b.machine.moment b.machine.alarms home.owns
   all_still law other =
       let same : HasSameAlarm (own_of b.machine.home slot) (own_of home slot) =
       subst (HasSameAlarm (own_of b.machine.home slot)) (ap (λ (r : Record). r.own) t.serves.tells)
       (law b.machine.moment.settings t.serves.event _ (t.serves.leaves other)) in
-      subst (AlarmsTell b.machine.moment b.alarms) (sym told_owns)
+      subst (AlarmsTell b.machine.moment b.machine.alarms) (sym told_owns)
       (same_alarms_tell slot b.machine.home.owns (own_of b.machine.home slot) (own_of home slot) own_was same
-      (clock_at b.machine.moment.settings.start b.machine.moment.time) b.machine.moment.time b.alarms h.alarms)
+      (clock_at b.machine.moment.settings.start b.machine.moment.time) b.machine.moment.time b.machine.alarms
+      h.machine.alarms)
 
   -- what always holds of a board holds then
   pub told_board : (calm : ℕ) (times : List (Option ℕ)) (ready : List Bool) → b.machine.moment.steps < STEP_LIMIT
       → AlarmsTell b.machine.moment times home.owns → TurnsTell ready (zip b.processes.items home.owns)
       → IsCalm b.machine.moment.settings.start b.machine.moment.window b.machine.moment.time calm home.owns d
       → IsBoard (record b {
-        machine = record b.machine { home = home; drivers = d; moment = a_step_later b.machine.moment };
-        calm = calm;
-        alarms = times;
-        ready = ready;
+        machine = record b.machine {
+          home = home;
+          drivers = d;
+          moment = a_step_later b.machine.moment;
+          alarms = times;
+          calm = calm;
+          ready = ready;
+        };
       })
   unfolding told_at
   told_board calm times ready below tell turns quiet = record {
+    machine = record {
+      lost = still_lost b.machine.moment.steps slot b.machine.home home (own_of home slot) t.only
+          (omega (
+            arith,
+            t.serves.follows.dropped.not_more,
+            lost_there b.machine.moment.steps b.machine.home slot
+                h.machine.lost,
+          ))
+          h.machine.lost;
+      guard = still_guards b.machine.guard b.machine.home home slot t.only
+          (ap (λ (o : Own). o.layout) t.serves.follows.rest) h.machine.guard;
+      driven = told_driven;
+      lanes = record {
+        lines = t.serves.lines_ready.lanes ∙ h.machine.lanes.lines;
+        words = t.serves.words_left ∙ h.machine.lanes.words;
+        served = t.serves.stores.lanes ∙ h.machine.lanes.served;
+      };
+      served = t.serves.stores.counts;
+      steps = omega (arith, below);
+      time = omega (arith, h.machine.time);
+      calm = quiet;
+      alarms = tell;
+    };
     seated = still_seated slot b.machine.home home b.processes.items b.processes.items told_at b.machine.moment.steps
         (remains_seated b.machine.home.flash b.machine.moment.steps t.process (own_of b.machine.home slot)
         (own_of home slot)
         t.serves.follows.rest (seated_there b.machine.home.flash b.machine.moment.steps b.processes.items
         b.machine.home.owns slot
         (t.process, own_of b.machine.home slot) t.was own_was h.seated)) h.seated;
-    lost = still_lost b.machine.moment.steps slot b.machine.home home (own_of home slot) t.only
-        (omega (arith, t.serves.follows.dropped.not_more, lost_there b.machine.moment.steps b.machine.home slot h.lost))
-        h.lost;
     owns = as_many_owns slot b.machine.home home b.processes.items b.processes.items told_at ∙ h.owns;
     few = h.few;
-    guard = still_guards b.machine.guard b.machine.home home slot t.only
-        (ap (λ (o : Own). o.layout) t.serves.follows.rest) h.guard;
-    driven = told_driven;
-    lanes = record {
-      lines = t.serves.lines_ready.lanes ∙ h.lanes.lines;
-      words = t.serves.words_left ∙ h.lanes.words;
-      served = t.serves.stores.lanes ∙ h.lanes.served;
-    };
-    served = t.serves.stores.counts;
-    steps = omega (arith, below);
-    time = omega (arith, h.time);
-    calm = quiet;
-    alarms = tell;
     ready = turns;
     slice = h.slice;
     used = h.used;

@@ -24,7 +24,7 @@ use Rattle.board_drivers.specs.Calm.{IsCalm}
 use Rattle.board_drivers.specs.Driven.{Drives, slots_of}
 use Rattle.board_drivers.proofs.Waiting.{waits_if_first}
 use Rattle.board_turns.proofs.Denied.{HasNoneArmed}
-use Rattle.board_state.proofs.SameAlarms.{set_other, set_same}
+use Rattle.board_turns.proofs.TurnsKept.{set_other, set_same}
 
 -- whether one waits that may be served
 abbrev one_of : Option ℕ → List ProcessId → Bool

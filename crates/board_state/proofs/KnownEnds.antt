@@ -50,4 +50,4 @@ known_at b slot end board known = by_process (slice_get b.processes.items slot) 
         (slice_get-get_or b.machine.home.owns slot nobody
         (omega (arith, board.owns, slice_get_within b.processes.items slot p e)))
         (beside b.processes.items b.machine.home.owns b.machine.drivers.stores.slots board.owns board.few
-        board.driven.slots)) known
+        board.machine.driven.slots)) known

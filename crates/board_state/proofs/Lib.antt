@@ -5,7 +5,6 @@ pub mod Devices
 pub mod Ready
 pub mod Stretches
 pub mod SameAlarms
-pub mod TurnsKept
 pub mod TurnLines
 pub mod Looks
 pub mod PartsOf
@@ -14,5 +13,4 @@ pub mod AnyReady
 pub mod Tables
 pub mod InWindows
 pub mod KnownEnds
-pub mod Counted
 pub mod Gone

@@ -178,7 +178,7 @@ module _ (b : BoardState) (board : IsBoard b) where
       ids = ids_waiting_in b.machine.drivers queue
 
       line : IsQueueOf queue ids b.machine.home.owns
-      line = board.driven.queues queue
+      line = board.machine.driven.queues queue
 
       each : (rest : List ProcessId) → AllByRecursion (IsThere b.machine.home.owns) rest
           → ((id : ProcessId) → waits id.slot rest ≡ true → waits id.slot ids ≡ true)

@@ -53,7 +53,8 @@ use Rattle.board_drivers.proofs.Lines.{line_after}
 use Rattle.board_drivers.proofs.Records.{bytes_of, owns_shown, seated_there}
 use Rattle.board_drivers.proofs.Routing.{drives_shown}
 use Rattle.board_turns.specs.declared.machine.Machine.{Machine}
-use Rattle.board_turns.specs.Operating.{MayOperateAt, OperatesAt, acts_for}
+use Rattle.board_turns.specs.Operating.{OperatesAt, acts_for}
+use Rattle.board_turns.specs.Turning.{MayTurnAt}
 use Rattle.board_state.specs.declared.state.BoardState.{BoardState}
 use Rattle.board_state.specs.Makes.{act_meant, shown_act}
 use Rattle.board_state.specs.Shows.{IsBoard, world_of}
@@ -62,7 +63,7 @@ use Rattle.board_state.proofs.Changes.{a_step_later, as_many, as_many_owns, foun
 use Rattle.board_state.proofs.Changes.{still_seated, with_step}
 use Rattle.board_state.proofs.Devices.{lost_where, still_lost}
 use Rattle.board_state.proofs.TurnLines.{can_start_again}
-use Rattle.board_state.specs.ReadySlots.{TurnsTell}
+use Rattle.board_turns.specs.ReadySlots.{TurnsTell}
 
 -- what comes in first is an operator's act on the process in a slot
 pub record ActComes (arrivals : List ScriptEvent) (rs : List Record) (slot : ℕ) (verb : Verb) : Type 0 where
@@ -107,7 +108,8 @@ act_comes (event ∷ rest) rs slot verb meant = by_kind event.kind refl meant
     by_kind (Release button) is e = absurd (cc)
     by_kind (Act v name) is e = by_slot v name (slot_of_name name rs) refl is e
 
-pub comes_shown : (b : BoardState) (w : World) (slot : ℕ) (verb : Verb) → world_of b ≡ w → act_meant w ≡ Some (slot, verb)
+pub comes_shown : (b : BoardState) (w : World) (slot : ℕ) (verb : Verb) → world_of b ≡ w → act_meant w ≡ Some
+    (slot, verb)
     → ActComes b.machine.drivers.arrivals (world_of b).records slot verb
 comes_shown b w slot verb is meant =
     act_comes b.machine.drivers.arrivals (world_of b).records slot verb (ap act_meant is ∙ meant)
@@ -167,9 +169,15 @@ act_within b slot verb h c =
 
 -- an operator may act there
 pub may_operate : (b : BoardState) (slot : ℕ) (rest : List ScriptEvent) → IsBoard b → slot < length b.processes.items
-    → b.machine.moment.steps < STEP_LIMIT → MayOperateAt slot (let_in b.machine rest) b.processes.items
+    → b.machine.moment.steps < STEP_LIMIT → MayTurnAt 1 slot (let_in b.machine rest) b.processes.items
 may_operate b slot rest h within below =
-    record { within = within; owns = h.owns; seated = h.seated; limit = below; guard = h.guard }
+    record {
+      within = within;
+      owns = h.owns;
+      seated = h.seated;
+      limit = omega (arith, below);
+      guard = h.machine.guard;
+    }
 
 -- what becomes of the requests of a process on which an operator acted
 act_keeps : (size : ℕ) (verb : Verb) (r : Record) → CanStartAgain r
@@ -187,7 +195,8 @@ act_drops verb r =
     of_operated (λ ended s. s.own.inbox.dropped ≡ r.own.inbox.dropped) r refl (λ held. refl) (λ lives. refl)
     (restart_keeps r) verb
 
-module _ (b : BoardState) (slot : ℕ) (verb : Verb) (c : ActComes b.machine.drivers.arrivals (world_of b).records slot verb)
+module _ (b : BoardState) (slot : ℕ) (verb : Verb) (c : ActComes b.machine.drivers.arrivals (world_of b).records slot
+    verb)
     (x : Machine) (processes : List Process)
     (t : OperatesAt verb slot (let_in b.machine c.rest) x b.processes.items processes) (h : IsBoard b) where
   -- the record before the act
@@ -286,7 +295,7 @@ module _ (b : BoardState) (slot : ℕ) (verb : Verb) (c : ActComes b.machine.dri
       subst (λ (xs : List ProcessId). IsQueueOf queue xs (slice_set b.machine.home.owns slot t.at.after.1))
       (sym (t.drives.queues queue))
       (line_after queue (ids_waiting_in b.machine.drivers queue) b.machine.home.owns slot t.at.before.1 t.at.after.1
-      (acts_for verb t.at.before.0) (h.driven.queues queue) t.at.own_was (keeps.lines queue) (keeps.life queue))
+      (acts_for verb t.at.before.0) (h.machine.driven.queues queue) t.at.own_was (keeps.lines queue) (keeps.life queue))
 
   -- who waits has a request then, and no other
   pub operated_driven : AreDriven b.machine.moment.settings b.machine.moment.time x.home.owns x.drivers
@@ -295,28 +304,28 @@ module _ (b : BoardState) (slot : ℕ) (verb : Verb) (c : ActComes b.machine.dri
       (record {
         queues = line_is;
         within = All-set (IsWithin b.machine.moment.settings.storage) b.machine.home.owns slot t.at.after.1
-            (keeps.within before_within) h.driven.within;
-        leds = t.drives.lit ∙ h.driven.leds;
-        buttons = ap (λ (s : ButtonsView). s.count) t.drives.buttons ∙ h.driven.buttons;
-        size = ap (λ (s : _). s.size) t.drives.bytes ∙ h.driven.size;
-        slots = ap (λ (s : _). length s.slots) t.drives.bytes ∙ h.driven.slots;
-        ticks = same_ticks b.machine.drivers x.drivers t.drives.lines h.driven.ticks;
-        free = same_free b.machine.moment.time b.machine.drivers x.drivers t.drives.lines h.driven.free;
+            (keeps.within before_within) h.machine.driven.within;
+        leds = t.drives.lit ∙ h.machine.driven.leds;
+        buttons = ap (λ (s : ButtonsView). s.count) t.drives.buttons ∙ h.machine.driven.buttons;
+        size = ap (λ (s : _). s.size) t.drives.bytes ∙ h.machine.driven.size;
+        slots = ap (λ (s : _). length s.slots) t.drives.bytes ∙ h.machine.driven.slots;
+        ticks = same_ticks b.machine.drivers x.drivers t.drives.lines h.machine.driven.ticks;
+        free = same_free b.machine.moment.time b.machine.drivers x.drivers t.drives.lines h.machine.driven.free;
       })
     where
       before_within : IsWithin b.machine.moment.settings.storage t.at.before.1
       before_within =
           subst (IsWithin b.machine.moment.settings.storage)
           (get_or_from_slice_get b.machine.home.owns slot t.at.before.1 nobody t.at.own_was)
-          (h.driven.within slot nobody (slice_get_within b.machine.home.owns slot t.at.before.1 t.at.own_was))
+          (h.machine.driven.within slot nobody (slice_get_within b.machine.home.owns slot t.at.before.1 t.at.own_was))
 
   -- what is told of the alarms of all other processes stays true
   pub others_unmoved : OthersTell slot (clock_at b.machine.moment.settings.start b.machine.moment.time)
-      b.machine.moment.time b.alarms x.home.owns
+      b.machine.moment.time b.machine.alarms x.home.owns
   others_unmoved =
       let now = clock_at b.machine.moment.settings.start b.machine.moment.time in
-      subst (λ (y : Homes). OthersTell slot now b.machine.moment.time b.alarms y.owns) (sym t.at.own_is)
-      (others_tell now b.machine.moment.time slot b.alarms b.machine.home.owns t.at.after.1 h.alarms)
+      subst (λ (y : Homes). OthersTell slot now b.machine.moment.time b.machine.alarms y.owns) (sym t.at.own_is)
+      (others_tell now b.machine.moment.time slot b.machine.alarms b.machine.home.owns t.at.after.1 h.machine.alarms)
 
 -- A board whose tables, registers and drivers are then these: after the act it is one again.
 module _ (b a : BoardState) (slot : ℕ) (verb : Verb)
@@ -326,36 +335,43 @@ module _ (b a : BoardState) (slot : ℕ) (verb : Verb)
   pub operated_board : (calm : ℕ) (times : List (Option ℕ)) (ready : List Bool) → b.machine.moment.steps < STEP_LIMIT
       → AlarmsTell b.machine.moment times a.machine.home.owns
       → TurnsTell ready (zip a.processes.items a.machine.home.owns)
-      → IsCalm b.machine.moment.settings.start b.machine.moment.window b.machine.moment.time calm a.machine.home.owns a.machine.drivers
+      → IsCalm b.machine.moment.settings.start b.machine.moment.window b.machine.moment.time calm a.machine.home.owns
+      a.machine.drivers
       → IsBoard (record b {
-        machine = record a.machine { moment = a_step_later b.machine.moment };
+        machine = record a.machine {
+          moment = a_step_later b.machine.moment;
+          alarms = times;
+          calm = calm;
+          ready = ready;
+        };
         processes = a.processes;
-        calm = calm;
-        alarms = times;
-        ready = ready;
       })
   operated_board calm times ready below tell turns quiet = record {
+    machine = record {
+      lost = still_lost b.machine.moment.steps slot b.machine.home a.machine.home t.at.after.1 t.at.own_is
+          (omega (
+            arith,
+            drops_none b slot verb c a.machine a.processes.items t h,
+            lost_where b.machine.moment.steps b.machine.home.owns slot t.at.before.1 t.at.own_was h.machine.lost,
+          )) h.machine.lost;
+      guard = t.guard;
+      driven = operated_driven b slot verb c a.machine a.processes.items t h;
+      lanes = same_lanes b.machine.moment.window b.machine.drivers a.machine.drivers t.drives.lines t.drives.words
+          t.drives.bytes h.machine.lanes;
+      served = few_still b.machine.moment.steps (b.machine.moment.steps + 1) a.machine.drivers.stores.served
+          (omega arith)
+          (subst (λ (s : StoredSlots). All (λ count. count ≤ b.machine.moment.steps) s.served) (sym t.drives.bytes)
+          h.machine.served);
+      steps = omega (arith, below);
+      time = omega (arith, h.machine.time);
+      calm = quiet;
+      alarms = tell;
+    };
     seated = still_seated slot b.machine.home a.machine.home b.processes.items a.processes.items t.at
         b.machine.moment.steps t.seated h.seated;
-    lost = still_lost b.machine.moment.steps slot b.machine.home a.machine.home t.at.after.1 t.at.own_is
-        (omega (
-          arith,
-          drops_none b slot verb c a.machine a.processes.items t h,
-          lost_where b.machine.moment.steps b.machine.home.owns slot t.at.before.1 t.at.own_was h.lost,
-        )) h.lost;
     owns = as_many_owns slot b.machine.home a.machine.home b.processes.items a.processes.items t.at ∙ h.owns
         ∙ as_many slot b.machine.home a.machine.home b.processes.items a.processes.items t.at;
     few = omega (arith, as_many slot b.machine.home a.machine.home b.processes.items a.processes.items t.at, h.few);
-    guard = t.guard;
-    driven = operated_driven b slot verb c a.machine a.processes.items t h;
-    lanes = same_lanes b.machine.moment.window b.machine.drivers a.machine.drivers t.drives.lines t.drives.words
-        t.drives.bytes h.lanes;
-    served = few_still b.machine.moment.steps (b.machine.moment.steps + 1) a.machine.drivers.stores.served (omega arith)
-        (subst (λ (s : StoredSlots). All (λ count. count ≤ b.machine.moment.steps) s.served) (sym t.drives.bytes) h.served);
-    steps = omega (arith, below);
-    time = omega (arith, h.time);
-    calm = quiet;
-    alarms = tell;
     ready = turns;
     slice = h.slice;
     used = h.used;

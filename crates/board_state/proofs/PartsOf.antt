@@ -7,12 +7,12 @@ use Rattle.board_state.specs.Shows.{IsBoard}
 pub are_parts : (b : BoardState) → IsBoard b → AreBoardParts (parts_of b)
 are_parts b board = record {
   seated = board.seated;
-  lost = board.lost;
+  lost = board.machine.lost;
   owns = board.owns;
   few = board.few;
-  driven = board.driven;
-  lanes = board.lanes;
-  served = board.served;
-  steps = board.steps;
-  time = board.time;
+  driven = board.machine.driven;
+  lanes = board.machine.lanes;
+  served = board.machine.served;
+  steps = board.machine.steps;
+  time = board.machine.time;
 }

@@ -82,7 +82,8 @@ module _ (b : BoardState) (board : IsBoard b) where
   devices_shown = ap (λ (owns : List Own). ready_in b.machine.moment owns b.machine.drivers) (sym owns_in_world)
 
   -- as long as it is calm no device step is ready
-  pub calm_shown : IsCalmAt b.machine.moment.settings.start b.machine.moment.window b.machine.moment.time b.machine.home.owns b.machine.drivers
+  pub calm_shown : IsCalmAt b.machine.moment.settings.start b.machine.moment.window b.machine.moment.time
+      b.machine.home.owns b.machine.drivers
       → ready_devices (world_of b) ≡ false ∷ false ∷ false ∷ false ∷ false ∷ false ∷ []
   calm_shown calm = sym devices_shown ∙ calm_ready b.machine.moment b.machine.home.owns b.machine.drivers calm
 
@@ -107,31 +108,34 @@ passed_board law b n small below h =
     let time = b.machine.moment.time in
     let start = b.machine.moment.settings.start in
     record {
+      machine = record {
+        lost = All-weaker (HasLost b.machine.moment.steps) (HasLost (b.machine.moment.steps + 1))
+            (λ o l. omega (arith, l)) b.machine.home.owns h.machine.lost;
+        guard = h.machine.guard;
+        driven = record {
+          queues = h.machine.driven.queues;
+          within = h.machine.driven.within;
+          leds = h.machine.driven.leds;
+          buttons = h.machine.driven.buttons;
+          size = h.machine.driven.size;
+          slots = h.machine.driven.slots;
+          ticks = h.machine.driven.ticks;
+          free = later_free time (time + n) b.machine.drivers (omega arith) h.machine.driven.free;
+        };
+        lanes = h.machine.lanes;
+        served = few_still b.machine.moment.steps (b.machine.moment.steps + 1) b.machine.drivers.stores.served
+            (omega arith) h.machine.served;
+        steps = omega (arith, below);
+        time = omega (arith, h.machine.time, small);
+        calm = later_calm start b.machine.moment.window time (time + n) b.machine.calm b.machine.home.owns
+            b.machine.drivers (omega arith) h.machine.calm;
+        alarms = all_later law start time n b.machine.alarms b.machine.home.owns h.machine.alarms;
+      };
       seated = All-weaker (IsResident b.machine.home.flash b.machine.moment.steps)
           (IsResident b.machine.home.flash (b.machine.moment.steps + 1))
           (rests_seated b.machine.home.flash b.machine.moment.steps) (residents b) h.seated;
-      lost = All-weaker (HasLost b.machine.moment.steps) (HasLost (b.machine.moment.steps + 1))
-          (λ o l. omega (arith, l)) b.machine.home.owns h.lost;
       owns = h.owns;
       few = h.few;
-      guard = h.guard;
-      driven = record {
-        queues = h.driven.queues;
-        within = h.driven.within;
-        leds = h.driven.leds;
-        buttons = h.driven.buttons;
-        size = h.driven.size;
-        slots = h.driven.slots;
-        ticks = h.driven.ticks;
-        free = later_free time (time + n) b.machine.drivers (omega arith) h.driven.free;
-      };
-      lanes = h.lanes;
-      served = few_still b.machine.moment.steps (b.machine.moment.steps + 1) b.machine.drivers.stores.served
-          (omega arith) h.served;
-      steps = omega (arith, below);
-      time = omega (arith, h.time, small);
-      calm = later_calm start b.machine.moment.window time (time + n) b.calm b.machine.home.owns b.machine.drivers (omega arith) h.calm;
-      alarms = all_later law start time n b.alarms b.machine.home.owns h.alarms;
       ready = h.ready;
       slice = h.slice;
       used = h.used;

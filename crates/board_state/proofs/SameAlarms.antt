@@ -15,22 +15,7 @@ use Rattle.alarm_capsule.specs.Times.{AllTell, Tells}
 use Rattle.alarm_capsule.proofs.KeptTimes.{others_tell}
 use Rattle.board_drivers.specs.declared.drivers.Drivers.{Drivers}
 use Rattle.board_drivers.specs.Calm.{IsCalm}
-
--- a slot that is set has what it is set to, and every other has what it had
-pub set_same : {X : Type 0} (owns : List X) (slot : ℕ) (own o : X) → slice_get owns slot ≡ Some own
-    → slice_get (slice_set owns slot o) slot ≡ Some o
-set_same [] slot own o e = cc
-set_same (x ∷ xs) zero own o e = refl
-set_same (x ∷ xs) (suc slot) own o e = set_same xs slot own o e
-
-pub set_other : {X : Type 0} (owns : List X) (slot other : ℕ) (o : X) → other ≢ slot
-    → slice_get (slice_set owns slot o) other ≡ slice_get owns other
-set_other [] slot other o apart = refl
-set_other (x ∷ xs) zero zero o apart = absurd (apart refl)
-set_other (x ∷ xs) zero (suc other) o apart = refl
-set_other (x ∷ xs) (suc slot) zero o apart = refl
-set_other (x ∷ xs) (suc slot) (suc other) o apart =
-    set_other xs slot other o (λ same. apart (ap suc same))
+use Rattle.board_turns.proofs.TurnsKept.{set_other, set_same}
 
 -- what is told of its alarm stays true
 same_alarm_tells : (now time : ℕ) (kept : Option ℕ) (own o : Own) → HasSameAlarm own o

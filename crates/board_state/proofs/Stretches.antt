@@ -3,7 +3,8 @@ use Rattle.board_devices.specs.Clock.{clock_at}
 use Rattle.alarm_capsule.proofs.KeptTimes.{all_later, kept_tell}
 use Rattle.driver_model.specs.Laws.{TimeBringsNearer}
 use Rattle.std.proofs.Common.{◌≡◌, ℕ, zero, suc, ◌+◌, ◌-◌, ◌<◌, ◌≤◌, Bool, true, false, List, [], ◌∷◌, length, map}
-use Rattle.std.proofs.Common.{◌||◌, cond, find, is_some, slice_get, slice_set, All, Option, None, Some, refl, sym, ap, ap₂, subst, ◌∙◌, arith}
+use Rattle.std.proofs.Common.{◌||◌, cond, find, is_some, slice_get, slice_set, All, Option, None, Some, refl, sym, ap}
+use Rattle.std.proofs.Common.{ap₂, subst, ◌∙◌, arith}
 use Rattle.process_model.specs.Own.{Own}
 use Rattle.process_record.specs.declared.process.Process.{Process}
 use Rattle.rv32_model.specs.declared.turn_end.TurnEnd.{TurnEnd}
@@ -66,8 +67,8 @@ use Rattle.board_turns.proofs.Quiet.{own_after, none_more, kept_own}
 use Rattle.board_turns.specs.declared.machine.Machine.{Machine}
 use Rattle.upcall_queue.specs.Pending.{due}
 use Rattle.kernel_model.specs.Turn.{has_turn}
-use Rattle.board_state.specs.ReadySlots.{TurnsTell}
-use Rattle.board_state.proofs.TurnsKept.{still_ready}
+use Rattle.board_turns.specs.ReadySlots.{TurnsTell}
+use Rattle.board_turns.proofs.TurnsKept.{still_ready}
 
 -- drivers of which nothing is asked, and who waits, while a process's RAM changes and time passes
 pub ram_driven : (settings : Settings) (time later slot : ℕ) (owns : List Own) (d : Drivers) (own : Own) (ram : List ℕ)
@@ -110,9 +111,10 @@ pub record StillHolds (b : BoardState) (k : ℕ) (home : Homes) (processes : Lis
   pub owns : length home.owns ≡ length processes
   pub few : length processes ≤ SLOT_COUNT
   pub driven : AreDriven b.machine.moment.settings (b.machine.moment.time + k) home.owns b.machine.drivers
-  pub calm : IsCalm b.machine.moment.settings.start b.machine.moment.window (b.machine.moment.time + k) b.calm home.owns b.machine.drivers
-  pub alarms : TimeBringsNearer → AlarmsTell (turns_later k b.machine.moment) b.alarms home.owns
-  pub ready : TurnsTell b.ready (zip processes home.owns)
+  pub calm : IsCalm b.machine.moment.settings.start b.machine.moment.window (b.machine.moment.time + k) b.machine.calm
+      home.owns b.machine.drivers
+  pub alarms : TimeBringsNearer → AlarmsTell (turns_later k b.machine.moment) b.machine.alarms home.owns
+  pub ready : TurnsTell b.machine.ready (zip processes home.owns)
 
 set-same : {X : Type 0} (xs : List X) (i : ℕ) (x : X) → slice_get xs i ≡ Some x → slice_set xs i x ≡ xs
 set-same xs i x e = ap (slice_set xs i) (sym (get_or_from_slice_get xs i x x e)) ∙ set-get_or xs i x
@@ -197,7 +199,7 @@ module _ (b : BoardState) (board : IsBoard b) where
       b.machine.drivers.buttons.pressed (residents b) b.machine.drivers.stores.slots
       (beside b.processes.items b.machine.home.owns b.machine.drivers.stores.slots
       board.owns board.few
-      board.driven.slots) (λ p. refl))
+      board.machine.driven.slots) (λ p. refl))
       ∙ slice_get-map (λ (r : Resident). r.0) (residents b) slot
       ∙ sym (get-firsts b.processes.items b.machine.home.owns slot board.owns)
 
@@ -227,7 +229,8 @@ module _ (b : BoardState) (board : IsBoard b) where
       not_yet None ahead come = come
       not_yet (Some n) ahead come = omega (arith, ahead, come)
 
-      nearer_lies : (at : Option ℕ) (end : ℕ) → Lies b.machine.moment.time (nearer at (Some end)) → Lies b.machine.moment.time at
+      nearer_lies : (at : Option ℕ) (end : ℕ) → Lies b.machine.moment.time (nearer at (Some end)) → Lies
+          b.machine.moment.time at
       nearer_lies None end ahead = tt
       nearer_lies (Some n) end ahead = omega (arith, ahead)
 
@@ -237,7 +240,8 @@ module _ (b : BoardState) (board : IsBoard b) where
       not_both (suc n) at e ahead come =
           let end = window_end b.machine.moment.time (suc n) in
           not_yet at (subst (Lies b.machine.moment.time) e (nearer_lies (work_of (world_of b)).next end
-          (subst (λ (left : Bool). Lies b.machine.moment.time (cond left (nearer (work_of (world_of b)).next (Some end)) None))
+          (subst (λ (left : Bool). Lies b.machine.moment.time
+          (cond left (nearer (work_of (world_of b)).next (Some end)) None))
           (left_there g) ahead))) come
 
   -- where the process that has the next turn does not run, no stretch goes on
@@ -256,7 +260,7 @@ module _ (b : BoardState) (board : IsBoard b) where
       (q : QuietAt k most end slot b.machine x b.processes.items processes) where
     few : length (residents b) ≤ length b.machine.drivers.stores.slots
     few = beside b.processes.items b.machine.home.owns b.machine.drivers.stores.slots board.owns board.few
-        board.driven.slots
+        board.machine.driven.slots
 
     abbrev pressed : ℕ
     pressed = b.machine.drivers.buttons.pressed
@@ -283,25 +287,26 @@ module _ (b : BoardState) (board : IsBoard b) where
         ∙ ap (λ (owns : List Own). slice_set owns slot (after_instructions j before).own) (owns_in_world b board)
 
     -- on the way no device step is ready
-    none_acts : b.machine.moment.time + k ≤ b.calm → NoneActs k (world_of b) slot before
+    none_acts : b.machine.moment.time + k ≤ b.machine.calm → NoneActs k (world_of b) slot before
     unfolding ready_device
     none_acts until j h =
         let then = (after_instructions j before).own in
         let m = turns_later j b.machine.moment in
-        let calm = (kept_calm m.settings.start m.window b.machine.moment.time b.calm slot b.machine.home.owns b.machine.drivers
+        let calm = (kept_calm m.settings.start m.window b.machine.moment.time b.machine.calm slot b.machine.home.owns
+        b.machine.drivers
         q.at.before.1
         then q.at.own_was (ap (λ (o : Own). o.grants) (own_after j before))
-        (ap (λ (o : Own). o.lives) (own_after j before)) board.calm).none m.time (omega arith)
+        (ap (λ (o : Own). o.lives) (own_after j before)) board.machine.calm).none m.time (omega arith)
         (omega (arith, h, until)) in
         ap ready_device (ap (λ (owns : List Own). ready_in m owns b.machine.drivers) (owns_then j)
         ∙ calm_ready m (slice_set b.machine.home.owns slot then) b.machine.drivers calm)
 
     -- and with time partitions the slot's window lasts
-    lets_on : next (world_of b) ≡ Some (Run slot) → b.machine.moment.time + k ≤ b.calm
+    lets_on : next (world_of b) ≡ Some (Run slot) → b.machine.moment.time + k ≤ b.machine.calm
         → IsLetOnTheWay k (at_turn (world_of b) slot) slot
     lets_on f until j h =
         ap (λ (only : Option ℕ). is_let only slot)
-        (board.calm.same (b.machine.moment.time + j) (omega arith) (omega (arith, h, until)))
+        (board.machine.calm.same (b.machine.moment.time + j) (omega arith) (omega (arith, h, until)))
         ∙ turn_is_let (world_of b) slot f
 
     -- the world after the turns, which took so many ticks
@@ -362,7 +367,7 @@ module _ (b : BoardState) (board : IsBoard b) where
     -- some are a stretch
     module _ (f : next (world_of b) ≡ Some (Run slot)) (runs : is_running q.at.before.0.state ≡ true) (first : ℕ)
         (begins : first ≡ used_after b.present b.used b.slice slot - 1) (lasts : first + k ≤ b.slice)
-        (until : b.machine.moment.time + k ≤ b.calm) (limit : b.machine.moment.steps + k ≤ STEP_LIMIT)
+        (until : b.machine.moment.time + k ≤ b.machine.calm) (limit : b.machine.moment.steps + k ≤ STEP_LIMIT)
         (none : k ≡ 0 → (present ≡ b.present) × (used ≡ b.used))
         (some : 0 < k → (present ≡ Some slot) × (used ≡ first + k)) where
       -- the process is not held, since it has the next turn
@@ -411,13 +416,13 @@ module _ (b : BoardState) (board : IsBoard b) where
       after_free = ap (λ (r : Record). r.process.held) (q.quiet.leads pressed storage) ∙ still_free k before ∙ free
 
       -- the slot is let then, where the window lasts
-      still_let : b.machine.moment.time + k < b.calm → is_let (only_in world_then) slot ≡ true
+      still_let : b.machine.moment.time + k < b.machine.calm → is_let (only_in world_then) slot ≡ true
       still_let below =
           ap (λ (only : Option ℕ). is_let only slot)
-          (board.calm.same (b.machine.moment.time + k) (omega arith) below) ∙ turn_is_let (world_of b) slot f
+          (board.machine.calm.same (b.machine.moment.time + k) (omega arith) below) ∙ turn_is_let (world_of b) slot f
 
       -- who has the next turn then, where turns are left in the slice and the window lasts
-      turn_stays : PresentStaysOn → (n : ℕ) → n ≡ k → first + k < b.slice → b.machine.moment.time + k < b.calm
+      turn_stays : PresentStaysOn → (n : ℕ) → n ≡ k → first + k < b.slice → b.machine.moment.time + k < b.machine.calm
           → (other : ℕ) → next world_then ≡ Some (Run other) → slot ≡ other
       turn_stays law zero e u below other g =
           let there = none (sym e) in
@@ -432,7 +437,7 @@ module _ (b : BoardState) (board : IsBoard b) where
 
       -- and it is the next choice, where no turns were made, or no device step is ready
       stays_next : PresentStaysOn → (n : ℕ) → n ≡ k → (0 < k → first + k < b.slice)
-          → (0 < k → b.machine.moment.time + k < b.calm)
+          → (0 < k → b.machine.moment.time + k < b.machine.calm)
           → (0 < k → ready_devices world_then ≡ false ∷ false ∷ false ∷ false ∷ false ∷ false ∷ [])
           → Some (Run slot) ≡ next world_then
       stays_next law zero e u below calm =
@@ -445,7 +450,7 @@ module _ (b : BoardState) (board : IsBoard b) where
           (still_let (below more))))
 
       pub next_stays : PresentStaysOn → (ticks left : ℕ) → ticks ≡ k → k ≤ left → (left ≤ k → left ≡ 0)
-          → first + left ≤ b.slice → b.machine.moment.time + left ≤ b.calm
+          → first + left ≤ b.slice → b.machine.moment.time + left ≤ b.machine.calm
           → (k < left → ready_devices (world_after_ticks ticks) ≡ false ∷ false ∷ false ∷ false ∷ false ∷ false ∷ [])
           → Some (Run slot) ≡ next (world_after_ticks ticks)
       next_stays law ticks left is made ends last within calm =
@@ -461,7 +466,7 @@ module _ (b : BoardState) (board : IsBoard b) where
           fewer more = omega (arith, not_all more)
 
       -- where the turns are fewer than were left, the stretch does not go on
-      stops_there : PresentStaysOn → first + most ≤ b.slice → b.machine.moment.time + most ≤ b.calm → k < most
+      stops_there : PresentStaysOn → first + most ≤ b.slice → b.machine.moment.time + most ≤ b.machine.calm → k < most
           → GoesOn world_then → ⊥
       stops_there law last within fewer g =
           let at : slot ≡ g.slot = turn_stays law k refl (omega (arith, last, fewer)) (omega (arith, within, fewer))
@@ -472,7 +477,7 @@ module _ (b : BoardState) (board : IsBoard b) where
 
       -- nor where none were left
       pub ends_shown : PresentStaysOn → (ticks asked until : ℕ) → ticks ≡ k → k ≤ most → (most ≤ k → most ≡ 0)
-          → first + most ≤ b.slice → b.machine.moment.time + most ≤ b.calm → first < b.slice
+          → first + most ≤ b.slice → b.machine.moment.time + most ≤ b.machine.calm → first < b.slice
           → b.machine.moment.time < until → 0 < asked
           → (most < asked → first + most < b.slice → b.machine.moment.steps + most < STEP_LIMIT
           → b.machine.moment.time + most < until
@@ -501,8 +506,8 @@ module _ (b : BoardState) (board : IsBoard b) where
           (omega (
             arith,
             ap (λ (o : Own). o.inbox.dropped) kept,
-            lost_where b.machine.moment.steps b.machine.home.owns slot q.at.before.1 q.at.own_was board.lost,
-          )) board.lost;
+            lost_where b.machine.moment.steps b.machine.home.owns slot q.at.before.1 q.at.own_was board.machine.lost,
+          )) board.machine.lost;
       owns = as_many_owns slot b.machine.home x.home b.processes.items processes q.at ∙ board.owns ∙ many;
       few = omega (arith, many, board.few);
       driven = subst (λ (h : Homes). AreDriven b.machine.moment.settings (b.machine.moment.time + k) h.owns
@@ -512,27 +517,29 @@ module _ (b : BoardState) (board : IsBoard b) where
           (sym kept)
           (ram_driven b.machine.moment.settings b.machine.moment.time (b.machine.moment.time + k) slot
           b.machine.home.owns b.machine.drivers q.at.before.1
-          q.at.after.1.ram q.at.own_was (omega arith) board.driven));
-      calm = subst (λ (h : Homes). IsCalm b.machine.moment.settings.start b.machine.moment.window (b.machine.moment.time + k) b.calm h.owns
+          q.at.after.1.ram q.at.own_was (omega arith) board.machine.driven));
+      calm = subst (λ (h : Homes). IsCalm b.machine.moment.settings.start b.machine.moment.window
+          (b.machine.moment.time + k) b.machine.calm h.owns
           b.machine.drivers)
           (sym q.at.own_is)
-          (kept_calm b.machine.moment.settings.start b.machine.moment.window (b.machine.moment.time + k) b.calm slot b.machine.home.owns
+          (kept_calm b.machine.moment.settings.start b.machine.moment.window (b.machine.moment.time + k) b.machine.calm
+          slot b.machine.home.owns
           b.machine.drivers q.at.before.1
           q.at.after.1 q.at.own_was (ap (λ (o : Own). o.grants) kept) (ap (λ (o : Own). o.lives) kept)
           (later_calm b.machine.moment.settings.start b.machine.moment.window b.machine.moment.time
-          (b.machine.moment.time + k) b.calm
+          (b.machine.moment.time + k) b.machine.calm
           b.machine.home.owns b.machine.drivers
-          (omega arith) board.calm));
+          (omega arith) board.machine.calm));
       alarms = λ law.
-          subst (λ (h : Homes). AlarmsTell (turns_later k b.machine.moment) b.alarms h.owns) (sym q.at.own_is)
+          subst (λ (h : Homes). AlarmsTell (turns_later k b.machine.moment) b.machine.alarms h.owns) (sym q.at.own_is)
           (kept_tell (clock_at b.machine.moment.settings.start (b.machine.moment.time + k))
-          (b.machine.moment.time + k) slot b.alarms b.machine.home.owns q.at.before.1 q.at.after.1 q.at.own_was
+          (b.machine.moment.time + k) slot b.machine.alarms b.machine.home.owns q.at.before.1 q.at.after.1 q.at.own_was
           (ap (λ (o : Own). o.grants) kept) (ap (λ (o : Own). o.lives) kept)
-          (all_later law b.machine.moment.settings.start b.machine.moment.time k b.alarms b.machine.home.owns
-          board.alarms));
-      ready = subst (TurnsTell b.ready)
+          (all_later law b.machine.moment.settings.start b.machine.moment.time k b.machine.alarms b.machine.home.owns
+          board.machine.alarms));
+      ready = subst (TurnsTell b.machine.ready)
           (sym (residents_after slot b.machine.home x.home b.processes.items processes q.at))
-          (still_ready slot b.ready (residents b) q.at.before q.at.after
+          (still_ready slot b.machine.ready (residents b) q.at.before q.at.after
           (resident_was slot b.machine.home x.home b.processes.items processes q.at) turns_as_before board.ready);
     }
       where
@@ -565,21 +572,24 @@ runs_within processes slot e = by_process (slice_get processes slot) refl e
 
 -- a board that looked up to when no device step is ready
 pub looked_ahead : (b : BoardState) (calm : ℕ) → IsBoard b
-    → IsCalm b.machine.moment.settings.start b.machine.moment.window b.machine.moment.time calm b.machine.home.owns b.machine.drivers
-    → IsBoard (record b { calm = calm })
+    → IsCalm b.machine.moment.settings.start b.machine.moment.window b.machine.moment.time calm b.machine.home.owns
+    b.machine.drivers
+    → IsBoard (record b { machine = record b.machine { calm = calm } })
 looked_ahead b calm board is = record {
+  machine = record {
+    lost = board.machine.lost;
+    guard = board.machine.guard;
+    driven = board.machine.driven;
+    lanes = board.machine.lanes;
+    served = board.machine.served;
+    steps = board.machine.steps;
+    time = board.machine.time;
+    calm = is;
+    alarms = board.machine.alarms;
+  };
   seated = board.seated;
-  lost = board.lost;
   owns = board.owns;
   few = board.few;
-  guard = board.guard;
-  driven = board.driven;
-  lanes = board.lanes;
-  served = board.served;
-  steps = board.steps;
-  time = board.time;
-  calm = is;
-  alarms = board.alarms;
   ready = board.ready;
   slice = board.slice;
   used = board.used;

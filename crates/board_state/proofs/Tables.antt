@@ -1,5 +1,6 @@
 -- Tables that are filled slot by slot.
-use Rattle.std.proofs.Common.{◌≡◌, ℕ, zero, suc, slice_get, ◌+◌, ◌<◌, ◌≤◌, Bool, List, [], ◌∷◌, ◌++◌, length, map, take, slice_index_or}
+use Rattle.std.proofs.Common.{◌≡◌, ℕ, zero, suc, slice_get, ◌+◌, ◌<◌, ◌≤◌, Bool, List, [], ◌∷◌, ◌++◌, length, map, take}
+use Rattle.std.proofs.Common.{slice_index_or}
 use Rattle.std.proofs.Common.{find, is_some, true, ◌-◌, Option, None, Some, refl, sym, ap, ◌∙◌, add-one, arith, false}
 use Rattle.std.specs.List.{range_with_len}
 use Rattle.std.proofs.Math.Seq.{take-suc}
@@ -47,7 +48,8 @@ turn_flag (r ∷ rs) zero = refl
 turn_flag (r ∷ rs) (suc slot) = turn_flag rs slot
 
 -- the first of a range that passes is found, and none of an empty one
-first_found : (p : ℕ → Bool) (from n m : ℕ) → n ≡ suc m → p from ≡ true → is_some (find p (range_with_len from n)) ≡ true
+first_found : (p : ℕ → Bool) (from n m : ℕ) → n ≡ suc m → p from ≡ true → is_some (find p (range_with_len from n)) ≡
+    true
 first_found p from n m e f = rw (e, f) refl
 
 pub found_here : (p : ℕ → Bool) (slot to : ℕ) → slot < to → p slot ≡ true

@@ -14,7 +14,8 @@ use Rattle.tk_base.specs.declared.access.Denial.{Denial}
 use Rattle.driver_model.specs.Alarm.{ticks_left_in}
 use Rattle.std.proofs.Common.{◌≡◌, ℕ, ◌+◌, ◌<◌, ◌≤◌, ◌&&◌, not, Bool, true, false, if◌then◌else◌, List, [], length}
 use Rattle.std.proofs.Common.{All, slice_get}
-use Rattle.std.proofs.Common.{slice_set, is_some, Option, None, Some, Result, Ok, Err, refl, sym, ap, ap₂, subst, ◌∙◌, arith}
+use Rattle.std.proofs.Common.{slice_set, is_some, Option, None, Some, Result, Ok, Err, refl, sym, ap, ap₂, subst, ◌∙◌}
+use Rattle.std.proofs.Common.{arith}
 use Rattle.std.proofs.lemmas.List.Elements.{All-set}
 use Rattle.std.proofs.lemmas.Option.{slice_get_within, get_or_from_slice_get}
 use Rattle.tbf_headers.specs.declared.fault.HeaderFault.{HeaderFault}
@@ -59,7 +60,7 @@ use Rattle.board_drivers.proofs.Lines.{line_after}
 use Rattle.board_drivers.proofs.Pairs.{zip-get}
 use Rattle.board_turns.proofs.Turns.{loses_one}
 use Rattle.board_turns.specs.declared.machine.Machine.{Machine}
-use Rattle.board_state.specs.ReadySlots.{TurnsTell}
+use Rattle.board_turns.specs.ReadySlots.{TurnsTell}
 
 -- an application that started can start again
 pub can_start_again : (address : ℕ) (e : Bounds) (read : Result Meaning HeaderFault) → IsApplication address e read
@@ -84,11 +85,12 @@ no_request queue own none =
 pub may_serve : (b : BoardState) (slot : ℕ) → IsBoard b → slot < length b.machine.home.owns
     → MayServe b.machine.moment b.machine.drivers slot (own_of b.machine.home slot)
 may_serve b slot h there = record {
-  asks = λ queue none. (h.driven.queues queue).each slot there ∙ no_request queue (own_of b.machine.home slot) none;
-  lost = lost_there b.machine.moment.steps b.machine.home slot h.lost;
-  leds = h.driven.leds;
-  buttons = h.driven.buttons;
-  size = h.driven.size;
+  asks = λ queue none. (h.machine.driven.queues queue).each slot there ∙ no_request queue (own_of b.machine.home slot)
+      none;
+  lost = lost_there b.machine.moment.steps b.machine.home slot h.machine.lost;
+  leds = h.machine.driven.leds;
+  buttons = h.machine.driven.buttons;
+  size = h.machine.driven.size;
 }
 
 module _ (b : BoardState) (slot : ℕ) (x : Machine) (processes : List Process) (shown : Shown) (h : IsBoard b)
@@ -151,31 +153,32 @@ module _ (b : BoardState) (slot : ℕ) (x : Machine) (processes : List Process) 
 
   -- and where its call did not act, it stays calm
   pub turn_stays_calm : QuietTurnsLeaveAlarms → may_have_acted shown.call None ≡ false
-      → IsCalm b.machine.moment.settings.start b.machine.moment.window (b.machine.moment.time + 1) b.calm x.home.owns
+      → IsCalm b.machine.moment.settings.start b.machine.moment.window (b.machine.moment.time + 1) b.machine.calm
+      x.home.owns
       x.drivers
   turn_stays_calm law quiet =
       subst (λ (y : Homes). IsCalm b.machine.moment.settings.start b.machine.moment.window (b.machine.moment.time + 1)
-      b.calm y.owns x.drivers) (sym t.at.own_is) (by_denial shown.denial refl)
+      b.machine.calm y.owns x.drivers) (sym t.at.own_is) (by_denial shown.denial refl)
     where
-      later : IsCalm b.machine.moment.settings.start b.machine.moment.window (b.machine.moment.time + 1) b.calm
+      later : IsCalm b.machine.moment.settings.start b.machine.moment.window (b.machine.moment.time + 1) b.machine.calm
           b.machine.home.owns b.machine.drivers
       later = later_calm b.machine.moment.settings.start b.machine.moment.window b.machine.moment.time
-          (b.machine.moment.time + 1) b.calm b.machine.home.owns b.machine.drivers (omega arith) h.calm
+          (b.machine.moment.time + 1) b.machine.calm b.machine.home.owns b.machine.drivers (omega arith) h.machine.calm
 
       by_denial : (denial : Option Denial) → shown.denial ≡ denial
-          → IsCalm b.machine.moment.settings.start b.machine.moment.window (b.machine.moment.time + 1) b.calm
+          → IsCalm b.machine.moment.settings.start b.machine.moment.window (b.machine.moment.time + 1) b.machine.calm
           (slice_set b.machine.home.owns slot t.at.after.1) x.drivers
       by_denial None is =
           let leaves = turn_is_idle law (ap (may_have_acted shown.call) is ∙ quiet) in
           same_alarms_calm slot b.machine.home.owns t.at.before.1 t.at.after.1 t.at.own_was leaves.0
-          b.machine.moment.settings.start b.machine.moment.window (b.machine.moment.time + 1) b.calm x.drivers
-          (idle_calm b.machine.moment.settings.start b.machine.moment.window (b.machine.moment.time + 1) b.calm
+          b.machine.moment.settings.start b.machine.moment.window (b.machine.moment.time + 1) b.machine.calm x.drivers
+          (idle_calm b.machine.moment.settings.start b.machine.moment.window (b.machine.moment.time + 1) b.machine.calm
           b.machine.home.owns (id_of slot t.at.before.1) b.machine.drivers x.drivers leaves.1 later)
       by_denial (Some denial) is =
           let leaves = turn_is_denied (ap is_some is) in
           unarmed_calm slot b.machine.home.owns t.at.before.1 t.at.after.1 t.at.own_was leaves.0
-          b.machine.moment.settings.start b.machine.moment.window (b.machine.moment.time + 1) b.calm x.drivers
-          (gone_calm b.machine.moment.settings.start b.machine.moment.window (b.machine.moment.time + 1) b.calm
+          b.machine.moment.settings.start b.machine.moment.window (b.machine.moment.time + 1) b.machine.calm x.drivers
+          (gone_calm b.machine.moment.settings.start b.machine.moment.window (b.machine.moment.time + 1) b.machine.calm
           b.machine.home.owns (id_of slot t.at.before.1) b.machine.drivers x.drivers leaves.1 later)
 
   -- the serial lines go on
@@ -196,7 +199,7 @@ module _ (b : BoardState) (slot : ℕ) (x : Machine) (processes : List Process) 
         (sym (drives.queues queue))
         (line_after queue (ids_waiting_in b.machine.drivers queue) b.machine.home.owns slot t.at.before.1 t.at.after.1
         turn.acts
-        (h.driven.queues queue) t.at.own_was (keeps.lines queue) (keeps.life queue))
+        (h.machine.driven.queues queue) t.at.own_was (keeps.lines queue) (keeps.life queue))
 
     -- who waits has a request then, and no other
     turn_driven : AreDriven b.machine.moment.settings (b.machine.moment.time + 1) x.home.owns x.drivers
@@ -206,52 +209,56 @@ module _ (b : BoardState) (slot : ℕ) (x : Machine) (processes : List Process) 
           queues = line_is;
           within = All-set (IsWithin b.machine.moment.settings.storage) b.machine.home.owns slot t.at.after.1
               (keeps.within before_within)
-              h.driven.within;
-          leds = drives.lit ∙ h.driven.leds;
-          buttons = ap (λ (s : ButtonsView). s.count) drives.buttons ∙ h.driven.buttons;
-          size = ap (λ (s : _). s.size) drives.bytes ∙ h.driven.size;
-          slots = ap (λ (s : _). length s.slots) drives.bytes ∙ h.driven.slots;
-          ticks = same_ticks b.machine.drivers x.drivers drives.lines h.driven.ticks;
+              h.machine.driven.within;
+          leds = drives.lit ∙ h.machine.driven.leds;
+          buttons = ap (λ (s : ButtonsView). s.count) drives.buttons ∙ h.machine.driven.buttons;
+          size = ap (λ (s : _). s.size) drives.bytes ∙ h.machine.driven.size;
+          slots = ap (λ (s : _). length s.slots) drives.bytes ∙ h.machine.driven.slots;
+          ticks = same_ticks b.machine.drivers x.drivers drives.lines h.machine.driven.ticks;
           free = same_free (b.machine.moment.time + 1) b.machine.drivers x.drivers drives.lines
               (later_free b.machine.moment.time (b.machine.moment.time + 1) b.machine.drivers (omega arith)
-              h.driven.free);
+              h.machine.driven.free);
         })
       where
         before_within : IsWithin b.machine.moment.settings.storage t.at.before.1
         before_within =
             subst (IsWithin b.machine.moment.settings.storage)
             (get_or_from_slice_get b.machine.home.owns slot t.at.before.1 nobody t.at.own_was)
-            (h.driven.within slot nobody (slice_get_within b.machine.home.owns slot t.at.before.1 t.at.own_was))
+            (h.machine.driven.within slot nobody (slice_get_within b.machine.home.owns slot t.at.before.1 t.at.own_was))
 
   -- there are the same lanes
   lanes_stay : HasLanes b.machine.moment.window x.drivers
-  lanes_stay = same_lanes b.machine.moment.window b.machine.drivers x.drivers drives.lines drives.words drives.bytes h.lanes
+  lanes_stay = same_lanes b.machine.moment.window b.machine.drivers x.drivers drives.lines drives.words drives.bytes
+      h.machine.lanes
 
   -- it served as many requests as before
   served_stays : All (λ count. count ≤ b.machine.moment.steps + 1) x.drivers.stores.served
   served_stays = few_still b.machine.moment.steps (b.machine.moment.steps + 1) x.drivers.stores.served (omega arith)
-      (subst (λ (s : StoredSlots). All (λ count. count ≤ b.machine.moment.steps) s.served) (sym drives.bytes) h.served)
+      (subst (λ (s : StoredSlots). All (λ count. count ≤ b.machine.moment.steps) s.served) (sym drives.bytes)
+      h.machine.served)
 
   -- what is told of the alarms of all other processes stays true, a tick later
   pub others_later : TimeBringsNearer
       → OthersTell slot (clock_at b.machine.moment.settings.start (b.machine.moment.time + 1))
-      (b.machine.moment.time + 1) b.alarms x.home.owns
+      (b.machine.moment.time + 1) b.machine.alarms x.home.owns
   others_later law =
       let start = b.machine.moment.settings.start in
       let time = b.machine.moment.time in
-      subst (λ (y : Homes). OthersTell slot (clock_at start (time + 1)) (time + 1) b.alarms y.owns) (sym t.at.own_is)
-      (others_tell (clock_at start (time + 1)) (time + 1) slot b.alarms b.machine.home.owns t.at.after.1
-      (all_later law start time 1 b.alarms b.machine.home.owns h.alarms))
+      subst (λ (y : Homes). OthersTell slot (clock_at start (time + 1)) (time + 1) b.machine.alarms y.owns)
+      (sym t.at.own_is)
+      (others_tell (clock_at start (time + 1)) (time + 1) slot b.machine.alarms b.machine.home.owns t.at.after.1
+      (all_later law start time 1 b.machine.alarms b.machine.home.owns h.machine.alarms))
 
   -- and of all, where its process has the same alarm
   pub alarms_later : TimeBringsNearer → HasSameAlarm t.at.before.1 t.at.after.1
-      → AlarmsTell (turn_later b.machine.moment) b.alarms x.home.owns
+      → AlarmsTell (turn_later b.machine.moment) b.machine.alarms x.home.owns
   alarms_later law same =
       let start = b.machine.moment.settings.start in
       let time = b.machine.moment.time in
-      subst (λ (y : Homes). AlarmsTell (turn_later b.machine.moment) b.alarms y.owns) (sym t.at.own_is)
+      subst (λ (y : Homes). AlarmsTell (turn_later b.machine.moment) b.machine.alarms y.owns) (sym t.at.own_is)
       (same_alarms_tell slot b.machine.home.owns t.at.before.1 t.at.after.1 t.at.own_was same
-      (clock_at start (time + 1)) (time + 1) b.alarms (all_later law start time 1 b.alarms b.machine.home.owns h.alarms))
+      (clock_at start (time + 1)) (time + 1) b.machine.alarms
+      (all_later law start time 1 b.machine.alarms b.machine.home.owns h.machine.alarms))
 
   -- a process that can have a turn lives
   turn_lives : can_turn_in (slice_get (residents b) slot) ≡ true → t.at.before.1.lives ≡ true
@@ -277,40 +284,45 @@ module _ (b a : BoardState) (slot : ℕ) (shown : Shown) (h : IsBoard b)
     (t : TurnsAt slot b.machine a.machine b.processes.items a.processes.items shown) where
   pub turned_board : (calm used : ℕ) (times : List (Option ℕ)) (ready : List Bool) → DropsAtMostOne → TurnsKeepLines
       → is_ready (world_of b) (Run slot) ≡ true
-      → IsCalm b.machine.moment.settings.start b.machine.moment.window (b.machine.moment.time + 1) calm a.machine.home.owns a.machine.drivers
+      → IsCalm b.machine.moment.settings.start b.machine.moment.window (b.machine.moment.time + 1) calm
+      a.machine.home.owns a.machine.drivers
       → AlarmsTell (turn_later b.machine.moment) times a.machine.home.owns
       → TurnsTell ready (zip a.processes.items a.machine.home.owns) → used ≤ b.slice
       → IsBoard (record b {
-        machine = record a.machine { moment = turn_later b.machine.moment };
+        machine = record a.machine {
+          moment = turn_later b.machine.moment;
+          alarms = times;
+          calm = calm;
+          ready = ready;
+        };
         processes = a.processes;
-        calm = calm;
-        alarms = times;
-        ready = ready;
         present = Some slot;
         used = used;
       })
   turned_board calm used times ready drops keeps may quiet tell turns within = record {
+    machine = record {
+      lost = still_lost b.machine.moment.steps slot b.machine.home a.machine.home t.at.after.1 t.at.own_is
+          (omega (
+            arith,
+            loses_one b.machine.moment slot b.machine.home.flash t.at.before t.at.after shown b.machine.drivers
+                a.machine.drivers drops
+                t.turns,
+            lost_where b.machine.moment.steps b.machine.home.owns slot t.at.before.1 t.at.own_was h.machine.lost,
+          )) h.machine.lost;
+      guard = t.guard;
+      driven = turn_driven b slot a.machine a.processes.items shown h t keeps lives;
+      lanes = lanes_stay b slot a.machine a.processes.items shown h t;
+      served = served_stays b slot a.machine a.processes.items shown h t;
+      steps = omega (arith, (ready_within b slot h may).0);
+      time = omega (arith, h.machine.time);
+      calm = quiet;
+      alarms = tell;
+    };
     seated = still_seated slot b.machine.home a.machine.home b.processes.items a.processes.items t.at
         b.machine.moment.steps t.seated h.seated;
-    lost = still_lost b.machine.moment.steps slot b.machine.home a.machine.home t.at.after.1 t.at.own_is
-        (omega (
-          arith,
-          loses_one b.machine.moment slot b.machine.home.flash t.at.before t.at.after shown b.machine.drivers
-              a.machine.drivers drops
-              t.turns,
-          lost_where b.machine.moment.steps b.machine.home.owns slot t.at.before.1 t.at.own_was h.lost,
-        )) h.lost;
     owns = as_many_owns slot b.machine.home a.machine.home b.processes.items a.processes.items t.at ∙ h.owns
         ∙ as_many slot b.machine.home a.machine.home b.processes.items a.processes.items t.at;
     few = omega (arith, as_many slot b.machine.home a.machine.home b.processes.items a.processes.items t.at, h.few);
-    guard = t.guard;
-    driven = turn_driven b slot a.machine a.processes.items shown h t keeps lives;
-    lanes = lanes_stay b slot a.machine a.processes.items shown h t;
-    served = served_stays b slot a.machine a.processes.items shown h t;
-    steps = omega (arith, (ready_within b slot h may).0);
-    time = omega (arith, h.time);
-    calm = quiet;
-    alarms = tell;
     ready = turns;
     slice = h.slice;
     used = within;

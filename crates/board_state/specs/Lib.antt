@@ -5,4 +5,3 @@ pub mod Makes
 pub mod PartsOf
 pub mod LanesOf
 pub mod KnownEnds
-pub mod ReadySlots

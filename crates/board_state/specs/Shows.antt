@@ -1,16 +1,15 @@
 -- The world that a board shows: what a board is to contracts. The invariant beside it is for proofs alone. It is this
 -- board's own.
-use Rattle.std.specs.Prelude.{◌≡◌, ◌≤◌, ◌*◌, ◌^◌, ℕ, List, length, map, All}
+use Rattle.std.specs.Prelude.{◌≡◌, ◌≤◌, ℕ, List, length, map, All}
 use Rattle.std.specs.List.{zip}
-use Rattle.tk_base.specs.declared.limits.TheConstants.{SLOT_COUNT, STEP_LIMIT}
+use Rattle.tk_base.specs.declared.limits.TheConstants.{SLOT_COUNT}
 use Rattle.kernel_model.specs.Record.{Record}
 use Rattle.kernel_model.specs.World.{World}
-use Rattle.board_turns.specs.Guards.{GuardsOnly}
-use Rattle.board_drivers.specs.Residents.{HasLost, Resident, record_of, IsResident}
-use Rattle.board_drivers.specs.Calm.{AlarmsTell, IsCalm}
-use Rattle.board_drivers.specs.Driven.{AreDriven, HasLanes, devices_of}
+use Rattle.board_turns.specs.Machines.{IsMachine}
+use Rattle.board_drivers.specs.Residents.{Resident, record_of, IsResident}
+use Rattle.board_drivers.specs.Driven.{devices_of}
 use Rattle.board_state.specs.declared.state.BoardState.{BoardState}
-use Rattle.board_state.specs.ReadySlots.{TurnsTell}
+use Rattle.board_turns.specs.ReadySlots.{TurnsTell}
 
 -- each process with what is its own
 abbrev pub residents : BoardState → List Resident
@@ -35,20 +34,12 @@ world_of b = record {
   present = record { slot = b.present; used = b.used };
 }
 
+-- what always holds of a board
 pub record IsBoard (b : BoardState) : Type 0 where
+  pub machine : IsMachine b.machine
   pub seated : All (IsResident b.machine.home.flash b.machine.moment.steps) (residents b)
-  pub lost : All (HasLost b.machine.moment.steps) b.machine.home.owns
   pub owns : length b.machine.home.owns ≡ length b.processes.items
   pub few : length b.processes.items ≤ SLOT_COUNT
-  pub guard : GuardsOnly b.machine.guard b.machine.home
-  pub driven : AreDriven b.machine.moment.settings b.machine.moment.time b.machine.home.owns b.machine.drivers
-  pub lanes : HasLanes b.machine.moment.window b.machine.drivers
-  pub served : All (λ count. count ≤ b.machine.moment.steps) b.machine.drivers.stores.served
-  pub steps : b.machine.moment.steps ≤ STEP_LIMIT
-  pub time : b.machine.moment.time ≤ b.machine.moment.steps * 2 ^ 32
-  pub calm : IsCalm b.machine.moment.settings.start b.machine.moment.window b.machine.moment.time b.calm
-      b.machine.home.owns b.machine.drivers
-  pub alarms : AlarmsTell b.machine.moment b.alarms b.machine.home.owns
-  pub ready : TurnsTell b.ready (residents b)
+  pub ready : TurnsTell b.machine.ready (residents b)
   pub slice : 1 ≤ b.slice
   pub used : b.used ≤ b.slice

@@ -9,10 +9,10 @@ ghost use Rattle.kernel_model.specs.Parts.{work_for};
 ghost use Rattle.kernel_model.specs.Named.{can_run};
 ghost use Rattle.board_state.specs.Shows.{IsBoard, world_of};
 
-use crate::ready_slots::can_run;
 use crate::state::BoardState;
 use alarm_capsule::nearer_time;
 use board_drivers::Served;
+use board_turns::can_run;
 use tk_base::{Dev, SLOT_COUNT, Slot};
 
 /// Whether a device step is ready for a slot alone.
@@ -21,13 +21,7 @@ pub(crate) fn is_ready_alone(state: &BoardState, slot: Slot, device: Dev) -> boo
     ensures { result ≡ (work_for (world_of state.now) slot).ready device }
 {
     let served = Served { only: Some(slot) };
-    state.machine.moment.is_ready_for(
-        &state.machine.home,
-        &state.alarms,
-        &state.machine.drivers,
-        &served,
-        device,
-    )
+    state.machine.is_ready_for(&served, device)
 }
 
 /// Whether one is that looks at the time.
@@ -67,13 +61,7 @@ fn has_next_alone(state: &BoardState, slot: Slot) -> bool
     ensures { result ≡ is_some (work_for (world_of state.now) slot).next }
 {
     let served = Served { only: Some(slot) };
-    let next = state.machine.moment.next_time_for(
-        &state.machine.home,
-        &state.alarms,
-        &state.machine.drivers,
-        &served,
-    );
-    next.is_some()
+    state.machine.next_time_for(&served).is_some()
 }
 
 /// Whether a device step is ready for a slot, or becomes so.
@@ -123,9 +111,8 @@ pub fn time_ahead(state: &BoardState) -> Option<u64>
     ensures at { result ≡ next_time (world_of state.now) }
     ensures near { IfSome result (λ at. at - (world_of state.now).clock.time < 2 ^ 32) }
 {
-    let moment = &state.machine.moment;
-    let next = moment.next_time(&state.machine.home, &state.alarms, &state.machine.drivers);
-    let Some(end) = moment.window_end() else {
+    let next = state.machine.next_time();
+    let Some(end) = state.machine.moment.window_end() else {
         return next;
     };
     if !is_left(state) {

@@ -3,26 +3,22 @@
 //! is read of them.
 #![tactic(auto)]
 
-mod ahead;
 mod left;
 mod lines;
 mod operator;
-mod ready_slots;
 mod settings;
 mod shown;
 mod slices;
+mod standard;
 mod state;
 mod turns;
-mod windows;
 
-pub use ahead::{calm_ahead, devices_ready, forget_fired};
 pub use left::time_ahead;
 pub use lines::summary;
 pub use operator::{act_meant, operate};
-pub use ready_slots::ReadySlots;
 pub use settings::settings_of;
 pub use shown::{hide, show};
 pub use slices::{is_over, present_after, runs, turn_in, turns_left, used_before};
+pub use standard::{devices_ready, lanes};
 pub use state::BoardState;
 pub use turns::make_turn;
-pub use windows::lanes;

@@ -67,20 +67,10 @@ pub fn operate(
     let slots = state.processes.len();
     state.machine.drivers.arrive(&mut state.machine.home, slots);
     state.machine.operate_at(&mut state.processes, slot, verb);
-    state
-        .ready
-        .look(&state.machine.home, &state.processes, slot);
+    state.machine.look_at(&state.processes, slot);
     show_act(emit, slot, verb, printed);
     state.machine.moment.steps += 1;
-    state.alarms.note(
-        &state.machine.home,
-        slot,
-        state.machine.moment.tick(),
-        state.machine.moment.time,
-    );
-    state.calm = state
-        .machine
-        .moment
-        .look_ahead(&state.machine.home, &state.alarms, &state.machine.drivers);
+    state.machine.note_alarm(slot);
+    state.machine.calm = state.machine.look_ahead();
     Ok(())
 }

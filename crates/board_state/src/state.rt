@@ -1,7 +1,5 @@
 //! What a board is made of.
 
-use crate::ready_slots::ReadySlots;
-use alarm_capsule::AlarmTimes;
 use arrayvec::ArrayVec;
 use board_turns::Machine;
 use process_record::Process;
@@ -11,18 +9,13 @@ use tk_base::{OBJECT_LIMIT, PlaceFault, Slot};
 /// ask, and shows its world (`world_of`).
 #[derive(Drop)]
 pub struct BoardState {
-    /// The memory of the processes, the registers under which they run, the drivers and the moment.
+    /// The memory of the processes, the registers under which they run, the drivers and the moment,
+    /// and what is kept of them.
     pub machine: Machine,
     /// The processes, slot 0 first.
     pub processes: Vec<Process>,
     /// The applications that have no place.
     pub unplaced: ArrayVec<(u32, PlaceFault), OBJECT_LIMIT>,
-    /// A time up to which no device step is ready.
-    pub calm: u64,
-    /// When the alarm of each process becomes due.
-    pub alarms: AlarmTimes,
-    /// Whether each process can have a turn.
-    pub ready: ReadySlots,
     /// How many turns a process may have in a row while another is ready.
     pub slice: u32,
     /// The slot that had the last turn.

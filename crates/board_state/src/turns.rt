@@ -7,7 +7,6 @@ ghost use Rattle.board_state.specs.KnownEnds.{IsKnownEnd};
 ghost use Rattle.board_state.specs.Makes.{MakesStep};
 ghost use Rattle.board_state.specs.Shows.{IsBoard, world_of};
 
-use crate::ahead::{calm_after, look_again};
 use crate::shown::clear;
 use crate::state::BoardState;
 use driver_model::time_brings_an_alarm_nearer;
@@ -24,7 +23,7 @@ fn may_run(state: &BoardState, slot: Slot) -> bool
     requires limit { (world_of state.now).clock.steps < STEP_LIMIT }
     ensures { result ≡ is_ready (world_of state.now) (Run slot) }
 {
-    state.ready.has(slot)
+    state.machine.ready.has(slot)
 }
 
 /// A turn of the process in a slot; `NotReady` where it can have none, and nothing has changed then.
@@ -54,27 +53,12 @@ pub fn make_turn(
     clear(emit);
     emit.slot = Some(slot);
     state.machine.turn_at(&mut state.processes, slot, end, emit);
-    state
-        .ready
-        .look(&state.machine.home, &state.processes, slot);
+    state.machine.look_at(&state.processes, slot);
     state.used = used_after(state.present, state.used, state.slice, slot);
     state.present = Some(slot);
     state.machine.moment.time += 1;
     state.machine.moment.steps += 1;
-    look_again(
-        &mut state.alarms,
-        &state.machine.moment,
-        &state.machine.home,
-        slot,
-        emit,
-    );
-    state.calm = calm_after(
-        state.calm,
-        &state.machine.moment,
-        &state.machine.home,
-        &state.alarms,
-        &state.machine.drivers,
-        emit,
-    );
+    state.machine.note_turn(slot, emit);
+    state.machine.calm = state.machine.calm_after(emit);
     Ok(())
 }

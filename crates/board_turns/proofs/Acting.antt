@@ -18,9 +18,9 @@ use Rattle.board_drivers.specs.Residents.{IsResident}
 use Rattle.board_turns.specs.declared.guard.ActivePmp.{ActivePmp}
 use Rattle.board_turns.specs.declared.machine.Machine.{Machine}
 use Rattle.board_turns.specs.Guards.{GuardsOnly, GuardsOthers}
-use Rattle.board_turns.specs.Operating.{MayOperateAt, MayOperateOn, Operates, OperatesAt, OperatesOn}
+use Rattle.board_turns.specs.Operating.{Operates, OperatesAt, OperatesOn}
 use Rattle.board_turns.specs.Turning.{LeavesOn, MayTurnAt}
-use Rattle.board_turns.proofs.Tables.{changed_at, may_turn}
+use Rattle.board_turns.proofs.Tables.{changed_at}
 
 -- a change of one slot leaves what is another's own
 other_own : (slot other : ℕ) (a b : Homes) → ChangesOnly slot a b → other ≢ slot → own_of b other ≡ own_of a other
@@ -84,33 +84,18 @@ operated_seated flash steps p q own own_after seated is keeps lives = record {
   life = omega (arith, seated.life, lives);
 }
 
--- the same of a slot of the tables, by what a turn asks there
-as_turn : (slot : ℕ) (x : Machine) (processes : List Process) → MayOperateAt slot x processes
-    → MayTurnAt 1 slot x processes
-as_turn slot x processes may = record {
-  within = may.within;
-  owns = may.owns;
-  seated = may.seated;
-  limit = omega (arith, may.limit);
-  guard = may.guard;
-}
-
+-- the same of a slot of the tables
 module _ (slot index : ℕ) (x : Machine) (processes : List Process) (process : Process)
     (is : index ≡ slot) (found : process ≡ slice_index_or processes index process)
-    (may : MayOperateAt slot x processes) where
-  pub may_operate : MayOperateOn slot x process
-  may_operate =
-      let turn = may_turn 1 slot index x processes process is found (as_turn slot x processes may) in
-      record { slot = turn.slot; seated = turn.seated; limit = may.limit; guard = may.guard }
-
+    (may : MayTurnAt 1 slot x processes) where
   pub operated_at : (verb : Verb) (y : Machine) (after : Process) → LeavesOn 1 slot x y after
       → OperatesOn verb slot x y process after
       → OperatesAt verb slot x y processes (slice_set processes index after)
   operated_at verb y after leaves operates = record {
-    at = changed_at 1 slot index x processes process is found (as_turn slot x processes may) y after leaves.left.rest;
+    at = changed_at 1 slot index x processes process is found may y after leaves.left.rest;
     operates = operates.operates;
     drives = operates.drives;
     seated = leaves.left.seated;
     guard = leaves.guard;
-    moment = leaves.moment;
+    rest = leaves.rest;
   }

@@ -8,3 +8,5 @@ pub mod Stopped
 mod Replies
 mod Guarding
 pub mod Denied
+pub mod TurnsKept
+pub mod Counted

@@ -1,5 +1,6 @@
 -- The reply to a call stands in the registers of its process after it.
-use Rattle.std.proofs.Common.{◌≡◌, ℕ, ◌+◌, ◌%◌, ◌^◌, ◌==◌, Bool, true, false, cond, List, [], ◌∷◌, find, Option, None, Some, option_map}
+use Rattle.std.proofs.Common.{◌≡◌, ℕ, ◌+◌, ◌%◌, ◌^◌, ◌==◌, Bool, true, false, cond, List, [], ◌∷◌, find, Option, None}
+use Rattle.std.proofs.Common.{Some, option_map}
 use Rattle.std.proofs.Common.{unwrap_or, Result, Ok, Err, refl, ap, sym, ◌∙◌, slice_get}
 use Rattle.std.specs.Option.{option_and_then}
 use Rattle.std.specs.Result.{result_ok}
@@ -27,7 +28,8 @@ use Rattle.driver_model.specs.Steps.{DriverStep}
 use Rattle.kernel_model.specs.Record.{Record, record_with_step}
 use Rattle.kernel_model.specs.Turn.{arguments}
 use Rattle.kernel_model.specs.Calls.{Served, break_moved, by_form, driver_answered, exit, failure_of, memop, memops}
-use Rattle.kernel_model.specs.Calls.{moved_by, refused, refused_with, region_end, replied, served, swap_by, swap_refusal}
+use Rattle.kernel_model.specs.Calls.{moved_by, refused, refused_with, region_end, replied, served, swap_by}
+use Rattle.kernel_model.specs.Calls.{swap_refusal}
 use Rattle.kernel_model.specs.Calls.{taken_by, yield_for, yield_now, yielding}
 use Rattle.board_turns.specs.Turning.{ReplyStands}
 
@@ -44,7 +46,8 @@ stands : (before : Registers) (s : Served) (reply : Reply) (rule : Option CallRu
 stands before s reply rule is here other other_rule e =
     here ∙ ap (λ (x : Reply). arguments (put_reply x before)) (the_reply reply other rule other_rule (sym is ∙ e))
 
-replied_stands : (r : Record) (own : Own) (reply : Reply) → Stands r.process.regs (replied (record r { own = own }) reply)
+replied_stands : (r : Record) (own : Own) (reply : Reply) → Stands r.process.regs
+    (replied (record r { own = own }) reply)
 replied_stands r own reply = stands r.process.regs (replied (record r { own = own }) reply) reply None refl refl
 
 same_own : (r : Record) (reply : Reply) → Stands r.process.regs (replied r reply)

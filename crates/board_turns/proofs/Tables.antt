@@ -73,7 +73,7 @@ module _ (turns slot index : ℕ) (x : Machine) (processes : List Process) (proc
     turns = turned;
     seated = leaves.left.seated;
     guard = leaves.guard;
-    moment = leaves.moment;
+    rest = leaves.rest;
   }
 
   pub quiet_at : (made : ℕ) (end : TurnEnd) (y : Machine) (after : Process) → LeavesOn made slot x y after
@@ -84,5 +84,5 @@ module _ (turns slot index : ℕ) (x : Machine) (processes : List Process) (proc
     quiet = quiet;
     seated = leaves.left.seated;
     guard = leaves.guard;
-    moment = leaves.moment;
+    rest = leaves.rest;
   }

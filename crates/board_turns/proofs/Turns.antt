@@ -1,6 +1,6 @@
 -- The turn of a process.
 use Rattle.std.proofs.Common.{◌≡◌, ◌≤◌, ℕ, ◌+◌, ◌⊎◌, inl, inr, true, false, List, [], length}
-use Rattle.std.proofs.Common.{Option, None, Some, is_some, Result, Ok, Err, refl, sym, ap, subst, ◌∙◌, arith}
+use Rattle.std.proofs.Common.{Bool, Option, None, Some, is_some, Result, Ok, Err, refl, sym, ap, ap₂, subst, ◌∙◌, arith}
 use Rattle.std.proofs.lemmas.List.{length-set, set-set}
 use Rattle.tk_base.specs.declared.access.Denial.{Denial}
 use Rattle.syscall_abi.specs.Call.{call_of}
@@ -44,7 +44,7 @@ use Rattle.kernel_model.specs.Laws.{DropsAtMostOne, GrantsChangeAtCalls}
 use Rattle.kernel_model.proofs.Places.{free_turned, of_turned}
 use Rattle.board_drivers.specs.Driven.{Drives, MayServe, beside_in}
 use Rattle.board_drivers.specs.Residents.{Resident, IsResident}
-use Rattle.board_turns.specs.Turning.{InTurn, IsMade, LeavesOn, LeavesSlot, MayTurn, ServesCall, Settles}
+use Rattle.board_turns.specs.Turning.{InTurn, IsMade, KeepsRest, LeavesOn, LeavesSlot, MayTurn, ServesCall, Settles}
 use Rattle.board_drivers.specs.Residents.{id_of}
 use Rattle.board_turns.specs.Turning.{Shows, Turns, after_instruction, next_instruction, nothing_shown}
 use Rattle.board_drivers.specs.Residents.{resident}
@@ -113,8 +113,21 @@ pub leaves_on : (slot : ℕ) (x : Machine) (home : Homes) (guard : ActivePmp) (y
 leaves_on slot x home guard y p first h = record {
   left = leaves_then (x.moment.steps + 1) slot x.home home y.home p first h.left;
   guard = h.guard;
-  moment = h.moment;
+  rest = record {
+    moment = h.rest.moment;
+    alarms = h.rest.alarms;
+    calm = h.rest.calm;
+    ready = h.rest.ready;
+  };
 }
+
+-- a machine whose rest is kept is another one in these parts alone
+pub as_left : (old new : Machine) → KeepsRest old new
+    → new ≡ record old { home = new.home; guard = new.guard; drivers = new.drivers }
+as_left old new rest =
+    let parts : Machine → Machine = λ m. record m { home = new.home; guard = new.guard; drivers = new.drivers } in
+    ap₂ (λ (m : Moment) (times : List (Option ℕ)). record new { moment = m; alarms = times }) rest.moment rest.alarms
+    ∙ ap₂ (λ (calm : ℕ) (ready : List Bool). record (parts old) { calm = calm; ready = ready }) rest.calm rest.ready
 
 -- registers that are set for a slot fit
 pub guards_only : (slot : ℕ) (guard : ActivePmp) (home : Homes) → IsSetFor slot guard home → GuardsOnly guard home

@@ -2,3 +2,5 @@ pub mod Guards
 pub mod Turning
 pub mod Quiet
 pub mod Operating
+pub mod Machines
+pub mod ReadySlots

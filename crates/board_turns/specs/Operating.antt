@@ -13,27 +13,11 @@ use Rattle.board_drivers.specs.Driven.{Drives}
 use Rattle.board_drivers.specs.Residents.{IsResident, Resident, id_of, resident}
 use Rattle.board_turns.specs.declared.machine.Machine.{Machine}
 use Rattle.board_turns.specs.Guards.{GuardsOnly}
-use Rattle.board_turns.specs.Turning.{ChangesSlot}
+use Rattle.board_turns.specs.Turning.{ChangesSlot, KeepsRest}
 
 -- what the drivers do for a process on which an operator acts
 abbrev pub acts_for : Verb → Process → List BoardRequest
 acts_for verb process = if ends_by verb process then leaving_all else []
-
--- An operator may act on the process in a slot: it is as it is to be, a step is left, and the registers protect
--- whomever they are set for.
-pub record MayOperateOn (place : ℕ) (x : Machine) (process : Process) : Type 0 where
-  pub slot : place < length x.home.owns
-  pub seated : IsResident x.home.flash x.moment.steps (resident x.home place process)
-  pub limit : x.moment.steps < STEP_LIMIT
-  pub guard : GuardsOnly x.guard x.home
-
--- the same of a slot of the tables of a board
-pub record MayOperateAt (place : ℕ) (x : Machine) (processes : List Process) : Type 0 where
-  pub within : place < length processes
-  pub owns : length x.home.owns ≡ length processes
-  pub seated : All (IsResident x.home.flash x.moment.steps) (zip processes x.home.owns)
-  pub limit : x.moment.steps < STEP_LIMIT
-  pub guard : GuardsOnly x.guard x.home
 
 -- what an operator's act does to a process, whatever it has beside
 abbrev pub Operates : Verb → List ℕ → Resident → Resident → Type 0
@@ -54,4 +38,4 @@ pub record OperatesAt (verb : Verb) (slot : ℕ) (old new : Machine) (processes 
     pub drives : Drives (id_of slot at.before.1) (acts_for verb at.before.0) old.drivers new.drivers
     pub seated : IsResident old.home.flash (old.moment.steps + 1) at.after
     pub guard : GuardsOnly new.guard new.home
-    pub moment : new.moment ≡ old.moment
+    pub rest : KeepsRest old new

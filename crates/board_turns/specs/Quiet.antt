@@ -8,7 +8,7 @@ use Rattle.kernel_model.specs.Stretch.{AllGo, after_instructions}
 use Rattle.board_turns.specs.declared.machine.Machine.{Machine}
 use Rattle.board_turns.specs.Guards.{GuardsOnly}
 use Rattle.board_drivers.specs.Residents.{IsResident, Resident, record_of}
-use Rattle.board_turns.specs.Turning.{ChangesSlot}
+use Rattle.board_turns.specs.Turning.{ChangesSlot, KeepsRest}
 
 -- So many turns of a process, of at most so many, lead from it to another, whatever its storage is and whichever
 -- buttons are pressed: each only executes an instruction. Where they are fewer, the next instruction makes a system
@@ -29,4 +29,4 @@ pub record QuietAt (k most : ℕ) (end : TurnEnd) (slot : ℕ) (old new : Machin
   pub quiet : Quietly k most end old.home.flash at.before at.after
   pub seated : IsResident old.home.flash (old.moment.steps + k) at.after
   pub guard : GuardsOnly new.guard new.home
-  pub moment : new.moment ≡ old.moment
+  pub rest : KeepsRest old new

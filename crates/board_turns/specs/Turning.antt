@@ -170,6 +170,13 @@ abbrev pub IsKnownEndAt : ℕ → TurnEnd → Homes → List Process → Type 0
 IsKnownEndAt slot known home processes =
     IfSome (slice_get processes slot) (λ process. IsKnownEnd known home.flash (resident home slot process))
 
+-- the moment of a machine is the same, and what is kept of it
+pub record KeepsRest (old new : Machine) : Type 0 where
+  pub moment : new.moment ≡ old.moment
+  pub alarms : new.alarms ≡ old.alarms
+  pub calm : new.calm ≡ old.calm
+  pub ready : new.ready ≡ old.ready
+
 -- one turn of the process in a slot, and of no other
 pub record TurnsAt (slot : ℕ) (old new : Machine) (processes processes_after : List Process) (shown : Shown) : Type
     0 where
@@ -177,7 +184,7 @@ pub record TurnsAt (slot : ℕ) (old new : Machine) (processes processes_after :
   pub turns : Turns old.moment slot old.home.flash at.before at.after shown old.drivers new.drivers
   pub seated : IsResident old.home.flash (old.moment.steps + 1) at.after
   pub guard : GuardsOnly new.guard new.home
-  pub moment : new.moment ≡ old.moment
+  pub rest : KeepsRest old new
 
 -- so many turns of the process in a slot may be made on a machine
 abbrev pub MayTurnOn : ℕ → ℕ → Machine → Process → Type 0
@@ -188,11 +195,11 @@ pub record InTurnOn (slot : ℕ) (x : Machine) (process : Process) : Type 0 wher
   pub turn : InTurn x.moment slot x.home process
   pub set : IsSetFor slot x.guard x.home
 
--- what it leaves of the machine and of the process: the registers fit, and it is the same moment
+-- what it leaves of the machine and of the process: the registers fit, and the rest is the same
 pub record LeavesOn (steps slot : ℕ) (old new : Machine) (process : Process) : Type 0 where
   pub left : LeavesSlot (old.moment.steps + steps) slot old.home new.home process
   pub guard : GuardsOnly new.guard new.home
-  pub moment : new.moment ≡ old.moment
+  pub rest : KeepsRest old new
 
 -- what a turn does on a machine
 abbrev pub TurnsOn : ℕ → Machine → Machine → Process → Process → Shown → Type 0

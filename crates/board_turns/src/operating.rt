@@ -2,9 +2,8 @@
 ghost use Rattle.std.specs.Prelude.{◌≡◌, ℕ};
 ghost use Rattle.process_record.specs.Operator.{ends_by};
 ghost use Rattle.board_drivers.specs.Driven.{Drives};
-ghost use Rattle.board_turns.specs.Operating.{MayOperateAt, MayOperateOn, OperatesAt, OperatesOn};
-ghost use Rattle.board_turns.specs.Operating.{acts_for};
-ghost use Rattle.board_turns.specs.Turning.{LeavesOn};
+ghost use Rattle.board_turns.specs.Operating.{OperatesAt, OperatesOn, acts_for};
+ghost use Rattle.board_turns.specs.Turning.{LeavesOn, MayTurnAt, MayTurnOn};
 
 use crate::machine::Machine;
 use process_console::act;
@@ -38,7 +37,7 @@ impl Machine {
     /// An operator acts on the process in a slot, which leaves its lists where a life of it ends,
     /// and is protected as its layout is then.
     fn operate(&mut self, process: &mut Process, slot: Slot, verb: Verb)
-        requires { MayOperateOn slot self.old process.old }
+        requires { MayTurnOn 1 slot self.old process.old }
         ensures operates { OperatesOn verb slot self.old self.new process.old process.new }
         ensures leaves { LeavesOn 1 slot self.old self.new process.new }
     {
@@ -49,7 +48,7 @@ impl Machine {
 
     /// The same of the process at its place in the table.
     pub fn operate_at(&mut self, processes: &mut Vec<Process>, slot: Slot, verb: Verb)
-        requires { MayOperateAt slot self.old processes.old.items }
+        requires { MayTurnAt 1 slot self.old processes.old.items }
         ensures { OperatesAt verb slot self.old self.new processes.old.items processes.new.items }
     {
         let process = &mut processes[slot.index()];

@@ -15,7 +15,7 @@ ghost use Rattle.kernel_model.specs.Parts.{unknown_call};
 ghost use Rattle.board_turns.specs.Guards.{IsSetFor};
 ghost use Rattle.board_drivers.specs.Residents.{id_of, resident, resident_turns};
 ghost use Rattle.board_turns.specs.Turning.{InTurn, InTurnOn, FinishesOn, IsMade, LeavesOn};
-ghost use Rattle.board_turns.specs.Turning.{LeavesSlot, MayServeOn, MayTurn, MayTurnOn};
+ghost use Rattle.board_turns.specs.Turning.{KeepsRest, LeavesSlot, MayServeOn, MayTurn, MayTurnOn};
 ghost use Rattle.board_turns.specs.Turning.{ServesCallOn, Settles, TurnsOn, next_instruction};
 ghost use Rattle.board_turns.specs.Turning.{nothing_shown, told_in_emit, with_shown, MayTurnAt, ReplyStands};
 ghost use Rattle.board_turns.specs.Turning.{IsFreeAt, IsKnownEnd, IsKnownEndAt, TurnsAt};
@@ -259,7 +259,8 @@ impl Machine {
             result }
         ensures leaves { LeavesSlot (self.old.moment.steps + 1) slot self.old.home self.new.home
             process.new }
-        ensures rest { (self.new.guard ≡ self.old.guard) × (self.new.moment ≡ self.old.moment) }
+        ensures guard { self.new.guard ≡ self.old.guard }
+        ensures rest { KeepsRest self.old self.new }
     {
         commands_stay_in_place();
         let Call::Command {

@@ -1,3 +1,5 @@
 mod Stretches
 mod Texts
 mod Turning
+mod Seeking
+mod Watching

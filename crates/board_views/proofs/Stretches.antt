@@ -15,12 +15,13 @@ lead-stop zero w e = refl
 lead-stop (suc n) w e =
     ap (λ (o : Option Choice). (on_choice (stays w) (λ choice. runs_on (round n) (stepped w choice)) o).world) e
 
-lead-step : (n : ℕ) (w : World) (c : Choice) → next w ≡ Some c → (round (suc n) w).world ≡ (round n (after w c)).world
+pub lead-step : (n : ℕ) (w : World) (c : Choice) → next w ≡ Some c
+    → (round (suc n) w).world ≡ (round n (after w c)).world
 unfolding round
 lead-step n w c e =
     ap (λ (o : Option Choice). (on_choice (stays w) (λ choice. runs_on (round n) (stepped w choice)) o).world) e
 
-lead-zero : (w : World) → (round zero w).world ≡ w
+pub lead-zero : (w : World) → (round zero w).world ≡ w
 unfolding round
 lead-zero w = refl
 

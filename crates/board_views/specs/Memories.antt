@@ -1,4 +1,4 @@
--- The bytes of a block. The form of the line is this tool's own.
+-- The bytes of a block, and of storage. The form of the line is this tool's own.
 use Rattle.std.specs.Prelude.{ℕ, ◌+◌, ◌-◌, nat_le, ◌&&◌, if◌then◌else◌, List, [], ◌++◌, codes, length, take, drop}
 use Rattle.std.specs.Prelude.{slice_get, Option, None, Some}
 use Rattle.std.specs.List.{flat_map}
@@ -24,3 +24,14 @@ bytes_at w slot at count = bytes_in (slice_get w.records slot) at count
 -- their line
 unfoldable pub memory_text : World → ℕ → ℕ → ℕ → List ℕ
 memory_text w slot at count = codes "memory " ++ (flat_map (hex_digits 2) (bytes_at w slot at count) ++ newline)
+
+-- and those of its storage, which begin with number 0
+abbrev pub stored_in : Option Record → ℕ → ℕ → List ℕ
+stored_in None at count = []
+stored_in (Some r) at count = cut_at 0 r.storage at count
+
+unfoldable pub stored_at : World → ℕ → ℕ → ℕ → List ℕ
+stored_at w slot at count = stored_in (slice_get w.records slot) at count
+
+unfoldable pub storage_text : World → ℕ → ℕ → ℕ → List ℕ
+storage_text w slot at count = codes "storage " ++ (flat_map (hex_digits 2) (stored_at w slot at count) ++ newline)

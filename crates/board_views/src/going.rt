@@ -10,7 +10,7 @@ use board_core::Board;
 use board_runs::trace_out;
 use kernel_laws::rounds_join;
 use process_record::Emit;
-use tk_base::{STEP_LIMIT, Slot};
+use tk_base::{Denial, STEP_LIMIT, Slot};
 use tk_outside::{Failed, Sink, writes_compose};
 
 /// Why a board stopped that went on.
@@ -22,6 +22,18 @@ pub enum Stop {
     Most,
     /// The process of the slot had as many turns as were asked for, or more.
     Turns,
+    /// The next step is a turn of the process in a slot at one of the addresses.
+    Address { slot: Slot },
+    /// A turn left the area.
+    Range,
+    /// The bytes watched from an address on changed.
+    Changed { at: u32 },
+    /// A turn of the process in a slot was denied.
+    Denied { slot: Slot, denial: Denial },
+    /// The process in a slot made the system call Exit, with these words in a0 to a3.
+    Exit { slot: Slot, words: [u32; 4] },
+    /// An operator acted on the process in a slot.
+    Act { slot: Slot },
 }
 
 /// Makes at most so many steps of the round robin, as fast as they can be made.
@@ -49,7 +61,7 @@ fn make_steps(board: &mut Board, most: u32)
 
 /// Why the board stopped.
 #[tactic(auto, unfolding(crate::specs::Stops::stop_at))]
-fn stop_of(board: &Board) -> Stop
+pub(crate) fn stop_of(board: &Board) -> Stop
     ensures { result ≡ stop_at board.now }
 {
     match board.next_choice() {

@@ -1,12 +1,18 @@
 //! What there is to see of a board, as text, and going on to a place of its run.
 #![tactic(auto)]
 
+mod goal;
 mod going;
 mod memory;
 mod place;
+mod searches;
 mod state;
+mod stop;
 
+pub use goal::{GOAL_NUMBERS, Goal};
 pub use going::{Stop, go_steps, go_traced, go_turns};
-pub use memory::write_memory;
+pub use memory::{write_memory, write_storage};
 pub use place::write_at;
+pub use searches::{Found, find_last, go_until};
 pub use state::write_board_state;
+pub use stop::{write_found, write_stop};

@@ -2,7 +2,7 @@
 ghost use Rattle.std.specs.Prelude.{◌≡◌};
 ghost use Rattle.tk_outside.specs.Writes.{Writes};
 ghost use Rattle.board_report.specs.Parts.{bytes_text};
-ghost use Rattle.board_views.specs.Memories.{bytes_at, cut_at, memory_text};
+ghost use Rattle.board_views.specs.Memories.{bytes_at, cut_at, memory_text, storage_text, stored_at};
 
 use board_core::Board;
 use tk_base::Slot;
@@ -27,7 +27,7 @@ fn cut_at(start: u32, block: &[u8], at: u32, count: u32) -> &[u8]
 
 /// So many bytes of the block of a slot, from an address on.
 #[tactic(auto, unfolding(crate::specs::Memories::bytes_at))]
-fn bytes_at(board: &Board, slot: Slot, at: u32, count: u32) -> &[u8]
+pub(crate) fn bytes_at(board: &Board, slot: Slot, at: u32, count: u32) -> &[u8]
     ensures { result.now ≡ bytes_at board.now slot at count }
 {
     let Some(layout) = board.layout(slot) else {
@@ -67,5 +67,35 @@ pub fn write_memory<K: Sink>(
     writes_compose::<K>();
     put_all(out, b"memory ")?;
     write_bytes(out, bytes_at(board, slot, at, count))?;
+    put_all(out, b"\n")
+}
+
+/// So many bytes of the storage of a slot, from one on; none where they are not all there.
+#[tactic(auto, unfolding(crate::specs::Memories::stored_at))]
+fn stored_at(board: &Board, slot: Slot, at: u32, count: u32) -> &[u8]
+    ensures { result.now ≡ stored_at board.now slot at count }
+{
+    match board.storage(slot) {
+        Some(storage) => cut_at(0, storage, at, count),
+        None => &[],
+    }
+}
+
+/// Writes the line of so many bytes of the storage of a slot, from one on, each in two digits of
+/// base 16: of none where they are not all there, or there is no process. It fails where the sink
+/// does.
+#[tactic(auto, unfolding(crate::specs::Memories::storage_text))]
+pub fn write_storage<K: Sink>(
+    board: &Board,
+    slot: Slot,
+    at: u32,
+    count: u32,
+    out: &mut K,
+) -> Result<(), Failed>
+    ensures { Writes K.tells out.old out.new (storage_text board.now slot at count) result }
+{
+    writes_compose::<K>();
+    put_all(out, b"storage ")?;
+    write_bytes(out, stored_at(board, slot, at, count))?;
     put_all(out, b"\n")
 }

@@ -17,7 +17,7 @@ use tk_base::{Denial, SLOT_COUNT, Slot, Upcall};
 use tk_outside::{Failed, Sink, put_all, put_number, writes_compose};
 
 /// Writes words of base 16, each after a blank.
-fn write_words<K: Sink>(out: &mut K, words: &[u32]) -> Result<(), Failed>
+pub(crate) fn write_words<K: Sink>(out: &mut K, words: &[u32]) -> Result<(), Failed>
     ensures { Writes K.tells out.old out.new (flat_map word_text words.now) result }
 {
     writes_compose::<K>();

@@ -1,5 +1,6 @@
 -- A block that is lent in its two parts, and what is left of it.
 use Rattle.std.proofs.Common.{◌≡◌, ℕ, ◌+◌, ◌-◌, ◌≤◌, List, ◌++◌, length, take, drop, Option, None, Some}
+use Rattle.std.specs.Prelude.{OnOk}
 use Rattle.std.proofs.Common.{Result, Ok, Err, IfOk, refl, sym, ap, subst, ◌∙◌, rules, arith}
 use Rattle.std.specs.Prelude.{slice_range}
 use Rattle.std.proofs.lemmas.List.{places, take_all, take-append-le, length-drop, length-append}
@@ -192,6 +193,11 @@ module _ (m : MemoryBytes) (e : LayoutView) (s : FitsMemory (length m.flash) (le
 pub if_ok : {A E : Type 0} {P Q : A → Type 0} (r : Result A E) → ((a : A) → P a → Q a) → IfOk r P → IfOk r Q
 if_ok (Ok a) f p = f a p
 if_ok (Err e) f p = tt
+
+pub both_ok : {A E P : Type 0} {Q R : A → Type 0} (r : Result A E) → ((a : A) → P → Q a → R a) → OnOk r P → IfOk r Q
+    → IfOk r R
+both_ok (Ok a) f p q = f a p q
+both_ok (Err e) f p q = tt
 
 -- a swap in the two parts of a block is one in memory
 pub swaps_in : (m : MemoryBytes) (e : LayoutView) → FitsMemory (length m.flash) (length m.ram) e

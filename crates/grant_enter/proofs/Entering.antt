@@ -1,21 +1,21 @@
 -- Room for a driver's grant in a block, and the process that has entered the driver.
-use Rattle.std.proofs.Common.{◌≡◌, ℕ, ◌+◌, ◌-◌, ◌||◌, nat_le, is_some, take, Bool, cond, List, ◌++◌, length}
+use Rattle.std.proofs.Common.{◌≡◌, ℕ, ◌+◌, ◌-◌, ◌||◌, nat_le, is_some, take, List, ◌++◌, length}
 use Rattle.std.proofs.Common.{Option, None, Some, Result, Ok}
-use Rattle.std.proofs.Common.{Err, refl, sym, ap, ap₂, subst, ◌∙◌, eq-eqb, arith}
-use Rattle.std.specs.Prelude.{OnOk, option_map}
+use Rattle.std.proofs.Common.{Err, refl, sym, ap, ap₂, subst, ◌∙◌, arith}
+use Rattle.std.specs.Prelude.{OnOk}
 use Rattle.std.specs.List.{AllByRecursion}
 use Rattle.process_layout.specs.LayoutView.{LayoutView}
 use Rattle.process_layout.specs.Bounds.{Bounds, bounds_of}
 use Rattle.process_layout.specs.Ordered.{IsOrdered}
 use Rattle.grant_values.specs.Drivers.{cost_of}
-use Rattle.grant_model.specs.Grants.{Grant, costs, grant_of, entering, entered, fresh, shape_of}
-use Rattle.grant_model.specs.Encoding.{decode_grants}
-use Rattle.grant_model.specs.Laws.{PairsStandByKind}
+use Rattle.grant_model.specs.Grants.{Grant, costs, grant_of, entering, entered, shape_of}
+use Rattle.grant_model.specs.Encoding.{area_of, decode_grants}
+use Rattle.grant_model.specs.Laws.{IsValue, PairsStandByKind, ValuesAreFound, value_bytes, value_offset}
+use Rattle.grant_model.specs.declared.places.Area.{Area}
 use Rattle.grant_region.specs.Region.{Leaves, Parts, below, fits, roomed}
 use Rattle.board_memory.specs.Memory.{MemoryBytes, with_run}
-use Rattle.process_model.specs.Own.{Own, kernel_break_of}
+use Rattle.process_model.specs.Own.{kernel_break_of}
 use Rattle.process_model.specs.Handed.{has_place, own_entering}
-use Rattle.process_model.specs.Served.{kept}
 use Rattle.grant_enter.specs.declared.seat.Seat.{Seat}
 use Rattle.grant_enter.specs.Homes.{FitsMemory}
 use Rattle.grant_enter.specs.Seats.{Holds, MakesRoom, Reseats, SitsIn, app_in, fits_in, kernel_in, own_in}
@@ -38,19 +38,15 @@ makes_room m e s driver before after lent same o layout left = record {
   grants = regrants_in m e s driver before after lent layout (entered driver) (ap length same) o left;
 }
 
--- a driver that was entered has a grant
-has_grant : (driver : ℕ) (gs : List Grant) (o : Option Grant) → grant_of driver gs ≡ o
-    → (g : Grant) × (grant_of driver (entering driver gs o) ≡ Some g)
-has_grant driver gs None is =
-    (fresh driver, ap (λ (b : Bool). cond b (Some (fresh driver)) (grant_of driver gs)) (eq-eqb driver driver refl))
-has_grant driver gs (Some g) is = (g, is)
-
--- so it keeps a value
-pub keeps_one : (driver : ℕ) (own : Own) → kept driver (own_entering driver own) ≡ None → ⊥
-keeps_one driver own none =
-    let g = has_grant driver own.grants (grant_of driver own.grants) refl in
-    let some : kept driver (own_entering driver own) ≡ Some g.0.value = ap (option_map (λ (g : Grant). g.value)) g.1 in
-    cc
+-- and the driver's value stands in the area that is answered
+pub area_stands : ValuesAreFound → (driver : ℕ) (m : MemoryBytes) (e : LayoutView) (m' : MemoryBytes) (e' : LayoutView)
+    (kernel : List ℕ) → kernel ≡ kernel_in m.ram e → (area : Area) → MakesRoom driver m e m' e'
+    → Some area ≡ area_of driver (entered driver (decode_grants kernel))
+    → IsValue (kernel_in m'.ram e') (value_offset driver area) (value_bytes driver) driver
+area_stands law driver m e m' e' kernel same area made is =
+    law.at driver (kernel_in m'.ram e') area made.grants.tells.laid
+    (is ∙ ap (λ (xs : List ℕ). area_of driver (entered driver (decode_grants xs))) same
+    ∙ ap (area_of driver) (sym made.grants.tells.grants))
 
 -- room for a driver's grant moves the kernel break alone, to where the grants then begin
 pub roomed_bounds : (driver : ℕ) (e : LayoutView) (g : Option Grant) → bounds_of (roomed driver e g) ≡ bounds_of e

@@ -1,7 +1,6 @@
 //! What a process hands to a driver, in its seat.
 ghost use Rattle.std.specs.Prelude.{◌≡◌, IsTrue, is_ok, IfOk, OnOk, OnErr};
-ghost use Rattle.grant_region.specs.Region.{parts_of};
-ghost use Rattle.swap_tables.specs.Swaps.{CanHand, CanSwap, SwapOutcome};
+ghost use Rattle.swap_tables.specs.Swaps.{CanHand};
 ghost use Rattle.process_model.specs.Handed.{handing, has_place as has_place_in, held, marked};
 ghost use Rattle.process_model.specs.Handed.{may_share, raised, still_pending};
 ghost use Rattle.process_layout.specs.Bounds.{bounds_of};
@@ -13,7 +12,7 @@ use board_memory::{Block, Memory, SplitBlock};
 use grant_model::pairs_stand_by_kind;
 use grant_region::NoRoom;
 use process_layout::Layout;
-use swap_tables::{Handover, swap_ro, swap_rw, swap_upcall, swap_ur};
+use swap_tables::{Handover, swap_pair};
 use tk_base::PairKind;
 use upcall_queue::Inbox;
 
@@ -22,32 +21,6 @@ pub(crate) fn in_order(layout: &Layout)
     ensures { IsOrdered layout.now }
 {
     let _start = layout.start;
-}
-
-/// Swaps the pair in the two parts of a block.
-fn swap(
-    handover: Handover,
-    layout: &mut Layout,
-    app: &mut [u8],
-    kernel: &mut [u8],
-) -> Result<(u32, u32), NoRoom>
-    requires { CanSwap handover (parts_of layout.old app.old kernel.old) }
-    ensures { SwapOutcome handover (parts_of layout.old app.old kernel.old)
-        (parts_of layout.new app.new kernel.new) result }
-{
-    let Handover {
-        kind,
-        driver,
-        counts,
-        number,
-        pair,
-    } = handover;
-    match kind {
-        PairKind::Upcall => swap_upcall(layout, app, kernel, driver, &counts, number, pair),
-        PairKind::ReadOnly => swap_ro(layout, app, kernel, driver, &counts, number, pair),
-        PairKind::ReadWrite => swap_rw(layout, app, kernel, driver, &counts, number, pair),
-        PairKind::Readable => swap_ur(layout, app, kernel, driver, &counts, number, pair),
-    }
 }
 
 /// Swaps the pair in a block of memory.
@@ -64,7 +37,7 @@ fn swap_in(
 {
     let Block { bytes, cut, .. } = memory.lend_block(layout);
     let SplitBlock { app, kernel } = SplitBlock::of(bytes, cut);
-    let former = swap(handover, layout, app, kernel);
+    let former = swap_pair(layout, app, kernel, handover);
     in_order(layout);
     former
 }

@@ -17,7 +17,7 @@ ghost use Rattle.process_model.specs.Flag.{with_flag};
 ghost use Rattle.process_model.specs.Handed.{HoldsInPlace, own_entering, handing, has_place, held};
 ghost use Rattle.process_model.specs.Handed.{may_share};
 ghost use Rattle.process_model.specs.Served.{kept};
-ghost use Rattle.swap_tables.specs.Swaps.{IsPair};
+ghost use Rattle.swap_tables.specs.Swaps.{CanHand};
 ghost use Rattle.grant_enter.specs.Homes.{own_of, living, ChangesOnly, IsInPlace, IsStopped};
 ghost use Rattle.grant_enter.specs.Homes.{CanMoveIn, FootprintBefore, MakesInstruction, MakesAll};
 
@@ -37,9 +37,7 @@ use rv32_step::Stretch;
 use std::alloc::Global;
 use std::marker::Model;
 use swap_tables::Handover;
-use tk_base::{
-    Addr, Counts, NoMemory, PairKind, ProcessId, Regs, Slot, Upcall, Wait, a_store_is_put,
-};
+use tk_base::{Addr, NoMemory, ProcessId, Regs, Slot, Upcall, Wait, a_store_is_put};
 use upcall_queue::Delivery;
 
 /// The memory of the processes, and what the kernel keeps of each beside its registers: where its
@@ -219,42 +217,27 @@ impl Home {
     }
 
     /// Hands a pair of the process in a slot to a driver (TRD 104, "Subscribe", "Read-Only Allow",
-    /// "Read-Write Allow"): the function and the application data of an upcall, or the address and
-    /// the size of a buffer. The answer is the former pair, at first (0, 0). The driver is entered;
+    /// "Read-Write Allow"). The answer is the former pair, at first (0, 0). The driver is entered;
     /// a buffer in RAM that has bytes raises the mark; an upcall takes away the pending ones of its
-    /// driver and number. `counts` are the driver's. All else of the process, and all of another
-    /// slot, stays.
+    /// driver and number. All else of the process, and all of another slot, stays.
     ///
     /// There is [`NoRoom`], and nothing changes, exactly where the driver is not entered and the
     /// kernel break less the cost of its grant is below the break.
-    pub fn hand(
-        &mut self,
-        slot: Slot,
-        kind: PairKind,
-        driver: u32,
-        counts: &Counts,
-        number: u32,
-        pair: (u32, u32),
-    ) -> Result<(u32, u32), NoRoom>
+    pub fn hand(&mut self, slot: Slot, handover: Handover) -> Result<(u32, u32), NoRoom>
         requires slot { slot < length self.old.owns }
-        requires pair { IsPair kind driver counts.now number }
-        requires may { IsTrue (may_share kind (own_of self.old slot).layout pair) }
-        ensures room { is_ok result ≡ has_place driver (own_of self.old slot) }
-        ensures former { IfOk result (λ former.
-            former ≡ held kind driver number (own_of self.old slot)) }
-        ensures handed { OnOk result
-            (own_of self.new slot ≡ handing kind driver number pair (own_of self.old slot)) }
+        requires pair { CanHand handover }
+        requires may { IsTrue
+            (may_share handover.kind (own_of self.old slot).layout handover.pair) }
+        ensures room { is_ok result ≡ has_place handover.driver (own_of self.old slot) }
+        ensures former { IfOk result (λ former. former
+            ≡ held handover.kind handover.driver handover.number (own_of self.old slot)) }
+        ensures handed { OnOk result (own_of self.new slot
+            ≡ handing handover.kind handover.driver handover.number handover.pair
+            (own_of self.old slot)) }
         ensures refused { OnErr result (self.new ≡ self.old) }
         ensures rest { ChangesOnly slot self.old self.new }
     {
         let seat = &mut self.seats[slot.index()];
-        let handover = Handover {
-            kind,
-            driver,
-            counts: *counts,
-            number,
-            pair,
-        };
         hand_at(&mut self.memory, seat, handover)
     }
 

@@ -7,31 +7,52 @@ ghost use Rattle.grant_values.specs.Values.{value_by, value_words};
 ghost use Rattle.grant_values.specs.Words.{IsWord, words_of};
 ghost use Rattle.grant_model.specs.Grants.{grant_of};
 ghost use Rattle.grant_model.specs.Encoding.{EncodesGrants, decode_grants};
-ghost use Rattle.grant_model.specs.Laws.{IsValue, value_bytes};
+ghost use Rattle.grant_model.specs.Laws.{IsValue, value_bytes, value_offset};
 ghost use Rattle.process_layout.specs.Ordered.{IsOrdered};
 ghost use Rattle.grant_enter.specs.Homes.{FitsMemory};
 ghost use Rattle.grant_enter.specs.Seats.{HasBlock, kernel_in, value_put, with_value_in};
 
 use crate::handing::in_order;
 use board_memory::Memory;
-use grant_model::{areas_are_found, values_are_found};
+use grant_model::{Area, areas_are_found, values_are_found};
 use grant_region::area;
 use grant_values::GrantValue;
 use process_layout::Layout;
 use tk_base::{Addr, Counts};
 
-/// At which place of the areas the value of a driver begins; None where the driver is not entered.
-pub(crate) fn value_place(kernel: &[u8], driver: u32, counts: &Counts) -> Option<usize>
+/// Where the areas have the value that a process keeps for a driver.
+#[derive(Clone, Copy)]
+pub(crate) struct ValuePlace {
+    /// The driver's number.
+    pub driver: u32,
+    /// Its counts.
+    pub counts: Counts,
+    /// At which byte from the kernel break on the value begins.
+    pub at: usize,
+}
+
+/// At which byte from the kernel break on the value begins in a driver's area.
+pub(crate) fn value_offset_in(area: Area, driver: u32, counts: Counts) -> usize
+    requires { counts_of driver ≡ Some counts }
+    ensures { result ≡ value_offset driver area }
+{
+    area.offset as usize + 8 + 8 * counts.pairs()
+}
+
+/// The place among the areas of the value that is kept for a driver; None where the driver is not entered.
+pub(crate) fn value_place(kernel: &[u8], driver: u32, counts: Counts) -> Option<ValuePlace>
     requires laid { EncodesGrants kernel.now }
     requires small { length kernel.now < 2 ^ 32 }
-    requires counts { counts_of driver ≡ Some counts.now }
-    ensures found { IfSome result (λ at. IsValue kernel.now at (value_bytes driver) driver) }
+    requires counts { counts_of driver ≡ Some counts }
+    ensures place { IfSome result (λ place. (place.driver ≡ driver) × (place.counts ≡ counts)) }
+    ensures found { IfSome result (λ place. IsValue kernel.now place.at (value_bytes driver) driver) }
     ensures absent { IfNone result (grant_of driver (decode_grants kernel.now) ≡ None) }
 {
     areas_are_found();
     values_are_found();
     let found = area(kernel, driver)?;
-    Some(found.offset as usize + 8 + 8 * counts.pairs())
+    let at = value_offset_in(found, driver, counts);
+    Some(ValuePlace { driver, counts, at })
 }
 
 /// The value at a place of the areas.

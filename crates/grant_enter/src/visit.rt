@@ -1,15 +1,16 @@
 //! Visits of a driver to the grants that processes keep for it.
 ghost use Rattle.std.specs.Prelude.{◌≡◌, ◌==◌, ◌&&◌, not, ◌<◌, ◌^◌, length, option_map, is_ok};
-ghost use Rattle.std.specs.Prelude.{IfOk, IfErr, OnOk, OnErr, Some, None};
+ghost use Rattle.std.specs.Prelude.{IfOk, OnOk, OnErr, Some};
 ghost use Rattle.process_layout.specs.Ordered.{IsOrdered};
 ghost use Rattle.grant_values.specs.Drivers.{counts_of};
 ghost use Rattle.grant_model.specs.Grants.{grant_of};
 ghost use Rattle.grant_model.specs.Encoding.{EncodesGrants, decode_grants};
+ghost use Rattle.grant_model.specs.Laws.{IsValue, value_bytes, value_offset};
 ghost use Rattle.grant_region.specs.Region.{Costs};
 ghost use Rattle.process_model.specs.Own.{Own, block_of};
 ghost use Rattle.process_model.specs.Handed.{own_entering};
-ghost use Rattle.process_model.specs.Served.{kept};
-ghost use Rattle.grant_enter.specs.Seats.{HasBlock, MakesRoom, Reseats, SitsIn, fits_in, own_in};
+ghost use Rattle.grant_enter.specs.Seats.{HasBlock, MakesRoom, Reseats, SitsIn, fits_in, kernel_in};
+ghost use Rattle.grant_enter.specs.Seats.{own_in};
 ghost use Rattle.grant_enter.specs.Seen.{Seen, Framed, IsLent, IsLentTo, ServesIn, seen};
 ghost use Rattle.grant_enter.specs.Seen.{own_entered, seen_of};
 ghost use Rattle.grant_enter.specs.Visits.{Asks, Enters, IsCounted, Peeks, Visited, Visits};
@@ -17,10 +18,10 @@ ghost use Rattle.grant_enter.specs.Visits.{grants_of};
 
 use crate::entered::Entered;
 use crate::handing::in_order;
-use crate::kept::{keep_value, kernel_of, value_at, value_place};
+use crate::kept::{ValuePlace, keep_value, kernel_of, value_at, value_offset_in, value_place};
 use crate::seat::Seat;
 use board_memory::{Block, Memory, SplitBlock};
-use grant_model::{Area, pairs_stand_by_kind};
+use grant_model::{Area, pairs_stand_by_kind, values_are_found};
 use grant_region::{NoRoom, make_room};
 use grant_values::{GrantValue, cost_of, counts};
 use process_layout::Layout;
@@ -98,34 +99,29 @@ fn run_visit<T, V: Visit<T>>(
     visitor.run(value, &mut entered)
 }
 
-/// Visits the value that the process in a seat keeps for a driver; where it keeps none the visitor
-/// is handed back.
-pub(crate) fn visit_at<T: GrantValue, V: Visit<T> + Drop>(
+/// Visits the value that the process in a seat keeps for a driver, at its place.
+fn visit_at<T: GrantValue, V: Visit<T>>(
     memory: &mut Memory,
     seat: &mut Seat,
-    driver: u32,
-    counts: Counts,
+    place: ValuePlace,
     visitor: V,
-) -> Result<V::Answer, V>
+) -> V::Answer
     requires sits { SitsIn memory.old seat.old }
-    requires counted { IsCounted T.driver driver counts T.SIZE }
-    requires asks { Asks (grants_of driver counts T.kept) (V.asks visitor) memory.old.flash
-        (own_in memory.old.ram seat.old) }
-    ensures visited { IfOk result
-        (λ answer. Visited (grants_of driver counts T.kept) (V.leaves visitor) memory.old.flash
-        (own_in memory.old.ram seat.old) answer (own_in memory.new.ram seat.new)) }
-    ensures none { OnErr result (kept driver (own_in memory.old.ram seat.old) ≡ None) }
-    ensures back { IfErr result (λ back. back ≡ visitor) }
-    ensures same { OnErr result ((memory.new ≡ memory.old) × (seat.new ≡ seat.old)) }
+    requires counted { IsCounted T.driver place.driver place.counts T.SIZE }
+    requires stands { IsValue (kernel_in memory.old.ram seat.old.layout) place.at
+        (value_bytes place.driver) place.driver }
+    requires asks { Asks (grants_of place.driver place.counts T.kept) (V.asks visitor)
+        memory.old.flash (own_in memory.old.ram seat.old) }
+    ensures visited { Visited (grants_of place.driver place.counts T.kept) (V.leaves visitor)
+        memory.old.flash (own_in memory.old.ram seat.old) result
+        (own_in memory.new.ram seat.new) }
     ensures reseats { Reseats memory.old seat.old memory.new seat.new }
 {
-    let Some(at) = value_place(kernel_of(memory, &seat.layout), driver, &counts) else {
-        return Err(visitor);
-    };
+    let ValuePlace { driver, counts, at } = place;
     let mut value = value_at::<T>(kernel_of(memory, &seat.layout), at);
     let answer = run_visit::<T, V>(memory, seat, driver, counts, &mut value, visitor);
     keep_value::<T>(memory, &seat.layout, at, &value);
-    Ok(answer)
+    answer
 }
 
 /// What the grant of a driver with these counts costs.
@@ -150,8 +146,11 @@ fn make_room_in(
     requires counts { counts_of driver ≡ Some counts.now }
     ensures room { is_ok result ≡ fits_in driver memory.old.ram layout.old }
     ensures made { OnOk result (MakesRoom driver memory.old layout.old memory.new layout.new) }
+    ensures area { IfOk result (λ area. IsValue (kernel_in memory.new.ram layout.new)
+        (value_offset driver area) (value_bytes driver) driver) }
     ensures refused { OnErr result ((memory.new ≡ memory.old) × (layout.new ≡ layout.old)) }
 {
+    values_are_found();
     let Block { bytes, cut, .. } = memory.lend_block(layout);
     let SplitBlock { app, kernel } = SplitBlock::of(bytes, cut);
     let made = make_room(layout, app, kernel, driver, driver_cost(driver, counts));
@@ -187,13 +186,12 @@ pub(crate) fn enter_seat<T: GrantValue, V: Visit<T> + Drop>(
         return Err(EnterError::Stale);
     }
     pairs_stand_by_kind();
-    let Ok(_) = make_room_in(memory, &mut seat.layout, driver, &counts) else {
+    let Ok(area) = make_room_in(memory, &mut seat.layout, driver, &counts) else {
         return Err(EnterError::NoRoom);
     };
-    match visit_at::<T, V>(memory, seat, driver, counts, visitor) {
-        Ok(answer) => Ok(answer),
-        Err(_visitor) => unreachable!(),
-    }
+    let at = value_offset_in(area, driver, counts);
+    let place = ValuePlace { driver, counts, at };
+    Ok(visit_at::<T, V>(memory, seat, place, visitor))
 }
 
 /// A driver visits the process of a life in a seat.
@@ -216,9 +214,9 @@ pub(crate) fn visit_seat<T: GrantValue, V: Visit<T> + Drop>(
     if is_gone(seat, life) {
         return Err(Unvisited::Gone(visitor));
     }
-    match visit_at::<T, V>(memory, seat, driver, counts, visitor) {
-        Ok(answer) => Ok(answer),
-        Err(visitor) => Err(Unvisited::NotEntered(visitor)),
+    match value_place(kernel_of(memory, &seat.layout), driver, counts) {
+        Some(place) => Ok(visit_at::<T, V>(memory, seat, place, visitor)),
+        None => Err(Unvisited::NotEntered(visitor)),
     }
 }
 
@@ -249,8 +247,8 @@ fn kept_in<T: GrantValue>(kernel: &[u8], driver: u32, counts: &Counts) -> Option
     ensures { option_map T.kept result
         ≡ option_map (λ g. g.value) (grant_of driver (decode_grants kernel.now)) }
 {
-    let at = value_place(kernel, driver, counts)?;
-    Some(value_at::<T>(kernel, at))
+    let place = value_place(kernel, driver, *counts)?;
+    Some(value_at::<T>(kernel, place.at))
 }
 
 /// The block of the process in a seat.

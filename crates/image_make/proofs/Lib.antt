@@ -11,3 +11,4 @@ pub mod Likeness
 pub mod Headers
 mod Checksums
 mod Words
+mod Called

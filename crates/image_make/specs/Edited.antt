@@ -1,5 +1,5 @@
 -- What an edit leaves of an image, in bytes and as it is walked.
-use Rattle.std.specs.Prelude.{◌≡◌, ◌<◌, ◌≤◌, ◌⊎◌, ℕ, ◌+◌, Bool, List, length, map, slice_index, Some, Ok}
+use Rattle.std.specs.Prelude.{◌≡◌, IsSomeAnd, ◌<◌, ◌≤◌, ◌⊎◌, ℕ, ◌+◌, Bool, List, length, map, slice_index, Some, Ok}
 use Rattle.tk_base.specs.Numbers.{rounded_up}
 use Rattle.tbf_headers.specs.Numbers.{word_at}
 use Rattle.tbf_headers.specs.Meaning.{meaning_of}
@@ -46,3 +46,16 @@ GivenIsWalked =
     (name flash : List ℕ) (offset : ℕ) (f : Found) (at : ℕ) → AreBytes flash → AreBytes name → length name ≤ 32 →
     sound_found offset (objects flash) ≡ Some f → place_for name (found_bytes f flash) ≡ Some at
     → IsGiven name flash f at
+
+-- what enabling or disabling the object at an offset leaves of an image: there is one, whose header has no fault, and
+-- what is left is that image
+abbrev pub LeavesEnabled : Bool → ℕ → List ℕ → List ℕ → Type 0
+LeavesEnabled on offset flash after =
+    IsSomeAnd (sound_found offset (objects flash)) (λ f. (after ≡ enabled on flash f) × IsEnabled on flash f)
+
+-- and giving it another name: its own is as long
+abbrev pub LeavesGiven : List ℕ → ℕ → List ℕ → List ℕ → Type 0
+LeavesGiven name offset flash after =
+    IsSomeAnd (sound_found offset (objects flash)) (λ f.
+    IsSomeAnd (place_for name (found_bytes f flash)) (λ at.
+    (after ≡ with_name name flash f at) × IsGiven name flash f at))

@@ -11,7 +11,7 @@ use Rattle.tbf_headers.specs.Tlv.{first_of, length_at}
 use Rattle.tbf_headers.specs.Meaning.{header_of, meaning_of, header_reading}
 use Rattle.flash_walk.specs.declared.found.Found.{Found}
 use Rattle.flash_walk.specs.declared.found.Verdict.{Verdict}
-use Rattle.flash_walk.specs.declared.found.Verdict.TheVariants.{Bad, Padding, Disabled, BadEntry, WrongFlash, App}
+use Rattle.flash_walk.specs.declared.found.Verdict.TheVariants.{Bad}
 use Rattle.flash_walk.specs.Image.{objects}
 use Rattle.image_make.specs.declared.edits.EditFault.{EditFault}
 use Rattle.image_make.specs.declared.edits.EditFault.TheVariants.{NoObject, Name, Length}

@@ -9,6 +9,7 @@ use Rattle.flash_walk.specs.Image.{objects}
 use Rattle.image_make.specs.declared.packs.PackFault.{PackFault}
 use Rattle.image_make.specs.declared.packs.PackFault.TheVariants.{Objects, Size, Memory}
 use Rattle.image_make.specs.Images.{covered, packed, moved, but_link}
+use Rattle.image_make.specs.Laws.{PacksAt}
 
 -- why a file is not packed, behind so many objects and these bytes
 abbrev pub pack_refusal : ℕ → List ℕ → List ℕ → Option PackFault
@@ -21,6 +22,11 @@ pub record IsPacked (n : ℕ) (xs file : List ℕ) (m : ℕ) (ys : List ℕ) : T
   pub free : pack_refusal n xs file ≡ None
   pub image : ys ≡ xs ++ packed file
   pub count : m ≡ n + length (objects file)
+
+-- Behind an image which its walk covers, and that has so many objects at most, it is packed so that the walk over what is
+-- left is that over the image, and then that over the file; and again all is covered.
+abbrev pub PacksBehind : ℕ → List ℕ → List ℕ → Type 0
+PacksBehind n xs file = length (objects xs) ≤ n → covered (objects xs) ≡ length xs → PacksAt xs file
 
 -- or it is refused, and nothing has changed; where nothing refuses it, for want of memory
 pub record IsPackRefused (n : ℕ) (xs file : List ℕ) (m : ℕ) (ys : List ℕ) (fault : PackFault) : Type 0 where

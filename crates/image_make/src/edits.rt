@@ -1,16 +1,18 @@
 //! Edits of one object of a flash image.
-ghost use Rattle.std.specs.Prelude.{◌≡◌, ◌+◌, ◌%◌, ◌<◌, ◌≤◌, length, IfSome, Some, None, Ok, false, true};
+ghost use Rattle.std.specs.Prelude.{◌≡◌, ◌+◌, ◌%◌, ◌<◌, ◌≤◌, length, IfSome, OnOk, Some, None, Ok, false, true};
 ghost use Rattle.std.specs.List.{list_all};
 ghost use Rattle.tk_base.specs.Numbers.{rounded_up};
 ghost use Rattle.tbf_headers.specs.Numbers.{half, word_at};
 ghost use Rattle.tbf_headers.specs.Meaning.{header_reading, meaning_of};
 ghost use Rattle.tbf_headers.specs.Objects.{object_at};
 ghost use Rattle.flash_walk.specs.Image.{objects};
+ghost use Rattle.image_make.specs.Edited.{LeavesEnabled, LeavesGiven};
 ghost use Rattle.image_make.specs.Edits.{mended, with_flags, with_enabled, padded, renamed};
 ghost use Rattle.image_make.specs.Parts.{object_found};
 ghost use Rattle.image_make.specs.Outcomes.{has_fault, sound_found, IsSoundObject, found_bytes, enabled, enabling, may_name, place_for, IsNamePlace, with_name, renaming, Edits};
 ghost use Rattle.image_make.specs.Parts.{is_visible};
 
+use crate::laws::{enabled_is_walked, given_is_walked};
 use arrayvec::ArrayVec;
 use flash_walk::{Found, Verdict, walk};
 use tbf_headers::{NAME, checksum_of, first_tlv, half_at, object_at, word_at};
@@ -125,8 +127,10 @@ fn enable_object(flash: &mut [u8], object: &Found, on: bool)
 /// [`EditFault::NoObject`] where the walk finds no object there, or one whose header has a fault.
 pub fn set_enabled(flash: &mut [u8], offset: u32, on: bool) -> Result<(), EditFault>
     requires short { length flash.old ≤ FLASH_LIMIT }
-    ensures { Edits (enabling on offset flash.old) flash.old flash.new result }
+    ensures edits { Edits (enabling on offset flash.old) flash.old flash.new result }
+    ensures walked { OnOk result (LeavesEnabled on offset flash.old flash.new) }
 {
+    enabled_is_walked();
     match sound_object(flash, offset) {
         None => Err(EditFault::NoObject),
         Some(object) => {
@@ -230,8 +234,10 @@ fn rename_object(flash: &mut [u8], object: &Found, at: usize, name: &[u8])
 /// [`EditFault::Length`] where the object has no package name, or one of another rounded length.
 pub fn rename(flash: &mut [u8], offset: u32, name: &[u8]) -> Result<(), EditFault>
     requires short { length flash.old ≤ FLASH_LIMIT }
-    ensures { Edits (renaming name.now offset flash.old) flash.old flash.new result }
+    ensures edits { Edits (renaming name.now offset flash.old) flash.old flash.new result }
+    ensures walked { OnOk result (LeavesGiven name.now offset flash.old flash.new) }
 {
+    given_is_walked();
     let Some(object) = sound_object(flash, offset) else {
         return Err(EditFault::NoObject);
     };

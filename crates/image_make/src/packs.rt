@@ -3,8 +3,9 @@ ghost use Rattle.std.specs.Prelude.{◌≡◌, ◌≤◌, length, MatchResult, O
 ghost use Rattle.tk_base.specs.declared.limits.TheConstants.{OBJECT_LIMIT};
 ghost use Rattle.flash_walk.specs.Image.{objects};
 ghost use Rattle.image_make.specs.Images.{covered, packed};
-ghost use Rattle.image_make.specs.Packs.{IsPacked, IsPackRefused};
+ghost use Rattle.image_make.specs.Packs.{IsPacked, IsPackRefused, PacksBehind};
 
+use crate::laws::packed_is_walked;
 use arrayvec::ArrayVec;
 use flash_walk::{Found, walk};
 use tk_base::{FLASH_LIMIT, OBJECT_LIMIT};
@@ -59,9 +60,11 @@ pub fn pack_one(image: &mut Vec<u8>, file: &[u8], objects: &mut u32) -> Result<(
         (λ _. IsPacked objects.old image.old.items file.now objects.new image.new.items)
         (λ fault. IsPackRefused objects.old image.old.items file.now objects.new image.new.items
         fault) }
+    ensures walked { OnOk result (PacksBehind objects.old image.old.items file.now) }
     ensures few_objects { OnOk result (objects.new ≤ OBJECT_LIMIT) }
     ensures short_image { OnOk result (length image.new.items ≤ FLASH_LIMIT) }
 {
+    packed_is_walked();
     let (found, size) = extent(file);
     let count = *objects + found;
     if count as usize > OBJECT_LIMIT {

@@ -14,6 +14,7 @@ use grant_enter::Home;
 use grant_values::counts;
 use process_layout::Layout;
 use process_record::{Outcome, Process};
+use swap_tables::Handover;
 use syscall_abi::{Reply, Swap};
 use tk_base::{CallRule, PairKind, Slot};
 
@@ -62,7 +63,14 @@ fn hand(home: &mut Home, slot: Slot, swap: Swap) -> Result<(u32, u32), CallRule>
     if !may_share(kind, &layout, pair) {
         return Err(CallRule::Outside);
     }
-    match home.hand(slot, kind, driver, &counts, number, pair) {
+    let handover = Handover {
+        kind,
+        driver,
+        counts,
+        number,
+        pair,
+    };
+    match home.hand(slot, handover) {
         Ok(former) => Ok(former),
         Err(_) => Err(CallRule::NoRoom),
     }

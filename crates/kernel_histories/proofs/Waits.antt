@@ -1,11 +1,12 @@
 -- A process that waits for one upcall alone gets the arguments of the first scheduling of it.
 use Rattle.std.proofs.Common.{◌≡◌, ◌≢◌, ℕ, ◌+◌, ◌==◌, Bool, true, false, cond, List, [], ◌∷◌, ◌++◌, find, slice_get}
-use Rattle.std.proofs.Common.{Option, None, Some, IfSome, refl, sym, ap, ap₂, ◌∙◌, eqb-true, eq-eqb}
-use Rattle.std.specs.Prelude.{All, filter_map, option_and_then, unwrap_or}
+use Rattle.std.proofs.Common.{Option, None, Some, IfSome, refl, sym, ap, ap₂, ◌∙◌, eqb-true, eq-eqb, subst, not, ◌&&◌}
+use Rattle.std.proofs.Common.{is_some}
+use Rattle.std.specs.Prelude.{All, IsSomeAnd, filter_map, option_and_then, unwrap_or}
 use Rattle.std.specs.List.{cons_option, flat_map, list_any}
 use Rattle.std.specs.Option.{option_map}
 use Rattle.std.proofs.lemmas.Bool.{false≢true}
-use Rattle.std.proofs.lemmas.List.Elements.{All-nil, All-cons, All-weaker}
+use Rattle.std.proofs.lemmas.List.Elements.{All-nil, All-cons, All-head, All-tail, All-weaker}
 use Rattle.tk_base.specs.declared.process.Choice.{Choice}
 use Rattle.tk_base.specs.declared.process.Choice.TheVariants.{Run, Device, Pass}
 use Rattle.tk_base.specs.declared.process.Verb.{Verb}
@@ -15,7 +16,7 @@ use Rattle.tk_base.specs.declared.upcall.Wait.TheVariants.{For, Given}
 use Rattle.rv32_model.specs.Laws.{CallsAreOfEcall}
 use Rattle.upcall_queue.specs.declared.inbox.Delivery.TheVariants.{Arguments}
 use Rattle.upcall_queue.specs.declared.inbox.Inbox.{Inbox}
-use Rattle.upcall_queue.specs.Pending.{awaits, due_by, has_room, is_of, place_of, scheduled}
+use Rattle.upcall_queue.specs.Pending.{awaits, due, due_by, has_room, is_of, place_of, scheduled}
 use Rattle.driver_model.specs.Upcalls.{scheduled_if}
 use Rattle.process_record.specs.declared.process.Process.{Process}
 use Rattle.process_record.specs.declared.process.State.{State}
@@ -26,15 +27,16 @@ use Rattle.kernel_model.specs.declared.settings.Settings.{Settings}
 use Rattle.kernel_model.specs.Calls.{yield_for}
 use Rattle.kernel_model.specs.Turn.{Act, Event, Turn, TurnTrace, apply, is_turn, turn_counted, turn_in}
 use Rattle.kernel_model.specs.Parts.{delivery}
-use Rattle.kernel_model.specs.Turn.{turned, Turned}
+use Rattle.kernel_model.specs.Turn.{has_turn, may_turn, turned, Turned}
 use Rattle.kernel_model.specs.World.{Answer, DeviceStep, Label, Stepped, World, after, carried_out, device_step_of}
-use Rattle.kernel_model.specs.World.{done}
+use Rattle.kernel_model.specs.World.{done, labels}
 use Rattle.kernel_model.specs.World.{labels_told, ran}
 use Rattle.kernel_model.specs.Parts.{happens, labels_of}
 use Rattle.process_record.specs.Operator.{ends_by}
 use Rattle.kernel_model.specs.Replay.{after_all}
 use Rattle.kernel_model.specs.Parts.{happened}
 use Rattle.kernel_model.specs.Histories.{is_end, is_ended_in, turns_in}
+use Rattle.kernel_laws.specs.Ready.{IsOfReady, TurnsAreOfReadyProcesses}
 use Rattle.kernel_laws.specs.Scheduled.{answer_step, upcall_told}
 use Rattle.kernel_histories.specs.Deliveries.{FirstOf, Takes, takes, told_in, wait_in, wait_in_slot}
 use Rattle.kernel_histories.specs.Deliveries.{wait_of}
@@ -292,8 +294,59 @@ step_gives w slot choice r s args is left waits =
         ∙ ap (λ (y : Record). (turned w.settings w.clock.time y).after.process) same
         ∙ given_turn w.settings w.clock.time r args (ap (λ (y : Record). y.process.held) (sym same) ∙ free) waits
 
-pub waits_get_the_first : CallsAreOfEcall → WaitsGetTheFirst
-waits_get_the_first of_ecall w slot = record {
+-- one that waits for an upcall alone may have no turn
+waiting_rests : (r : Record) (driver number : ℕ) → wait_of r ≡ Some (For driver number) → may_turn r ≡ false
+waiting_rests r driver number waits = by_state r.process.state waits
+  where
+    rests : (held : Bool) → (not held && false) ≡ false
+    rests true = refl
+    rests false = refl
+
+    by_state : (state : State) → wait_in state r.own.inbox.wait ≡ Some (For driver number)
+        → (not r.process.held && has_turn state (due r.own.inbox)) ≡ false
+    by_state Running is = absurd (cc)
+    by_state Yielded is =
+        let alone : r.own.inbox.wait ≡ For driver number = cc in
+        ap (λ (wait : Wait). not r.process.held && is_some (due_by wait r.own.inbox.pending)) alone
+        ∙ rests r.process.held
+    by_state Faulted is = absurd (cc)
+    by_state (Terminated code) is = absurd (cc)
+
+-- so none of the labels of a step tells one
+no_turns : (v : World) (slot : ℕ) (r : Record) → slice_get v.records slot ≡ Some r → may_turn r ≡ false
+    → (ls : List Label) → All (IsOfReady v) ls → flat_map (turns_in slot) ls ≡ []
+no_turns v slot r there none [] ready = refl
+no_turns v slot r there none (label ∷ ls) ready =
+    by_turn (is_turn label.event) refl (label.slot == slot) refl
+    (no_turns v slot r there none ls (All-tail (IsOfReady v) label ls ready))
+  where
+    may_not : is_turn label.event ≡ true → (label.slot == slot) ≡ true → ⊥
+    may_not turn here =
+        let at : label.slot ≡ slot = eqb-true label.slot slot here in
+        false≢true (sym none ∙ subst (λ (o : Option Record). IsSomeAnd o (λ q. may_turn q ≡ true))
+        (ap (slice_get v.records) at ∙ there) (All-head (IsOfReady v) label ls ready turn))
+
+    by_turn : (turn : Bool) → is_turn label.event ≡ turn → (here : Bool) → (label.slot == slot) ≡ here
+        → flat_map (turns_in slot) ls ≡ []
+        → cond (turn && here) (label.trace ∷ []) [] ++ flat_map (turns_in slot) ls ≡ []
+    by_turn true turn true here rest = absurd (may_not turn here)
+    by_turn true turn false here rest = rest
+    by_turn false turn here at rest = rest
+
+waiting_has_none : TurnsAreOfReadyProcesses → (v : World) (slot : ℕ) (choice : Choice) (driver number : ℕ)
+    → wait_in_slot slot v ≡ Some (For driver number) → told_in slot v choice ≡ []
+waiting_has_none law v slot choice driver number waits = by_record (slice_get v.records slot) refl waits
+  where
+    by_record : (o : Option Record) → slice_get v.records slot ≡ o
+        → option_and_then wait_of o ≡ Some (For driver number) → told_in slot v choice ≡ []
+    by_record None there waits = absurd (cc)
+    by_record (Some r) there waits =
+        no_turns v slot r there (waiting_rests r driver number waits) (labels v choice) (law v choice)
+
+pub waits_get_the_first : CallsAreOfEcall → TurnsAreOfReadyProcesses → WaitsGetTheFirst
+waits_get_the_first of_ecall ready w slot = record {
+  rests = λ choices choice driver number.
+      waiting_has_none ready (after_all w choices) slot choice driver number;
   calls = λ choices choice r s driver number is left none.
       All-weaker (λ told. WaitsFor (takes (wait_of r) told.call) r s)
       (λ told. takes (wait_of r) told.call ≡ FirstOf driver number → wait_of s ≡ Some (For driver number))

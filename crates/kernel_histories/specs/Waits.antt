@@ -43,7 +43,7 @@ HasNoTurn slot w (choice ∷ choices) =
 -- Of a world and a slot: any choices are made. A turn whose call asks for the upcall of a driver and a number alone, of
 -- which none waits, has the process wait for it. While it has no turn then, and no operator ends a life of it, it waits
 -- for it still exactly where none of the driver and number was scheduled for it since, null or not and dropped or not;
--- else it has the arguments of the first. Its next turn delivers these.
+-- else it has the arguments of the first. As long as it waits it has no turn; its next one delivers these.
 pub record GivesTheFirst (w : World) (slot : ℕ) : Type 0 where
   pub calls : (choices : List Choice) (choice : Choice) (r s : Record) (driver number : ℕ) →
       let v = after_all w choices in
@@ -56,6 +56,9 @@ pub record GivesTheFirst (w : World) (slot : ℕ) : Type 0 where
       let v = after_all w choices in
       wait_in_slot slot v ≡ Some (For driver number) → HasNoTurn slot v since →
       wait_in_slot slot (after_all v since) ≡ Some (awaited driver number (upcalls_since slot v since))
+  pub rests : (choices : List Choice) (choice : Choice) (driver number : ℕ) →
+      let v = after_all w choices in
+      wait_in_slot slot v ≡ Some (For driver number) → told_in slot v choice ≡ []
   pub given : (choices : List Choice) (choice : Choice) (r s : Record) (args : List ℕ) →
       let v = after_all w choices in
       slice_get v.records slot ≡ Some r → slice_get (after v choice).records slot ≡ Some s →

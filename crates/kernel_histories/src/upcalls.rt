@@ -3,6 +3,7 @@ ghost use Rattle.kernel_histories.specs.Deliveries.{DeliveriesAreOfTheLast};
 ghost use Rattle.kernel_histories.specs.Waits.{WaitsGetTheFirst};
 
 use driver_model::{drivers_leave_pairs, drivers_schedule_what_is_held};
+use kernel_laws::only_ready_processes_have_turns;
 use process_model::only_handing_changes_pairs;
 use rv32_model::denials_are_due;
 
@@ -25,9 +26,10 @@ pub fn deliveries_are_of_the_last()
 /// In every run a process whose yield asks for the upcall of a driver and a number alone, of which
 /// none waits, gets in its next turn the arguments of the first one that is scheduled from then on,
 /// null or not and with however many that wait, if no operator ends its life before; until then it
-/// waits, whatever else is scheduled for it (TRD 104, "Yield").
+/// waits, whatever else is scheduled for it, and has no turn (TRD 104, "Yield").
 pub fn waits_get_the_first()
     ensures { WaitsGetTheFirst }
 {
     denials_are_due();
+    only_ready_processes_have_turns();
 }

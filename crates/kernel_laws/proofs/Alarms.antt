@@ -2,12 +2,12 @@
 -- is due.
 use Rattle.std.proofs.Common.{◌≡◌, ◌≤◌, ◌<◌, ℕ, zero, suc, ◌+◌, ◌-◌, ◌*◌, ◌/◌, ◌==◌, Bool, true, false, cond, List, []}
 use Rattle.std.proofs.Common.{◌∷◌, find, Option, None, Some, is_some, slice_get, unwrap_or, refl, ap, sym, subst, ◌∙◌}
-use Rattle.std.proofs.Common.{arith, eqb-true, fold}
+use Rattle.std.proofs.Common.{◌⊎◌, inl, inr, arith, eqb-true, fold, min}
 use Rattle.std.specs.Prelude.{All, IfSome, IsSomeAnd}
 use Rattle.std.proofs.lemmas.Bool.Decides.{nat_tests}
 use Rattle.std.specs.List.{range_with_len}
 use Rattle.std.specs.Option.{option_and_then, option_map, option_or}
-use Rattle.std.proofs.lemmas.Bool.{false≢true}
+use Rattle.std.proofs.lemmas.Bool.{cases_lt, false≢true}
 use Rattle.std.proofs.lemmas.List.Elements.{All-nil, All-cons}
 use Rattle.std.proofs.lemmas.Option.{slice_get_within}
 use Rattle.tk_base.specs.declared.limits.TheConstants.{SLOT_COUNT}
@@ -33,7 +33,8 @@ use Rattle.kernel_model.specs.Laws.{one_answered}
 use Rattle.kernel_model.specs.Run.{is_left, passes_to, next, next_time, ready_devices, ready_slots}
 use Rattle.kernel_model.proofs.Places.{of_stepped}
 use Rattle.kernel_model.proofs.Told.{edge_answer, of_device, told_labels, with_rest}
-use Rattle.kernel_laws.specs.Alarms.{AlarmsComeFirst, FiresWhenDue, NoneFiresEarly, PassesStopAtAlarms, takes_time}
+use Rattle.kernel_laws.specs.Alarms.{AlarmsComeFirst, FiresWhenDue, NextIsTheLeast, NoneFiresEarly}
+use Rattle.kernel_laws.specs.Alarms.{PassesStopAtAlarms, takes_time}
 use Rattle.kernel_laws.proofs.OneRun.{left_at, mapped_get, none_in_range}
 
 -- a choice that takes time is made where no device step is ready
@@ -225,6 +226,53 @@ left_up_to now owns None slot x may within h =
     fold_finds now owns 0 SLOT_COUNT slot None x (omega arith) (omega (arith, within)) h
 left_up_to now owns (Some only) slot x may within h =
     subst (λ (n : ℕ). IsUpTo x (ticks_left_in now owns n)) (eqb-true slot only may) h
+
+-- what is nearest is left of one of them
+OfOne : ℕ → List Own → Option ℕ → Type 0
+OfOne now owns least =
+    IfSome least (λ ticks. (slot : ℕ) × ((slot < SLOT_COUNT) × (ticks_left_in now owns slot ≡ Some ticks)))
+
+nearer_one : (now : ℕ) (owns : List Own) (a b : Option ℕ) → OfOne now owns a → OfOne now owns b
+    → OfOne now owns (nearer a b)
+unfolding OfOne
+nearer_one now owns None b h k = k
+nearer_one now owns (Some m) None h k = h
+nearer_one now owns (Some m) (Some n) h k = by_order (cases_lt m n)
+  where
+    by_order : (m < n) ⊎ (n ≤ m)
+        → (slot : ℕ) × ((slot < SLOT_COUNT) × (ticks_left_in now owns slot ≡ Some (min m n)))
+    by_order (inl less) = (h.0, (h.1.0, h.1.1 ∙ ap Some (omega (arith, less))))
+    by_order (inr more) = (k.0, (k.1.0, k.1.1 ∙ ap Some (omega (arith, more))))
+
+left_one : (now : ℕ) (owns : List Own) (slot : ℕ) → slot < SLOT_COUNT → OfOne now owns (ticks_left_in now owns slot)
+unfolding OfOne
+left_one now owns slot below = by_ticks (ticks_left_in now owns slot) refl
+  where
+    by_ticks : (o : Option ℕ) → ticks_left_in now owns slot ≡ o
+        → IfSome o (λ ticks. (slot : ℕ) × ((slot < SLOT_COUNT) × (ticks_left_in now owns slot ≡ Some ticks)))
+    by_ticks None is = tt
+    by_ticks (Some ticks) is = (slot, (below, is))
+
+fold_one : (now : ℕ) (owns : List Own) (from count : ℕ) (least : Option ℕ) → from + count ≤ SLOT_COUNT
+    → OfOne now owns least → OfOne now owns (fold (nearer_with now owns) least (range_with_len from count))
+fold_one now owns from zero least within h = h
+fold_one now owns from (suc count) least within h =
+    fold_one now owns (from + 1) count (nearer_with now owns least from) (omega (arith, within))
+    (nearer_one now owns least (ticks_left_in now owns from) h (left_one now owns from (omega (arith, within))))
+
+pub next_is_the_least : NextIsTheLeast
+unfolding next_left OfOne
+next_is_the_least now owns = record {
+  of_one = fold_one now owns 0 SLOT_COUNT None (omega arith) tt;
+  none_less = λ slot below. by_ticks slot below (ticks_left_in now owns slot) refl;
+}
+  where
+    by_ticks : (slot : ℕ) → slot < SLOT_COUNT → (o : Option ℕ) → ticks_left_in now owns slot ≡ o
+        → IfSome o (λ left. IsUpTo left (fold (nearer_with now owns) None (range_with_len 0 SLOT_COUNT)))
+    by_ticks slot below None is = tt
+    by_ticks slot below (Some left) is =
+        fold_finds now owns 0 SLOT_COUNT slot None left (omega arith) (omega (arith, below))
+        (subst (IsUpTo left) (sym is) (omega arith))
 
 later_up_to : (time x : ℕ) (o : Option ℕ) → IsUpTo x o → IsUpTo (time + x) (option_map (λ left. time + left) o)
 later_up_to time x None h = absurd h

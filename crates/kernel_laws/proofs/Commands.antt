@@ -1,7 +1,7 @@
--- A command to any driver leaves what was scheduled for its process, before it schedules something itself.
+-- What a command to any driver leaves of its process, before it schedules something: the same, the clock shown, or
+-- another value that the driver keeps, which is entered or not.
 use Rattle.std.proofs.Common.{◌≡◌, ℕ, ◌+◌, ◌==◌, nat_le, nat_lt, Bool, true, false, cond, List, [], ◌∷◌, find, Option}
-use Rattle.std.proofs.Common.{None}
-use Rattle.std.proofs.Common.{Some, refl, subst, unwrap_or}
+use Rattle.std.proofs.Common.{None, Some, refl, ap, sym, subst, unwrap_or, ◌∙◌, eqb-true}
 use Rattle.std.specs.Option.{option_map}
 use Rattle.tk_base.specs.declared.call.CallRule.TheVariants.{NoCommand}
 use Rattle.grant_values.specs.declared.alarm.Armed.{Armed}
@@ -9,9 +9,11 @@ use Rattle.grant_values.specs.declared.console.WaitingRead.{WaitingRead}
 use Rattle.grant_values.specs.declared.drivers.Driver.{Driver}
 use Rattle.grant_values.specs.declared.drivers.Driver.TheVariants.{Alarm, Buttons, Console, Leds, Random, Storage}
 use Rattle.grant_values.specs.declared.storage.StorageRequest.{StorageRequest}
-use Rattle.grant_values.specs.Drivers.{driver_of}
+use Rattle.grant_values.specs.Drivers.{driver_of, drivers, number_of_driver}
+use Rattle.grant_values.specs.Values.{KeptValue, NoValue}
 use Rattle.process_model.specs.Own.{Own}
-use Rattle.process_model.specs.Handed.{has_place}
+use Rattle.process_model.specs.Handed.{has_place, own_entering}
+use Rattle.process_model.specs.Served.{kept, with_kept}
 use Rattle.driver_model.specs.Alarm as alarm
 use Rattle.driver_model.specs.Buttons as buttons
 use Rattle.driver_model.specs.Commands.{Commanded, Switch, by_number, refusing}
@@ -19,124 +21,202 @@ use Rattle.driver_model.specs.Console as console
 use Rattle.driver_model.specs.Drivers.{CommandContext, CommandHandler, handler_by, handler_of}
 use Rattle.driver_model.specs.Leds as leds
 use Rattle.driver_model.specs.Random as random
-use Rattle.driver_model.specs.Requests.{RequestKind, asking, request_in}
+use Rattle.driver_model.specs.Requests.{RequestKind, asking, request_in, with_request}
 use Rattle.driver_model.specs.Parts.{asking_beside}
 use Rattle.driver_model.specs.Storage as storage
+use Rattle.kernel_laws.proofs.Values.{entering_beside, kept_beside}
 
--- what is scheduled for a process is as it was
-abbrev Leaves : Own → Commanded → Type 0
-Leaves own c = c.step.own.inbox ≡ own.inbox
+-- what holds of a process as it was, and of each of these, by the driver that leaves it
+pub record OfEachKeeping (P : ℕ → Own → Own → Type 0) : Type 0 where
+  pub same : (driver : ℕ) (own : Own) → P driver own own
+  pub shows : (now : ℕ) (own : Own) → P alarm.alarm_driver own (alarm.showing now own)
+  pub keeps : (driver : ℕ) (value : KeptValue) (own : Own) → P driver own (with_kept driver value own)
+  pub enters : (driver : ℕ) (value : KeptValue) (own : Own)
+      → P driver own (with_kept driver value (own_entering driver own))
 
--- so does each row of a table
-Each : Own → List (ℕ × Commanded) → Type 0
-Each own [] = Unit {0}
-Each own (row ∷ rows) = Leaves own row.1 × Each own rows
+module _ (P : ℕ → Own → Own → Type 0) (each : OfEachKeeping P) (driver : ℕ) (own : Own) where
+  -- so it is after a command
+  abbrev Leaves : Commanded → Type 0
+  Leaves c = P driver own c.step.own
 
-found : (own : Own) (rows : List (ℕ × Commanded)) (number : ℕ) → Each own rows → Leaves own (by_number own rows number)
-unfolding Each
-found own [] number each = refl
-found own (row ∷ rows) number each = by_row (row.0 == number) each.0 (found own rows number each.1)
+  -- and after each row of a table
+  Each : List (ℕ × Commanded) → Type 0
+  Each [] = Unit {0}
+  Each (row ∷ rows) = Leaves row.1 × Each rows
+
+  found : (rows : List (ℕ × Commanded)) (number : ℕ) → Each rows → Leaves (by_number own rows number)
+  unfolding Each
+  found [] number holds = each.same driver own
+  found (row ∷ rows) number holds = by_row (row.0 == number) holds.0 (found rows number holds.1)
+    where
+      by_row : (b : Bool) → Leaves row.1 → Leaves (by_number own rows number)
+          → Leaves (unwrap_or (option_map (λ (r : ℕ × Commanded). r.1)
+          (cond b (Some row) (find (λ (r : ℕ × Commanded). r.0 == number) rows))) (refusing NoCommand own))
+      by_row true here later = here
+      by_row false here later = later
+
+  if_so : (b : Bool) (c d : Commanded) → Leaves c → Leaves d → Leaves (cond b c d)
+  if_so true c d h k = h
+  if_so false c d h k = k
+
+  if_asked : {R : Type 0} (kind : RequestKind R) (request : R) → kind.driver ≡ driver → Leaves (asking kind request own)
+  if_asked {R} kind request is = by_waiting (request_in kind own)
+    where
+      by_waiting : (waiting : Option R) → Leaves (asking_beside kind waiting request own)
+      by_waiting None =
+          if_so (has_place kind.driver own) _ _
+          (subst (λ (d : ℕ). P d own (with_request kind (Some request) (own_entering kind.driver own))) is
+          (each.enters kind.driver (kind.with_request (Some request)
+          (unwrap_or (kept kind.driver (own_entering kind.driver own)) NoValue)) own)) (each.same driver own)
+      by_waiting (Some other) = each.same driver own
+
+module _ (P : ℕ → Own → Own → Type 0) (each : OfEachKeeping P) (around : CommandContext) (number a2 a3 : ℕ) (own : Own)
   where
-    by_row : (b : Bool) → Leaves own row.1 → Leaves own (by_number own rows number)
-        → Leaves own (unwrap_or (option_map (λ (r : ℕ × Commanded). r.1)
-        (cond b (Some row) (find (λ (r : ℕ × Commanded). r.0 == number) rows))) (refusing NoCommand own))
-    by_row true here later = here
-    by_row false here later = later
+    if_stopped : (armed : Option Armed) → P alarm.alarm_driver own (alarm.stopping armed own).step.own
+    if_stopped None = each.same _ own
+    if_stopped (Some armed) = each.keeps _ _ own
 
-if_so : (own : Own) (b : Bool) (c d : Commanded) → Leaves own c → Leaves own d → Leaves own (cond b c d)
-if_so own true c d h k = h
-if_so own false c d h k = k
+    if_armed : (armed : Armed) → P alarm.alarm_driver own (alarm.arming armed own).step.own
+    if_armed armed =
+        if_so P each alarm.alarm_driver own (has_place alarm.alarm_driver own) _ _ (each.enters _ _ own) (each.same _ own)
 
-if_asked : {R : Type 0} (kind : RequestKind R) (request : R) (own : Own) → Leaves own (asking kind request own)
-if_asked {R} kind request own = by_waiting (request_in kind own)
-  where
-    by_waiting : (waiting : Option R) → Leaves own (asking_beside kind waiting request own)
-    by_waiting None = if_so own (has_place kind.driver own) _ _ refl refl
-    by_waiting (Some other) = refl
-
-module _ (around : CommandContext) (number a2 a3 : ℕ) (own : Own) where
-  if_stopped : (armed : Option Armed) → Leaves own (alarm.stopping armed own)
-  if_stopped None = refl
-  if_stopped (Some armed) = refl
-
-  if_armed : (armed : Armed) → Leaves own (alarm.arming armed own)
-  if_armed armed = if_so own (has_place alarm.alarm_driver own) _ _ refl refl
-
-  of_alarm : Leaves own (alarm.command around.now number a2 a3 own)
-  unfolding Each alarm.command alarm.commands
-  of_alarm =
-      found own (alarm.commands around.now a2 a3 own) number
-      (refl, (refl, (refl, (if_stopped (alarm.alarm_in own), (if_armed _, (if_armed _, tt))))))
-
-  if_cancelled : (read : Option WaitingRead) → Leaves own (console.cancelling read own)
-  if_cancelled None = refl
-  if_cancelled (Some read) = refl
-
-  of_console : Leaves own (console.command number a2 own)
-  unfolding Each console.command console.commands
-  of_console =
-      found own (console.commands a2 own) number (
-        refl,
-        (
-          if_asked console.console_writes _ own,
+    of_alarm : P alarm.alarm_driver own (alarm.command around.now number a2 a3 own).step.own
+    unfolding Each alarm.command alarm.commands
+    of_alarm =
+        found P each alarm.alarm_driver own (alarm.commands around.now a2 a3 own) number (
+          each.same _ own,
           (
-            if_so own (a2 == 0) _ _ refl (if_asked console.console_reads _ own),
-            (if_cancelled (request_in console.console_reads own), tt),
+            each.same _ own,
+            (each.shows around.now own, (if_stopped (alarm.alarm_in own), (if_armed _, (if_armed _, tt)))),
           ),
-        ),
-      )
+        )
 
-  if_switched : (switch : Switch) → Leaves own (leds.switching around.leds a2 switch own)
-  if_switched switch = if_so own (nat_lt a2 around.leds) _ _ refl refl
+    if_cancelled : (read : Option WaitingRead) → P console.console own (console.cancelling read own).step.own
+    if_cancelled None = each.same _ own
+    if_cancelled (Some read) = each.keeps _ _ own
 
-  of_leds : Leaves own (leds.command around.leds number a2 own)
-  unfolding Each leds.command leds.commands
-  of_leds =
-      found own (leds.commands around.leds a2 own) number (refl, (if_switched _, (if_switched _, (if_switched _, tt))))
+    of_console : P console.console own (console.command number a2 own).step.own
+    unfolding Each console.command console.commands
+    of_console =
+        found P each console.console own (console.commands a2 own) number (
+          each.same _ own,
+          (
+            if_asked P each console.console own console.console_writes _ refl,
+            (
+              if_so P each console.console own (a2 == 0) _ _ (each.same _ own)
+                  (if_asked P each console.console own console.console_reads _ refl),
+              (if_cancelled (request_in console.console_reads own), tt),
+            ),
+          ),
+        )
 
-  if_there : (c : Commanded) → Leaves own c → Leaves own (buttons.of_button around.buttons a2 own c)
-  if_there c h = if_so own (nat_lt a2 around.buttons) _ _ h refl
+    if_switched : (driver : ℕ) (switch : Switch) → P driver own (leds.switching around.leds a2 switch own).step.own
+    if_switched driver switch =
+        if_so P each driver own (nat_lt a2 around.leds) _ _ (each.same driver own) (each.same driver own)
 
-  of_buttons : Leaves own (buttons.command around.buttons around.pressed number a2 own)
-  unfolding Each buttons.command buttons.commands
-  of_buttons =
-      found own (buttons.commands around.buttons around.pressed a2 own) number (
-        refl,
-        (
-          if_there (buttons.enabling a2 own) (if_so own (has_place buttons.buttons own) _ _ refl refl),
-          (if_there _ refl, (if_there _ refl, tt)),
-        ),
-      )
+    of_leds : (driver : ℕ) → P driver own (leds.command around.leds number a2 own).step.own
+    unfolding Each leds.command leds.commands
+    of_leds driver =
+        found P each driver own (leds.commands around.leds a2 own) number
+        (each.same driver own, (if_switched driver _, (if_switched driver _, (if_switched driver _, tt))))
 
-  of_random : Leaves own (random.command number a2 own)
-  unfolding Each random.command random.commands
-  of_random = found own (random.commands a2 own) number (refl, (if_asked random.randoms _ own, tt))
+    if_there : (c : Commanded) → P buttons.buttons own c.step.own
+        → P buttons.buttons own (buttons.of_button around.buttons a2 own c).step.own
+    if_there c h = if_so P each buttons.buttons own (nat_lt a2 around.buttons) _ _ h (each.same _ own)
 
-  if_fits : (request : StorageRequest) → Leaves own (storage.requesting around.storage request own)
-  if_fits request =
-      if_so own (nat_le (request.offset + request.length) around.storage) _ _ (if_asked storage.storages request own)
-      refl
+    of_buttons : P buttons.buttons own (buttons.command around.buttons around.pressed number a2 own).step.own
+    unfolding Each buttons.command buttons.commands
+    of_buttons =
+        found P each buttons.buttons own (buttons.commands around.buttons around.pressed a2 own) number (
+          each.same _ own,
+          (
+            if_there (buttons.enabling a2 own)
+                (if_so P each buttons.buttons own (has_place buttons.buttons own) _ _ (each.enters _ _ own)
+                (each.same _ own)),
+            (if_there _ (each.keeps _ _ own), (if_there _ (each.same _ own), tt)),
+          ),
+        )
 
-  of_storage : Leaves own (storage.command around.storage number a2 a3 own)
-  unfolding Each storage.command storage.commands
-  of_storage =
-      found own (storage.commands around.storage a2 a3 own) number (refl, (refl, (if_fits _, (if_fits _, tt))))
+    of_random : P random.random own (random.command number a2 own).step.own
+    unfolding Each random.command random.commands
+    of_random =
+        found P each random.random own (random.commands a2 own) number
+        (each.same _ own, (if_asked P each random.random own random.randoms _ refl, tt))
 
-  of_driver : (d : Driver) → Leaves own (handler_by d around number a2 a3 own)
-  of_driver Alarm = of_alarm
-  of_driver Console = of_console
-  of_driver Leds = of_leds
-  of_driver Buttons = of_buttons
-  of_driver Random = of_random
-  of_driver Storage = of_storage
+    if_fits : (request : StorageRequest) → P storage.storage own (storage.requesting around.storage request own).step.own
+    if_fits request =
+        if_so P each storage.storage own (nat_le (request.offset + request.length) around.storage) _ _
+        (if_asked P each storage.storage own storage.storages request refl) (each.same _ own)
 
-pub command_leaves : (driver : ℕ) (taker : CommandHandler) → handler_of driver ≡ Some taker → (around : CommandContext)
-    (number a2 a3 : ℕ) (own : Own) → Leaves own (taker around number a2 a3 own)
-command_leaves driver taker is around number a2 a3 own = by_driver (driver_of driver) is
+    of_storage : P storage.storage own (storage.command around.storage number a2 a3 own).step.own
+    unfolding Each storage.command storage.commands
+    of_storage =
+        found P each storage.storage own (storage.commands around.storage a2 a3 own) number
+        (each.same _ own, (each.same _ own, (if_fits _, (if_fits _, tt))))
+
+    of_driver : (d : Driver) → P (number_of_driver d) own (handler_by d around number a2 a3 own).step.own
+    of_driver Alarm = of_alarm
+    of_driver Console = of_console
+    of_driver Leds = of_leds _
+    of_driver Buttons = of_buttons
+    of_driver Random = of_random
+    of_driver Storage = of_storage
+
+-- a driver that is found has that number
+is_number : (driver : ℕ) (d : Driver) (ds : List Driver) → find (λ x. number_of_driver x == driver) ds ≡ Some d
+    → number_of_driver d ≡ driver
+is_number driver d [] e = absurd (cc)
+is_number driver d (x ∷ ds) e = by_first (number_of_driver x == driver) refl e (is_number driver d ds)
   where
-    by_driver : (d : Option Driver) → option_map handler_by d ≡ Some taker → Leaves own (taker around number a2 a3 own)
-    by_driver None e = absurd (cc)
-    by_driver (Some d) e =
+    by_first : (b : Bool) → (number_of_driver x == driver) ≡ b
+        → cond b (Some x) (find (λ x. number_of_driver x == driver) ds) ≡ Some d
+        → (find (λ x. number_of_driver x == driver) ds ≡ Some d → number_of_driver d ≡ driver)
+        → number_of_driver d ≡ driver
+    by_first true is e later =
+        let same : x ≡ d = cc in
+        ap number_of_driver (sym same) ∙ eqb-true (number_of_driver x) driver is
+    by_first false is e later = later e
+
+-- what holds of the handlers of drivers with that number holds of whatever takes its commands
+pub handled : (P : CommandHandler → Type 0) (driver : ℕ) (taker : CommandHandler) → handler_of driver ≡ Some taker
+    → ((d : Driver) → number_of_driver d ≡ driver → P (handler_by d)) → P taker
+handled P driver taker is each = by_driver (driver_of driver) refl is
+  where
+    by_driver : (d : Option Driver) → driver_of driver ≡ d → option_map handler_by d ≡ Some taker → P taker
+    by_driver None there e = absurd (cc)
+    by_driver (Some d) there e =
         let same : handler_by d ≡ taker = cc in
-        subst (λ (t : CommandHandler). Leaves own (t around number a2 a3 own)) same
-        (of_driver around number a2 a3 own d)
+        subst P same (each d (is_number driver d drivers there))
+
+-- of any command to any driver
+pub of_command : (P : ℕ → Own → Own → Type 0) → OfEachKeeping P → (driver : ℕ) (taker : CommandHandler)
+    → handler_of driver ≡ Some taker → (around : CommandContext) (number a2 a3 : ℕ) (own : Own)
+    → P driver own (taker around number a2 a3 own).step.own
+of_command P each driver taker is around number a2 a3 own =
+    handled (λ (t : CommandHandler). P driver own (t around number a2 a3 own).step.own) driver taker is
+    (λ d same. subst (λ (n : ℕ). P n own (handler_by d around number a2 a3 own).step.own) same
+    (of_driver P each around number a2 a3 own d))
+
+-- what was scheduled for the process stays
+pub command_leaves : (driver : ℕ) (taker : CommandHandler) → handler_of driver ≡ Some taker → (around : CommandContext)
+    (number a2 a3 : ℕ) (own : Own) → (taker around number a2 a3 own).step.own.inbox ≡ own.inbox
+command_leaves driver taker is around number a2 a3 own =
+    of_command (λ d before after. after.inbox ≡ before.inbox) (record {
+      same = λ d o. refl;
+      shows = λ now o. refl;
+      keeps = λ d value o. refl;
+      enters = λ d value o. refl;
+    }) driver taker is around number a2 a3 own
+
+-- and what it keeps for every other driver
+pub command_leaves_others : (driver : ℕ) (taker : CommandHandler) → handler_of driver ≡ Some taker
+    → (around : CommandContext) (number a2 a3 : ℕ) (own : Own) (other : ℕ) → (driver == other) ≡ false
+    → kept other (taker around number a2 a3 own).step.own ≡ kept other own
+command_leaves_others driver taker is around number a2 a3 own other =
+    of_command (λ d before after. (d == other) ≡ false → kept other after ≡ kept other before) (record {
+      same = λ d o apart. refl;
+      shows = λ now o apart. refl;
+      keeps = λ d value o apart. kept_beside d other value o apart;
+      enters = λ d value o apart.
+          kept_beside d other value (own_entering d o) apart ∙ entering_beside d other o apart;
+    }) driver taker is around number a2 a3 own

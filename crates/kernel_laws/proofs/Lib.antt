@@ -11,9 +11,14 @@ mod Alarms
 mod Ready
 mod Queues
 mod Tables
+mod Lanes
 mod Words
-mod Commands
+mod Inputs
+pub mod Values
+pub mod Commands
+pub mod Beside
 pub mod Scheduled
 pub mod EdgeSteps
 pub mod Arrivals
 mod Windows
+mod Worked

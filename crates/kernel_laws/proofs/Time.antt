@@ -1,11 +1,11 @@
 -- That time comes into a turn by the alarm's commands alone, by the turn, the end of its instruction and its call.
-use Rattle.std.proofs.Common.{◌≡◌, ℕ, ◌==◌, ◌&&◌, Bool, true, false, cond, List, ◌∷◌, [], find, Option, None, Some}
-use Rattle.std.proofs.Common.{refl, ap, sym, subst, ◌∙◌, eqb-true, eq-eqb}
+use Rattle.std.proofs.Common.{◌≡◌, ℕ, ◌==◌, ◌&&◌, Bool, true, false, cond, List, Option, None, Some}
+use Rattle.std.proofs.Common.{refl, ap, sym, ◌∙◌, eq-eqb}
 use Rattle.std.proofs.lemmas.Bool.{false≢true}
 use Rattle.std.specs.Option.{option_map}
 use Rattle.tk_base.specs.Regs.{Registers}
 use Rattle.tk_base.specs.declared.call.CallRule.TheVariants.{Permission}
-use Rattle.grant_values.specs.Drivers.{driver_of, drivers, number_of_driver}
+use Rattle.grant_values.specs.Drivers.{number_of_driver}
 use Rattle.grant_values.specs.declared.drivers.Driver.{Driver}
 use Rattle.grant_values.specs.declared.drivers.Driver.TheVariants.{Alarm, Buttons, Console, Leds, Random, Storage}
 use Rattle.rv32_model.specs.declared.turn_end.TurnEnd.{TurnEnd}
@@ -28,44 +28,25 @@ use Rattle.kernel_model.specs.Calls.{Served, by_form, failure_of, refused_with, 
 use Rattle.kernel_model.specs.Parts.{calls, object_permits}
 use Rattle.kernel_model.specs.Turn.{at_turn_end, called, surroundings, turn_counted, turn_in, turned, idle}
 use Rattle.kernel_laws.proofs.Causes.{IsCommand, command_class, form_in}
+use Rattle.kernel_laws.proofs.Commands.{handled}
 use Rattle.kernel_laws.specs.Clock.{TimeComesInByTheAlarm, is_for_alarm}
-
--- a driver that is found has that number
-is_number : (driver : ℕ) (d : Driver) (ds : List Driver) → find (λ x. number_of_driver x == driver) ds ≡ Some d
-    → (number_of_driver d == driver) ≡ true
-is_number driver d [] e = absurd (cc)
-is_number driver d (x ∷ ds) e = by_first (number_of_driver x == driver) refl e (is_number driver d ds)
-  where
-    by_first : (b : Bool) → (number_of_driver x == driver) ≡ b
-        → cond b (Some x) (find (λ x. number_of_driver x == driver) ds) ≡ Some d
-        → (find (λ x. number_of_driver x == driver) ds ≡ Some d → (number_of_driver d == driver) ≡ true)
-        → (number_of_driver d == driver) ≡ true
-    by_first true is e later = let same : x ≡ d = cc in
-        ap (λ (y : Driver). number_of_driver y == driver) (sym same) ∙ is
-    by_first false is e later = later e
 
 -- no other driver reads the clock
 blind : (n driver : ℕ) (taker : CommandHandler) → handler_of driver ≡ Some taker → (driver == alarm_driver) ≡ false
     → (around : CommandContext) (number a2 a3 : ℕ) (own : Own)
     → taker (record around { now = n }) number a2 a3 own ≡ taker around number a2 a3 own
-blind n driver taker is apart around number a2 a3 own = by_found (driver_of driver) refl is
+blind n driver taker is apart around number a2 a3 own = handled IsBlind driver taker is by_driver
   where
     IsBlind : CommandHandler → Type 0
     IsBlind t = t (record around { now = n }) number a2 a3 own ≡ t around number a2 a3 own
 
-    by_driver : (d : Driver) → (number_of_driver d == driver) ≡ true → IsBlind (handler_by d)
-    by_driver Alarm e =
-        absurd (false≢true (sym apart ∙ eq-eqb driver alarm_driver (sym (eqb-true alarm_driver driver e))))
+    by_driver : (d : Driver) → number_of_driver d ≡ driver → IsBlind (handler_by d)
+    by_driver Alarm e = absurd (false≢true (sym apart ∙ eq-eqb driver alarm_driver (sym e)))
     by_driver Console e = refl
     by_driver Leds e = refl
     by_driver Buttons e = refl
     by_driver Random e = refl
     by_driver Storage e = refl
-
-    by_found : (d : Option Driver) → driver_of driver ≡ d → option_map handler_by d ≡ Some taker → IsBlind taker
-    by_found None there e = absurd (cc)
-    by_found (Some d) there e = let same : handler_by d ≡ taker = cc in
-        subst IsBlind same (by_driver d (is_number driver d drivers there))
 
 -- whether registers make a command to the alarm
 abbrev is_alarms : Registers → Bool

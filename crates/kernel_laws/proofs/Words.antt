@@ -1,12 +1,10 @@
 -- Which random words the steps tell, and which are left.
-use Rattle.std.proofs.Common.{◌≡◌, ◌≤◌, ℕ, zero, suc, ◌==◌, Bool, true, false, cond, List, [], ◌∷◌, ◌++◌, filter}
+use Rattle.std.proofs.Common.{◌≡◌, ◌≤◌, ℕ, zero, suc, ◌==◌, Bool, true, false, cond, List, [], ◌∷◌, ◌++◌}
 use Rattle.std.proofs.Common.{length, slice_get, slice_index_or, slice_set, IfSome, Option, None, Some, refl, sym, ap, ap₂}
 use Rattle.std.proofs.Common.{subst, ◌∙◌, arith, eqb-true, eq-eqb}
 use Rattle.std.proofs.lemmas.Bool.{false≢true}
 use Rattle.std.proofs.lemmas.List.{get_or-set_other}
-use Rattle.std.specs.Prelude.{All}
 use Rattle.std.proofs.lemmas.List.{append_assoc, append-nil}
-use Rattle.std.proofs.lemmas.List.Elements.{All-head, All-tail, filter-append}
 use Rattle.tk_base.specs.declared.process.Choice.{Choice}
 use Rattle.tk_base.specs.declared.process.Choice.TheVariants.{Run, Device, Pass}
 use Rattle.tk_base.specs.declared.process.Dev.{Dev}
@@ -21,10 +19,10 @@ use Rattle.kernel_model.specs.Record.{flash_of}
 use Rattle.kernel_model.specs.World.{Answer, Devices, Label, Stepped, World, acted, after, carried_out}
 use Rattle.kernel_model.specs.Parts.{drawn_event}
 use Rattle.kernel_model.specs.World.{device_step_of, done, labels, ran, random_step, routed, stepped}
-use Rattle.kernel_model.specs.World.{DeviceAnswer, Pace, answer_label, lane_in}
+use Rattle.kernel_model.specs.World.{DeviceAnswer, answer_label, lane_in}
 use Rattle.kernel_model.specs.Named.{lane_by}
 use Rattle.kernel_model.specs.Parts.{acts_of, alarmed}
-use Rattle.kernel_model.specs.World.{may_serve, only_at, only_for, operating, queue_without, receive_step}
+use Rattle.kernel_model.specs.World.{only_for, operating, queue_without, receive_step}
 use Rattle.kernel_model.specs.Parts.{served_by}
 use Rattle.kernel_model.specs.World.{storing, telling_edge, transmitting, turn_label, with_queue}
 use Rattle.kernel_model.specs.Named.{words_in}
@@ -35,8 +33,7 @@ use Rattle.kernel_model.specs.Choices.{labels_of_all}
 use Rattle.kernel_model.specs.Replay.{after_all}
 use Rattle.kernel_laws.specs.Words.{WordsAreDrawnInOrder, of_lane, word_in, word_told, words_told}
 use Rattle.kernel_model.proofs.Places.{of_stepped}
-use Rattle.kernel_laws.proofs.Turns.{step_same}
-use Rattle.partition_turns.specs.Windows.{window_slot}
+use Rattle.kernel_laws.proofs.Lanes.{lane_joined, one_silent, served_here, tells_none}
 use Rattle.tk_base.specs.declared.process.Dev.TheVariants as dev
 
 -- what a turn asks of the board draws none
@@ -55,13 +52,6 @@ routed_words : (slot : ℕ) (acts : List BoardRequest) (d : Devices) → (routed
 routed_words slot [] d = refl
 routed_words slot (act ∷ acts) d = routed_words slot acts (acted slot act d) ∙ acted_words slot act d
 
--- the words of some labels, and then of others
-joined : (first then : List Label) → words_told (first ++ then) ≡ words_told first ++ words_told then
-joined [] then = refl
-joined (label ∷ labels) then =
-    ap (λ (words : List ℕ). word_told label ++ words) (joined labels then)
-    ∙ sym (append_assoc (word_told label) (words_told labels) (words_told then))
-
 sent_none : (b : Bool) → word_in (cond b WriteDone Taken) ≡ []
 sent_none true = refl
 sent_none false = refl
@@ -75,27 +65,6 @@ drawn_is (first ∷ words) (Some word) next = ap (λ (w : ℕ). w ∷ words) (th
   where
     the_one : (x y : ℕ) → Some x ≡ Some y → x ≡ y
     the_one x y e = cc
-
--- whom a lane serves is of that lane
-first_served : (only slot : ℕ) (slots : List ℕ) → slice_get (filter (λ (s : ℕ). s == only) slots) 0 ≡ Some slot
-    → slot ≡ only
-first_served only slot [] e = absurd (cc)
-first_served only slot (s ∷ slots) e = by_test (s == only) refl (first_served only slot slots) e
-  where
-    by_test : (b : Bool) → (s == only) ≡ b
-        → (slice_get (filter (λ (s : ℕ). s == only) slots) 0 ≡ Some slot → slot ≡ only)
-        → slice_get (cond b (s ∷ filter (λ (s : ℕ). s == only) slots) (filter (λ (s : ℕ). s == only) slots)) 0 ≡ Some slot
-        → slot ≡ only
-    by_test true is later e =
-        let same : s ≡ slot = cc in
-        sym same ∙ eqb-true s only is
-    by_test false is later e = later e
-
-served_here : (time window slot : ℕ) (slots : List ℕ)
-    → slice_get (may_serve (only_at time window) slots) 0 ≡ Some slot
-    → lane_by (only_for window slot) ≡ lane_by (only_at time window)
-served_here time zero slot slots e = refl
-served_here time (suc n) slot slots e = first_served (window_slot time (suc n)) slot slots e
 
 -- what stands at a place of a list once it was put there
 put_there : (xs : List (List ℕ)) (i : ℕ) (v : List ℕ) → (length xs ≤ i → v ≡ []) → slice_index_or (slice_set xs i v) i [] ≡ v
@@ -113,27 +82,6 @@ none_after : (drawn : Option ℕ) → random.words_after drawn [] ≡ []
 none_after None = refl
 none_after (Some word) = refl
 
-module _ (window lane : ℕ) where
-  -- a label that tells no word tells none in any lane
-  one_silent : (label : Label) → word_told label ≡ [] → words_told (of_lane window lane (label ∷ [])) ≡ []
-  one_silent label none = by_test (lane_by (only_for window label.slot) == lane)
-    where
-      by_test : (b : Bool) → words_told (cond b (label ∷ []) []) ≡ []
-      by_test true = ap (λ (words : List ℕ). words ++ []) none
-      by_test false = refl
-
-  tells_none : (ls : List Label) → All (λ label. word_told label ≡ []) ls → words_told (of_lane window lane ls) ≡ []
-  tells_none [] none = refl
-  tells_none (label ∷ ls) none =
-      by_test (lane_by (only_for window label.slot) == lane)
-      (tells_none ls (All-tail (λ label. word_told label ≡ []) label ls none))
-    where
-      by_test : (b : Bool) → words_told (of_lane window lane ls) ≡ []
-          → words_told (cond b (label ∷ of_lane window lane ls) (of_lane window lane ls)) ≡ []
-      by_test true rest =
-          ap₂ (λ (first later : List ℕ). first ++ later) (All-head (λ label. word_told label ≡ []) label ls none) rest
-      by_test false rest = rest
-
 module _ (tell : EventsTellSteps) (w : World) (lane : ℕ) where
   -- the words that were left in a lane before are those that a step tells there, and then those that are left
   abbrev DrawsInOrder : Stepped → Type 0
@@ -144,7 +92,7 @@ module _ (tell : EventsTellSteps) (w : World) (lane : ℕ) where
   quietly : (label : Label) (d : Devices) → word_told label ≡ [] → d.words ≡ w.devices.words
       → words_in lane w.devices ≡ words_told (of_lane w.pace.window lane (label ∷ [])) ++ words_in lane d
   quietly label d none same =
-      sym (ap (λ (words : List ℕ). words ++ words_in lane d) (one_silent w.pace.window lane label none)
+      sym (ap (λ (words : List ℕ). words ++ words_in lane d) (one_silent word_told w.pace.window lane label none)
       ∙ ap (λ (words : List (List ℕ)). slice_index_or words lane []) same)
 
   answers_quietly : (slot : ℕ) (r : Record) (a : DeviceAnswer) → word_in a.answer.event ≡ []
@@ -190,7 +138,7 @@ module _ (tell : EventsTellSteps) (w : World) (lane : ℕ) where
   edges : (button : ℕ) (pressed : Bool) (rest : List Arrival)
       → DrawsInOrder (edge_done w button pressed (with_rest w.devices rest))
   edges button pressed rest =
-      sym (ap (λ (words : List ℕ). words ++ words_in lane w.devices) (tells_none w.pace.window lane
+      sym (ap (λ (words : List ℕ). words ++ words_in lane w.devices) (tells_none word_told w.pace.window lane
       (edge_labels button pressed w)
       (told_labels (λ label. word_told label ≡ []) (telling_edge button pressed w.records w.devices).told 0 w.records
       (λ slot at r a here there is.
@@ -233,15 +181,10 @@ pub words_are_drawn_in_order : EventsTellSteps → WordsAreDrawnInOrder
 words_are_drawn_in_order tell w [] lane = refl
 words_are_drawn_in_order tell w (choice ∷ choices) lane =
     let v = after w choice in
-    let window = w.pace.window in
-    let first = words_told (of_lane window lane (labels w choice)) in
-    let later = words_told (of_lane window lane (labels_of_all v choices)) in
+    let first = words_told (of_lane w.pace.window lane (labels w choice)) in
+    let later = words_told (of_lane v.pace.window lane (labels_of_all v choices)) in
     let left = words_in lane (after_all v choices).devices in
-    let on : words_in lane v.devices ≡ later ++ left =
-    subst (λ (n : ℕ). words_in lane v.devices ≡ words_told (of_lane n lane (labels_of_all v choices)) ++ left)
-    (ap (λ (p : Pace). p.window) (step_same w choice).pace) (words_are_drawn_in_order tell v choices lane) in
-    step_draws tell w lane choice ∙ ap (λ (words : List ℕ). first ++ words) on
+    step_draws tell w lane choice
+    ∙ ap (λ (words : List ℕ). first ++ words) (words_are_drawn_in_order tell v choices lane)
     ∙ sym (append_assoc first later left)
-    ∙ ap (λ (words : List ℕ). words ++ left) (sym (ap words_told (filter-append
-    (λ (label : Label). lane_by (only_for window label.slot) == lane) (labels w choice) (labels_of_all v choices))
-    ∙ joined (of_lane window lane (labels w choice)) (of_lane window lane (labels_of_all v choices))))
+    ∙ ap (λ (words : List ℕ). words ++ left) (sym (lane_joined word_told w choice choices lane))

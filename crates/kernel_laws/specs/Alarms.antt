@@ -1,11 +1,12 @@
 -- That an alarm fires when it is due. The alarm is Tock's driver 0x0; that devices come before turns and passes is this
 -- board's own rule.
-use Rattle.std.specs.Prelude.{◌≡◌, ◌≤◌, ℕ, Bool, true, false, length, slice_get, Some, None, is_some, All, IfSome}
+use Rattle.std.specs.Prelude.{◌≡◌, ◌≤◌, ◌<◌, ℕ, Bool, true, false, length, List, Option, slice_get, Some, None, is_some, All, IfSome}
 use Rattle.std.specs.Prelude.{IsSomeAnd}
 use Rattle.tk_base.specs.declared.limits.TheConstants.{SLOT_COUNT}
 use Rattle.tk_base.specs.declared.process.Choice.{Choice}
 use Rattle.tk_base.specs.declared.process.Choice.TheVariants.{Device, Pass}
-use Rattle.driver_model.specs.Alarm.{due_alarm, ticks_left_of}
+use Rattle.process_model.specs.Own.{Own}
+use Rattle.driver_model.specs.Alarm.{due_alarm, next_left, ticks_left_in, ticks_left_of}
 use Rattle.kernel_model.specs.Record.{Record}
 use Rattle.kernel_model.specs.Turn.{Alarmed}
 use Rattle.kernel_model.specs.World.{Label, World, is_let, labels, now_in, only_in}
@@ -41,3 +42,14 @@ FiresWhenDue w label =
 -- no alarm fires before it is due, whoever makes the choice
 abbrev pub NoneFiresEarly : Type 0
 NoneFiresEarly = (w : World) (choice : Choice) → All (FiresWhenDue w) (labels w choice)
+
+-- Ticks are the least that are left of the alarms of the board's slots: they are left of one of them, and no fewer of
+-- any; and there are none only where none of them has an alarm armed that lives.
+pub record IsLeastLeft (now : ℕ) (owns : List Own) (least : Option ℕ) : Type 0 where
+  pub of_one : IfSome least (λ ticks. (slot : ℕ) × ((slot < SLOT_COUNT) × (ticks_left_in now owns slot ≡ Some ticks)))
+  pub none_less : (slot : ℕ) → slot < SLOT_COUNT →
+      IfSome (ticks_left_in now owns slot) (λ left. IsSomeAnd least (λ ticks. ticks ≤ left))
+
+-- so many are left until the next alarm becomes due
+abbrev pub NextIsTheLeast : Type 0
+NextIsTheLeast = (now : ℕ) (owns : List Own) → IsLeastLeft now owns (next_left now owns)

@@ -2,6 +2,7 @@ pub mod Fairness
 pub mod OneRun
 pub mod Tables
 pub mod Words
+pub mod Inputs
 pub mod Clock
 pub mod Alarms
 pub mod Ready

@@ -14,7 +14,7 @@ pub use rounds::{
     round_is_stretch, rounds_join,
 };
 pub use steps::{
-    grants_change_at_calls, only_ready_processes_have_turns, queues_are_first_come_first_served,
-    refusals_change_little, tables_name_the_same_drivers, time_comes_in_by_the_alarm,
-    turns_keep_lines, words_are_drawn_in_order,
+    grants_change_at_calls, input_is_kept, only_ready_processes_have_turns,
+    queues_are_first_come_first_served, refusals_change_little, tables_name_the_same_drivers,
+    time_comes_in_by_the_alarm, turns_keep_lines, words_are_drawn_in_order,
 };

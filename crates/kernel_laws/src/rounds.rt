@@ -2,7 +2,8 @@
 ghost use Rattle.kernel_model.specs.Stretch.{NoneIsStretch, PresentIsNextOnTheWay, PresentStaysOn};
 ghost use Rattle.kernel_model.specs.Stretch.{RoundIsStretch, RoundsJoin, StretchesJoin};
 ghost use Rattle.kernel_laws.specs.Windows.{LanesAreAhead, NextIsOfTheWindow};
-ghost use Rattle.kernel_laws.specs.Alarms.{AlarmsComeFirst, NoneFiresEarly, PassesStopAtAlarms};
+ghost use Rattle.kernel_laws.specs.Alarms.{AlarmsComeFirst, NextIsTheLeast, NoneFiresEarly};
+ghost use Rattle.kernel_laws.specs.Alarms.{PassesStopAtAlarms};
 ghost use Rattle.kernel_laws.specs.Fairness.{ReadyProcessesHaveTurns};
 ghost use Rattle.kernel_laws.specs.OneRun.{ChosenAreReady, IsDoneWhereNothingIsLeft, OneRun};
 
@@ -64,10 +65,11 @@ pub fn next_is_of_the_window()
 /// robin or of the windows, gives no process a turn and lets no time pass as long as the alarm of a
 /// process is due that may be served; and time that it lets pass ends when the next of these
 /// becomes due, if not before. And whoever makes the choices, an alarm that fires is due then, by
-/// the clock that its process is told.
+/// the clock that its process is told. The next one is that of which the fewest ticks are left.
 #[tactic(auto, using(crate::proofs::Alarms::alarms_come_first, crate::proofs::Alarms::passes_stop_at_alarms))]
 pub fn alarms_fire_when_due()
     ensures first { AlarmsComeFirst }
     ensures passes { PassesStopAtAlarms }
     ensures early { NoneFiresEarly }
+    ensures least { NextIsTheLeast }
 {}

@@ -4,6 +4,7 @@ ghost use Rattle.kernel_model.specs.Laws.{DropsAtMostOne, GrantsChangeAtCalls, T
 ghost use Rattle.kernel_model.specs.Laws.{TurnsKeepLines};
 ghost use Rattle.kernel_model.specs.Refused.{RefusalsChangeLittle};
 ghost use Rattle.kernel_laws.specs.Clock.{TimeComesInByTheAlarm};
+ghost use Rattle.kernel_laws.specs.Inputs.{InputIsKept};
 ghost use Rattle.kernel_laws.specs.Queues.{FirstAreServed, QueuesKeepOrder};
 ghost use Rattle.kernel_laws.specs.Ready.{TurnsAreOfReadyProcesses, UnreadyTurnsDoNothing};
 ghost use Rattle.kernel_laws.specs.Tables.{EachRowFitsAWord, SameDrivers};
@@ -63,6 +64,14 @@ pub fn words_are_drawn_in_order()
 {
     events_tell_steps();
 }
+
+/// Input is kept: whatever choices are made, what the processes of a lane are told that came in on
+/// the serial line, in that order, and then what is left in the ring of the lane, is what remains
+/// of what stood in the ring and what came in by these choices, in its order. It is all of that
+/// where the ring never overflowed.
+pub fn input_is_kept()
+    ensures { InputIsKept }
+{}
 
 /// Time comes into a turn by the alarm alone: one that makes no command to the alarm leaves, tells
 /// and asks for the same at any other time, wherever the clock began (TRD 104, "Command").

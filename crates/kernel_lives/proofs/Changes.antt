@@ -128,7 +128,12 @@ pub after_act : (I J : Record → Type 0) → IsActed I J → (verb : Verb) (r :
 after_act I J a verb r h =
     of_operated (λ ended s. J s) r (a.done r h) (λ held. a.holds r held h) (λ lives. a.ends r h) (a.again r h) verb
 
-module _ (R : Own → Own → Type 0) (services : OfEachService R) (I J : Record → Type 0) (k : IsKept R I J) where
+-- what holds of a process before and after each command to a driver
+abbrev pub OfEachCommand : (Own → Own → Type 0) → Type 0
+OfEachCommand R = (driver : ℕ) (taker : CommandHandler) → handler_of driver ≡ Some taker →
+    (around : CommandContext) (number a2 a3 : ℕ) (own : Own) → R own (own_after (taker around number a2 a3 own).step)
+
+module _ (R : Own → Own → Type 0) (commands : OfEachCommand R) (I J : Record → Type 0) (k : IsKept R I J) where
   Q : Served → Type 0
   Q s = J s.after
 
@@ -278,7 +283,7 @@ module _ (R : Own → Own → Type 0) (services : OfEachService R) (I J : Record
   by_command around r h driver number a2 a3 (Some taker) is =
       let c = taker around number a2 a3 r.own in
       by_answer r c (k.serves r (own_after c.step) r.storage r.pressed
-      (services.command driver taker is around number a2 a3 r.own) h) c.answer
+      (commands driver taker is around number a2 a3 r.own) h) c.answer
 
   of_form : (around : CommandContext) (r : Record) → is_alive r.process.state ≡ true → I r → (form : CallForm)
       → Q (by_form around r form)
@@ -320,11 +325,11 @@ module _ (R : Own → Own → Type 0) (services : OfEachService R) (I J : Record
 
   -- after a turn: where it had none, as it was; else by what stands once the turn was counted, and its instruction has
   -- had its effect
-  pub after_turn : (settings : Settings) (time : ℕ) (r : Record)
+  pub after_own_turn : (settings : Settings) (time : ℕ) (r : Record)
       → (may_turn r ≡ false → J r) → I (turn_counted r)
       → I (with_effect (turn_counted r) (instruction r)) → J (turned settings time r).after
   unfolding turned
-  after_turn settings time r none waited went = by_held r.process.held refl
+  after_own_turn settings time r none waited went = by_held r.process.held refl
     where
       no_turn : (held : Bool) → (not held && false) ≡ false
       no_turn true = refl
@@ -351,6 +356,12 @@ module _ (R : Own → Own → Type 0) (services : OfEachService R) (I J : Record
       by_held false is =
           by_state r.process.state refl
           (λ over. none (ap (λ (t : Bool). not r.process.held && t) over ∙ no_turn r.process.held))
+
+module _ (R : Own → Own → Type 0) (services : OfEachService R) (I J : Record → Type 0) (k : IsKept R I J) where
+  -- after a turn
+  pub after_turn : (settings : Settings) (time : ℕ) (r : Record) → (may_turn r ≡ false → J r) → I (turn_counted r)
+      → I (with_effect (turn_counted r) (instruction r)) → J (turned settings time r).after
+  after_turn settings time r none waited went = after_own_turn R services.command I J k settings time r none waited went
 
   -- after an answer
   pub after_answer : (settings : Settings) (event : Event) (r : Record) → IsAnswer event → I r

@@ -11,4 +11,8 @@ mod Loads
 mod Ended
 mod OwnBuffers
 mod Requests
+mod Begun
 mod StoredBytes
+mod Within
+mod Writing
+mod Writes

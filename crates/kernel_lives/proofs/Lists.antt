@@ -334,32 +334,32 @@ moved_own left own o p same lines =
     subst (λ (x : Own). ((queue : QueueName) → has_waiting queue x ≡ cond (left queue) false (has_waiting queue own)))
     (sym same) lines
 
-sent_own : (settings : Settings) (r : Record) (step : DriverStep) (b : Bool)
+pub sent_own : (settings : Settings) (r : Record) (step : DriverStep) (b : Bool)
     → step ≡ cond b (console.write_done r.own) (console.taken r.own)
     → (apply settings (cond b WriteDone Taken) r).own ≡ own_after step
 unfolding apply
 sent_own settings r step true e = ap own_after (sym e)
 sent_own settings r step false e = ap own_after (sym e)
 
-drawn_own : (settings : Settings) (r : Record) (drawn : Option ℕ)
+pub drawn_own : (settings : Settings) (r : Record) (drawn : Option ℕ)
     → (apply settings (drawn_event drawn) r).own ≡ own_after (random.answered drawn r.own).step
 unfolding apply
 drawn_own settings r None = refl
 drawn_own settings r (Some word) = refl
 
-stored_own : (settings : Settings) (r : Record) (fails : Bool)
+pub stored_own : (settings : Settings) (r : Record) (fails : Bool)
     → (apply settings (Stored (not fails)) r).own
     ≡ own_after (storage.answered fails (flash_of r) r.storage r.own).step
 unfolding apply
 stored_own settings r true = refl
 stored_own settings r false = refl
 
-input_own : (settings : Settings) (r : Record) (bytes : List ℕ)
+pub input_own : (settings : Settings) (r : Record) (bytes : List ℕ)
     → (apply settings (Input bytes) r).own ≡ own_after (console.input bytes r.own)
 unfolding apply
 input_own settings r bytes = refl
 
-alarmed_own : (settings : Settings) (r : Record) (now : ℕ)
+pub alarmed_own : (settings : Settings) (r : Record) (now : ℕ)
     → (apply settings (Alarmed now) r).own ≡ own_after (alarm.answered now r.own)
 unfolding apply
 alarmed_own settings r now = refl

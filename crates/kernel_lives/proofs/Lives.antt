@@ -80,7 +80,7 @@ restart_by P r same each = by_reading (header_reading r.object) refl
     by_reading (Err fault) is = same
 
 -- a flag that is written changes bytes alone
-flag_rest : (at byte : ℕ) (own : Own) → with_flag at byte own ≡ record own { ram = (with_flag at byte own).ram }
+pub flag_rest : (at byte : ℕ) (own : Own) → with_flag at byte own ≡ record own { ram = (with_flag at byte own).ram }
 flag_rest at byte own = by_test (lies_in_ram own.layout at 1)
   where
     by_test : (b : Bool) → let o = cond b (record own { ram = slice_set own.ram (at - own.layout.start) byte }) own in

@@ -217,7 +217,7 @@ failed_writes r = by_request (waiting_in storage.storages r.own)
     by_request None = refl
     by_request (Some request) = refl
 
-acted : (verb : Verb) (r : Record) → (operated verb r).storage ≡ r.storage
+pub acted : (verb : Verb) (r : Record) → (operated verb r).storage ≡ r.storage
 acted verbs.List r = refl
 acted verbs.Stop r = refl
 acted verbs.Start r = refl
@@ -225,7 +225,7 @@ acted verbs.Terminate r = refl
 acted verbs.Restart r = restarted r
 
 -- each thing that happens to a process writes what it says over its storage
-one_writes : (settings : Settings) (event : Event) (r : Record)
+pub one_writes : (settings : Settings) (event : Event) (r : Record)
     → (apply settings event r).storage ≡ all_written (writes_at event r) r.storage
 unfolding apply
 one_writes settings (Turn time) r = turn_leaves_storage settings time r

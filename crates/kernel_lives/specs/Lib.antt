@@ -4,3 +4,4 @@ pub mod Ended
 pub mod OwnBuffers
 pub mod Requests
 pub mod StoredBytes
+pub mod Writes

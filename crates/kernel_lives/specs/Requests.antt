@@ -1,11 +1,12 @@
 -- That requests which begin to wait are completed once at most, and that none outlives the life in which it waits.
 -- Requests wait in grants (Levy et al., SOSP 2017, section 4); their queues are this board's own rule.
-use Rattle.std.specs.Prelude.{◌≡◌, ◌≤◌, ℕ, ◌+◌, ◌==◌, ◌&&◌, Bool, true, false, not, List, [], ◌∷◌, slice_get, Some}
+use Rattle.std.specs.Prelude.{◌≡◌, ◌≤◌, ℕ, ◌+◌, ◌==◌, ◌&&◌, Bool, true, false, not, List, [], ◌∷◌, slice_get, slice_index, is_none, Some}
 use Rattle.std.specs.Prelude.{IfSome, option_map, unwrap_or}
 use Rattle.std.specs.List.{list_any}
 use Rattle.tk_base.specs.declared.process.Choice.{Choice}
 use Rattle.driver_model.specs.Commands.{QueueName, order_of}
-use Rattle.driver_model.specs.Lines.{has_waiting}
+use Rattle.driver_model.specs.Lines.{has_waiting, kind_in}
+use Rattle.process_record.specs.declared.emit.CallMade.{CallMade}
 use Rattle.kernel_model.specs.Record.{Record}
 use Rattle.kernel_model.specs.World.{Label, World, after, labels}
 use Rattle.kernel_model.specs.Lives.{LivesAsItRuns}
@@ -60,3 +61,19 @@ abbrev pub RequestsEndWithTheirLife : Type 0
 RequestsEndWithTheirLife = (w : World) (choice : Choice) (slot : ℕ) (r : Record) →
     slice_get w.records slot ≡ Some r → LivesAsItRuns r →
     IfSome (slice_get (after w choice).records slot) (HasRequestsOfItsLife r)
+
+-- whether a call is a command to the driver of a queue that broke no rule
+abbrev pub asks_for : QueueName → CallMade → Bool
+asks_for queue made =
+    made.class == 2 && (slice_index made.args 0 == (kind_in queue).driver && is_none made.rule)
+
+-- whether a label tells such a call in a turn of the process in a slot
+abbrev pub tells_asking : QueueName → ℕ → Label → Bool
+tells_asking queue slot label =
+    label.slot == slot && unwrap_or (option_map (asks_for queue) label.trace.call) false
+
+-- A request begins to wait by an accepted command to its driver alone, of a process that lives as it runs.
+abbrev pub RequestsBeginByCommands : Type 0
+RequestsBeginByCommands = (w : World) (choice : Choice) (queue : QueueName) (slot : ℕ) →
+    IfSome (slice_get w.records slot) LivesAsItRuns → begins_in queue slot w choice ≡ true →
+    list_any (tells_asking queue slot) (labels w choice) ≡ true

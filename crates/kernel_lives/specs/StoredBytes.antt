@@ -12,13 +12,15 @@ use Rattle.process_model.specs.Handed.{held}
 use Rattle.process_model.specs.Served.{bytes_at}
 use Rattle.board_devices.specs.Storage.{overwritten}
 use Rattle.driver_model.specs.Bytes.{stored_buffer}
+use Rattle.driver_model.specs.Lines.{IsWithin}
 use Rattle.driver_model.specs.Requests.{waiting_in}
 use Rattle.driver_model.specs.Storage as storage
 use Rattle.kernel_model.specs.Record.{Record, flash_of}
 use Rattle.kernel_model.specs.declared.settings.Settings.{Settings}
 use Rattle.kernel_model.specs.Turn.{Event, Stored, apply}
-use Rattle.kernel_model.specs.World.{World}
+use Rattle.kernel_model.specs.World.{World, after}
 use Rattle.kernel_model.specs.Replay.{after_all, history}
+use Rattle.kernel_model.specs.Lives.{LivesAsItRuns}
 use Rattle.kernel_model.specs.Wholes.{HasWholeOwn}
 
 -- what a request writes over the storage, and from where on, if it is served now: a write as many bytes as it asks for
@@ -60,3 +62,32 @@ ReadsGiveStorage = (settings : Settings) (r : Record) (request : StorageRequest)
     let buffer = stored_buffer r.own in
     k < request.length → k < buffer.1 →
     own_byte (apply settings (Stored true) r).own (buffer.0 + k) ≡ slice_index r.storage (request.offset + k)
+
+-- a process's storage has so many bytes, and a request of it that waits is for some of these
+abbrev pub AsksWithin : ℕ → Record → Type 0
+AsksWithin size r = IsWithin size r.own × (length r.storage ≡ size)
+
+-- So it is after any choices of a process that lives as it runs, with as many bytes as the settings say.
+abbrev pub RequestsStayWithin : Type 0
+RequestsStayWithin = (w : World) (choices : List Choice) (slot : ℕ) →
+    IfSome (slice_get w.records slot) LivesAsItRuns →
+    IfSome (slice_get w.records slot) (AsksWithin w.settings.storage) →
+    IfSome (slice_get (after_all w choices).records slot) (AsksWithin w.settings.storage)
+
+-- From a process before its read of the storage was served to the process after it: each byte that it asks for from the
+-- offset on, and that its buffer has room for, is that of its storage.
+abbrev pub GaveStorage : Record → Record → Type 0
+GaveStorage r s =
+    IfSome (waiting_in storage.storages r.own) (λ request. request.kind ≡ Read → (k : ℕ) →
+    let buffer = stored_buffer r.own in
+    k < request.length → k < buffer.1 →
+    own_byte s.own (buffer.0 + k) ≡ slice_index r.storage (request.offset + k))
+
+-- So it is in every step after any choices that tells such a process this, where what is its own was whole.
+abbrev pub ReadsInRunsGiveStorage : Type 0
+ReadsInRunsGiveStorage = (w : World) (choices : List Choice) (choice : Choice) (slot : ℕ) (r s : Record) →
+    IfSome (slice_get w.records slot) LivesAsItRuns → IfSome (slice_get w.records slot) HasWholeOwn →
+    IfSome (slice_get w.records slot) (AsksWithin w.settings.storage) →
+    let v = after_all w choices in
+    slice_get v.records slot ≡ Some r → slice_get (after v choice).records slot ≡ Some s →
+    history slot v (choice ∷ []) ≡ Stored true ∷ [] → GaveStorage r s

@@ -3,8 +3,11 @@ ghost use Rattle.kernel_lives.specs.Counts.{CountsAddUp};
 ghost use Rattle.kernel_lives.specs.Ended.{IsFreeOnceEnded};
 ghost use Rattle.kernel_lives.specs.Lists.{ListsStay};
 ghost use Rattle.kernel_lives.specs.OwnBuffers.{WholeOwnsHoldTheirBuffers};
-ghost use Rattle.kernel_lives.specs.Requests.{RequestsCompleteOnce, RequestsEndWithTheirLife};
-ghost use Rattle.kernel_lives.specs.StoredBytes.{ReadsGiveStorage, StorageIsMemory};
+ghost use Rattle.kernel_lives.specs.Requests.{RequestsBeginByCommands, RequestsCompleteOnce};
+ghost use Rattle.kernel_lives.specs.Requests.{RequestsEndWithTheirLife};
+ghost use Rattle.kernel_lives.specs.StoredBytes.{ReadsGiveStorage, ReadsInRunsGiveStorage};
+ghost use Rattle.kernel_lives.specs.StoredBytes.{RequestsStayWithin, StorageIsMemory};
+ghost use Rattle.kernel_lives.specs.Writes.{WritesCompleteTruly};
 ghost use Rattle.kernel_model.specs.Lives.{AsManyStay, BlocksStayApart, DropsOnlyWhereFull};
 ghost use Rattle.kernel_model.specs.Lives.{EndedStays, HasOrder, HasPendingWithinLimit};
 ghost use Rattle.kernel_model.specs.Lives.{LivesAsItRuns, PlacesStay, RestartsAsOpened};
@@ -13,8 +16,9 @@ ghost use Rattle.kernel_model.specs.Prints.{PrintsAreOfBuffers, PrintsCouldBeLoa
 ghost use Rattle.kernel_model.specs.Wholes.{ChoicesHaveCauses, HasWholeOwn, OwnsStayWhole};
 
 use driver_model::{
-    a_due_slot_is_there, drivers_keep_buffers_below_the_mark, drivers_keep_places_and_order,
-    events_tell_steps, lines_follow_answers,
+    a_driver_that_refuses_changes_nothing, a_due_slot_is_there, drivers_ask_for_their_own,
+    drivers_keep_buffers_below_the_mark, drivers_keep_places_and_order, events_tell_steps,
+    lines_follow_answers, only_drivers_move_lines,
 };
 use kernel_laws::{queues_are_first_come_first_served, steps_have_causes, turns_keep_lines};
 use kernel_model::drivers_promise;
@@ -112,22 +116,50 @@ pub fn owns_stay_whole()
 /// Storage is memory: whatever choices are made, the storage of a process is what it was with the
 /// process's own served writes over it, one after another, through each end and start of it. A read
 /// that is served gives the process bytes of its storage as they are then, where what is its own is
-/// whole and the read asks for bytes that are there.
+/// whole and the read asks for bytes that are there. So each request does that waits, of a process
+/// that lives as it runs, after any choices; and so each read that is served then gives it what its
+/// storage has.
 pub fn storage_is_memory()
     ensures memory { StorageIsMemory }
     ensures reads { ReadsGiveStorage }
-{}
+    ensures within { RequestsStayWithin }
+    ensures runs { ReadsInRunsGiveStorage }
+{
+    turns_keep_lines();
+    processes_live_as_they_run();
+    owns_stay_whole();
+}
 
 /// Whatever choices are made: the answers that completed a request of a process in a queue, and the
 /// one that waits still, are no more than its requests that began to wait there, and the one that
-/// waited at first, where the lists were those of requests then. And no request outlives the life
-/// in which it waits.
+/// waited at first, where the lists were those of requests then. No request outlives the life in
+/// which it waits; and one begins to wait by an accepted command to its driver alone, in a turn of a
+/// process that lives as it runs (TRD 104, "Command").
 pub fn requests_complete_once()
     ensures once { RequestsCompleteOnce }
     ensures life { RequestsEndWithTheirLife }
+    ensures begin { RequestsBeginByCommands }
 {
+    a_driver_that_refuses_changes_nothing();
+    drivers_ask_for_their_own();
+    events_tell_steps();
+    lines_follow_answers();
     queues_are_first_come_first_served();
     lists_are_of_requests();
     drivers_keep_places_and_order();
     turns_keep_lines();
+}
+
+/// Writes to the console complete truly: where what is the processes' own was whole, a write that
+/// begins to wait in a step, and waits after each of some choices, has printed the first bytes of
+/// the buffer that its process held meanwhile, in order, if that stayed as it was; and where the
+/// next step tells the process that it completed, its upcall's first argument is how many bytes
+/// these choices printed of it. These are as many as it asked for, or as the buffer has that is
+/// held then (TRD 104, "Read-Only Allow").
+pub fn writes_complete_truly()
+    ensures { WritesCompleteTruly }
+{
+    drivers_keep_places_and_order();
+    only_drivers_move_lines();
+    owns_stay_whole();
 }

@@ -5,8 +5,12 @@
 
 mod handover;
 mod pairs;
+mod standard;
 mod swaps;
 
 pub use handover::Handover;
-pub use pairs::{buffer_ro, buffer_rw, buffer_ur, upcall};
-pub use swaps::{swap_ro, swap_rw, swap_upcall, swap_ur};
+pub use pairs::pair_held;
+pub use standard::{
+    buffer_ro, buffer_rw, buffer_ur, swap_ro, swap_rw, swap_upcall, swap_ur, upcall,
+};
+pub use swaps::swap_pair;

@@ -1,7 +1,6 @@
 //! The pairs that a process holds.
 ghost use Rattle.std.specs.Prelude.{◌≡◌, ℕ, ◌+◌, ◌*◌, ◌/◌, ◌≤◌, List, length, slice_index, slice_set};
 ghost use Rattle.grant_values.specs.Words.{bytes_of_words, words_of};
-ghost use Rattle.tk_base.specs.declared.kinds.PairKind.TheVariants.{Upcall, ReadOnly, ReadWrite, Readable};
 ghost use Rattle.tk_base.specs.Places.{pair_place};
 ghost use Rattle.swap_tables.specs.Swaps.{CanLookUp, held_pair};
 
@@ -10,46 +9,17 @@ use grant_region::area;
 use grant_values::{put_word, word_at, words_in_bytes};
 use tk_base::{Counts, PairKind};
 
-/// The read-only buffer of a number that the process has allowed the driver (TRD 104, "Read-Only
-/// Allow"): its address, and its size in bytes. It is (0, 0) where the process has not entered the
-/// driver. `kernel` is the block from the kernel break on, and `counts` are the driver's.
-pub fn buffer_ro(kernel: &[u8], driver: u32, counts: &Counts, number: u32) -> (u32, u32)
-    requires { CanLookUp ReadOnly driver counts.now number kernel.now }
-    ensures { result ≡ held_pair ReadOnly driver number kernel.now }
-{
-    pair_held(kernel, driver, counts, PairKind::ReadOnly, number)
-}
-
-/// The read-write buffer of a number that the process has allowed the driver (TRD 104, "Read-Write
-/// Allow"), as [`buffer_ro`].
-pub fn buffer_rw(kernel: &[u8], driver: u32, counts: &Counts, number: u32) -> (u32, u32)
-    requires { CanLookUp ReadWrite driver counts.now number kernel.now }
-    ensures { result ≡ held_pair ReadWrite driver number kernel.now }
-{
-    pair_held(kernel, driver, counts, PairKind::ReadWrite, number)
-}
-
-/// The buffer of a number that the process has allowed the driver and may read while the kernel writes
-/// it (the userspace-readable allow of Tock's kernel), as [`buffer_ro`].
-pub fn buffer_ur(kernel: &[u8], driver: u32, counts: &Counts, number: u32) -> (u32, u32)
-    requires { CanLookUp Readable driver counts.now number kernel.now }
-    ensures { result ≡ held_pair Readable driver number kernel.now }
-{
-    pair_held(kernel, driver, counts, PairKind::Readable, number)
-}
-
-/// The upcall of a number that the process has subscribed with the driver (TRD 104, "Subscribe"):
-/// its function, and the application data. It is (0, 0), the null upcall, where the process has not
-/// entered the driver. `kernel` and `counts` are those of [`buffer_ro`].
-pub fn upcall(kernel: &[u8], driver: u32, counts: &Counts, number: u32) -> (u32, u32)
-    requires { CanLookUp Upcall driver counts.now number kernel.now }
-    ensures { result ≡ held_pair Upcall driver number kernel.now }
-{
-    pair_held(kernel, driver, counts, PairKind::Upcall, number)
-}
-
-/// The pair of a kind and a number that the process holds with the driver.
-fn pair_held(kernel: &[u8], driver: u32, counts: &Counts, kind: PairKind, number: u32) -> (u32, u32)
+/// The pair of a kind and a number that the process holds with the driver (TRD 104, "Subscribe", "Read-Only Allow",
+/// "Read-Write Allow"): an upcall's function and application data, or a buffer's address and size in bytes. It is (0, 0)
+/// where the process has not entered the driver. `kernel` is the block from the kernel break on, and `counts` are the
+/// driver's.
+pub fn pair_held(
+    kernel: &[u8],
+    driver: u32,
+    counts: &Counts,
+    kind: PairKind,
+    number: u32,
+) -> (u32, u32)
     requires { CanLookUp kind driver counts.now number kernel.now }
     ensures { result ≡ held_pair kind driver number kernel.now }
 {

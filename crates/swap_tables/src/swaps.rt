@@ -1,10 +1,9 @@
 //! Swaps of the pairs that a process holds.
 ghost use Rattle.std.specs.Prelude.{◌≡◌, ◌<◌, ◌^◌, length, IfSome, IfNone, None};
-ghost use Rattle.tk_base.specs.declared.kinds.PairKind.TheVariants.{Upcall, ReadOnly, ReadWrite, Readable};
 ghost use Rattle.grant_model.specs.Grants.{grant_of};
 ghost use Rattle.grant_model.specs.Encoding.{EncodesGrants, decode_grants};
 ghost use Rattle.grant_region.specs.Region.{parts_of};
-ghost use Rattle.swap_tables.specs.Swaps.{CanHand, CanSwap, SwapOutcome, SwapsHeld, handing_over};
+ghost use Rattle.swap_tables.specs.Swaps.{CanHand, CanSwap, SwapOutcome, SwapsHeld};
 
 use crate::handover::Handover;
 use crate::pairs::{first_word, pair_at, put_pair};
@@ -12,121 +11,15 @@ use grant_model::{areas_are_found, pairs_are_found};
 use grant_region::{NoRoom, area, make_area, parts_join};
 use grant_values::{cost_of, words_in_bytes};
 use process_layout::Layout;
-use tk_base::{Counts, PairKind};
 
-/// Swaps the read-only buffer of a number that the process has allowed the driver (TRD 104,
-/// "Read-Only Allow"): the new one's address, and its size in bytes. The answer is the former one,
-/// at first (0, 0), and the driver is entered. `app` and `kernel` are the block, cut at the kernel
-/// break, and `counts` are the driver's; all that they hold beside this pair is as it was.
+/// Swaps the pair that the process holds with the driver (TRD 104, "Subscribe", "Read-Only Allow", "Read-Write Allow"):
+/// an upcall's function and application data, or a buffer's address and size in bytes. The answer is the former pair, at
+/// first (0, 0), and the driver is entered. `app` and `kernel` are the block, cut at the kernel break; all that they hold
+/// beside this pair is as it was.
 ///
-/// There is [`NoRoom`], and nothing changes, exactly where the driver is not entered and the kernel
-/// break less the cost of its grant is below the break.
-pub fn swap_ro(
-    layout: &mut Layout,
-    app: &mut [u8],
-    kernel: &mut [u8],
-    driver: u32,
-    counts: &Counts,
-    number: u32,
-    pair: (u32, u32),
-) -> Result<(u32, u32), NoRoom>
-    requires { CanSwap (handing_over ReadOnly driver counts.now number pair)
-        (parts_of layout.old app.old kernel.old) }
-    ensures { SwapOutcome (handing_over ReadOnly driver counts.now number pair)
-        (parts_of layout.old app.old kernel.old) (parts_of layout.new app.new kernel.new) result }
-{
-    let handover = Handover {
-        kind: PairKind::ReadOnly,
-        driver,
-        counts: *counts,
-        number,
-        pair,
-    };
-    swap_pair(layout, app, kernel, handover)
-}
-
-/// Swaps the read-write buffer of a number that the process has allowed the driver (TRD 104,
-/// "Read-Write Allow"): the new one's address, and its size in bytes. All else is as for [`swap_ro`].
-pub fn swap_rw(
-    layout: &mut Layout,
-    app: &mut [u8],
-    kernel: &mut [u8],
-    driver: u32,
-    counts: &Counts,
-    number: u32,
-    pair: (u32, u32),
-) -> Result<(u32, u32), NoRoom>
-    requires { CanSwap (handing_over ReadWrite driver counts.now number pair)
-        (parts_of layout.old app.old kernel.old) }
-    ensures { SwapOutcome (handing_over ReadWrite driver counts.now number pair)
-        (parts_of layout.old app.old kernel.old) (parts_of layout.new app.new kernel.new) result }
-{
-    let handover = Handover {
-        kind: PairKind::ReadWrite,
-        driver,
-        counts: *counts,
-        number,
-        pair,
-    };
-    swap_pair(layout, app, kernel, handover)
-}
-
-/// Swaps the buffer of a number that the process has allowed the driver and may read while the kernel
-/// writes it (the userspace-readable allow of Tock's kernel): the new one's address, and its size in
-/// bytes. All else is as for [`swap_ro`].
-pub fn swap_ur(
-    layout: &mut Layout,
-    app: &mut [u8],
-    kernel: &mut [u8],
-    driver: u32,
-    counts: &Counts,
-    number: u32,
-    pair: (u32, u32),
-) -> Result<(u32, u32), NoRoom>
-    requires { CanSwap (handing_over Readable driver counts.now number pair)
-        (parts_of layout.old app.old kernel.old) }
-    ensures { SwapOutcome (handing_over Readable driver counts.now number pair)
-        (parts_of layout.old app.old kernel.old) (parts_of layout.new app.new kernel.new) result }
-{
-    let handover = Handover {
-        kind: PairKind::Readable,
-        driver,
-        counts: *counts,
-        number,
-        pair,
-    };
-    swap_pair(layout, app, kernel, handover)
-}
-
-/// Swaps the upcall of a number that the process has subscribed with the driver (TRD 104,
-/// "Subscribe"): the new one's function, and the application data. The former one is at first
-/// (0, 0), the null upcall. All else is as for [`swap_ro`].
-pub fn swap_upcall(
-    layout: &mut Layout,
-    app: &mut [u8],
-    kernel: &mut [u8],
-    driver: u32,
-    counts: &Counts,
-    number: u32,
-    pair: (u32, u32),
-) -> Result<(u32, u32), NoRoom>
-    requires { CanSwap (handing_over Upcall driver counts.now number pair)
-        (parts_of layout.old app.old kernel.old) }
-    ensures { SwapOutcome (handing_over Upcall driver counts.now number pair)
-        (parts_of layout.old app.old kernel.old) (parts_of layout.new app.new kernel.new) result }
-{
-    let handover = Handover {
-        kind: PairKind::Upcall,
-        driver,
-        counts: *counts,
-        number,
-        pair,
-    };
-    swap_pair(layout, app, kernel, handover)
-}
-
-/// Swaps the pair that the process holds with the driver.
-fn swap_pair(
+/// There is [`NoRoom`], and nothing changes, exactly where the driver is not entered and the kernel break less the cost of
+/// its grant is below the break.
+pub fn swap_pair(
     layout: &mut Layout,
     app: &mut [u8],
     kernel: &mut [u8],

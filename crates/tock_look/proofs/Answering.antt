@@ -12,7 +12,8 @@ use Rattle.tool_answers.specs.declared.outcome.ServeOutcome.{ServeOutcome}
 use Rattle.tool_answers.specs.declared.outcome.ServeOutcome.TheVariants.{Done, Refused, SinkFailed}
 use Rattle.tool_answers.specs.Parts.{RefusalIs, sink_account}
 use Rattle.tock_look.specs.declared.asks.Ask.{Ask}
-use Rattle.tock_look.specs.declared.asks.Ask.TheVariants.{Boot, State, At, Steps, Trace, Memory, Turns}
+use Rattle.tock_look.specs.declared.asks.Ask.TheVariants.{Boot, State, At, Steps, Trace, Memory, Storage, Turns, Until}
+use Rattle.tock_look.specs.declared.asks.Ask.TheVariants.{Last, Unknown}
 use Rattle.tock_look.specs.Answers.{IsAfter, answer_text, answers_text, world_after}
 use Rattle.tock_look.specs.Looks.{AnswersAll}
 
@@ -24,7 +25,7 @@ pub record AnswersSoFar {K : Type 0} (tells : K → SinkFacts) (old now : K) (op
   pub whole : answers_text opening opening asks ≡ done ++ answers_text opening here left
 
 -- the world after a command, where the two files open with this one
-after_is : (files : RunFiles) (opening w : World) (ask : Ask) (new : World)
+pub after_is : (files : RunFiles) (opening w : World) (ask : Ask) (new : World)
     → opened_by files.flash.items files.script.items ≡ Some opening → IsAfter files w ask new
     → new ≡ world_after opening w ask
 after_is files opening w Boot new o e = same_some new opening (sym e ∙ o)
@@ -36,7 +37,11 @@ after_is files opening w (At slot) new o e = e
 after_is files opening w (Steps slot most) new o e = e
 after_is files opening w (Trace slot most) new o e = e
 after_is files opening w (Memory slot at count) new o e = e
+after_is files opening w (Storage slot at count) new o e = e
 after_is files opening w (Turns slot turns most) new o e = e
+after_is files opening w (Until most goal) new o e = e
+after_is files opening w (Last most goal) new o e = e
+after_is files opening w Unknown new o e = e
 
 module _ {K : Type 0} {tells : K → SinkFacts} where
   pub begins : WritesCompose tells → (a : K) (w : World) (asks : List Ask) → AnswersSoFar tells a a w w asks asks

@@ -1,12 +1,20 @@
 -- The commands, as words of the command line. They are this tool's own.
-use Rattle.std.specs.Prelude.{ℕ, Bool, true, false, ◌==◌, if◌then◌else◌, List, [], ◌∷◌, map, codes}
+use Rattle.std.specs.Prelude.{ℕ, Bool, true, false, ◌==◌, nat_lt, if◌then◌else◌, List, [], ◌∷◌, ◌++◌, length, map}
+use Rattle.std.specs.Prelude.{codes, unwrap_or}
 use Rattle.std.specs.Prelude.{String, string_bytes, Vec, Option, None, Some}
 use Rattle.std.specs.Option.{option_map, option_and_then}
 use Rattle.std.specs.List.{slice_split}
 use Rattle.std.specs.Str.{bytes_eq}
 use Rattle.decimal_number.specs.Number.{number_up_to}
 use Rattle.tock_look.specs.declared.asks.Ask.{Ask}
-use Rattle.tock_look.specs.declared.asks.Ask.TheVariants.{Boot, State, At, Steps, Trace, Memory, Turns}
+use Rattle.board_views.specs.declared.goal.Goal.{Goal}
+use Rattle.board_views.specs.declared.goal.TheConstants.{GOAL_NUMBERS}
+use Rattle.tock_look.specs.declared.asks.Ask.TheVariants.{Boot, State, At, Steps, Trace, Memory, Storage, Turns, Until}
+use Rattle.tock_look.specs.declared.asks.Ask.TheVariants.{Last, Unknown}
+use Rattle.tock_look.specs.declared.asks.Limits.{Limits}
+use Rattle.tock_look.specs.declared.asks.Numbers.{Numbers}
+use Rattle.tock_look.specs.declared.asks.Numbers.TheVariants as numbers
+use Rattle.tock_look.specs.declared.asks.Places.{Places}
 use Rattle.tock_look.specs.declared.asks.TheConstants.{LAST_SLOT, MOST_NUMBER}
 
 -- the slot that a word names, and the number of steps that one gives
@@ -41,20 +49,72 @@ numbered_ask name slot number =
     option_and_then (λ traced. option_and_then (λ s. option_map (stepping traced s) (most_of number)) (slot_of slot))
     (is_traced name)
 
--- whether bytes are asked for, and not turns
-abbrev pub is_memory : List ℕ → Option Bool
-is_memory name =
-    if bytes_eq name (codes "memory") then Some true
-    else (if bytes_eq name (codes "turns") then Some false else None)
+-- what the two numbers are for of a command
+abbrev pub numbers_for : List ℕ → Option Numbers
+numbers_for name =
+    if bytes_eq name (codes "memory") then Some numbers.Memory
+    else (if bytes_eq name (codes "storage") then Some numbers.Storage
+    else (if bytes_eq name (codes "turns") then Some numbers.Turns else None))
 
-abbrev pub with_two : Bool → ℕ → ℕ → ℕ → Ask
-with_two memory slot first second = if memory then Memory slot first second else Turns slot first second
+abbrev pub with_two : Numbers → ℕ → ℕ → ℕ → Ask
+with_two numbers.Memory slot first second = Memory slot first second
+with_two numbers.Storage slot first second = Storage slot first second
+with_two numbers.Turns slot first second = Turns slot first second
 
--- `memory S AT COUNT`, `turns S K MOST`
+-- `memory S AT COUNT`, `storage S AT COUNT`, `turns S K MOST`
 unfoldable pub two_numbers_ask : List ℕ → List ℕ → List ℕ → List ℕ → Option Ask
 two_numbers_ask name slot first second =
-    option_and_then (λ memory. option_and_then (λ s. option_and_then (λ a. option_map (with_two memory s a)
-    (most_of second)) (most_of first)) (slot_of slot)) (is_memory name)
+    option_and_then (λ two. option_and_then (λ s. option_and_then (λ a. option_map (with_two two s a)
+    (most_of second)) (most_of first)) (slot_of slot)) (numbers_for name)
+
+-- the numbers that words give, behind others; none where one gives none, or there are more than a goal can have
+abbrev pub numbers_after : List ℕ → List (List ℕ) → Option (List ℕ)
+numbers_after ns [] = Some ns
+numbers_after ns (word ∷ words) =
+    option_and_then (λ n. if nat_lt (length ns) GOAL_NUMBERS then numbers_after (ns ++ n ∷ []) words else None)
+    (most_of word)
+
+-- those of a word, which stand between commas; `-` has none
+unfoldable pub numbers_of : List ℕ → Option (List ℕ)
+numbers_of word =
+    if bytes_eq word (codes "-") then Some [] else numbers_after [] (slice_split (λ b. b == 44) word)
+
+-- how many steps are made at most, and an area of addresses, which may be left out
+abbrev pub limits_of : List ℕ → Option Limits
+limits_of (most ∷ []) = Some (record { most = most; low = 0; high = 0 })
+limits_of (most ∷ low ∷ high ∷ []) = Some (record { most = most; low = low; high = high })
+limits_of other = None
+
+abbrev pub limits_in : List ℕ → Option Limits
+limits_in word = option_and_then limits_of (numbers_of word)
+
+-- the limits, watched places and addresses of three words
+abbrev pub places : Limits → List ℕ → List ℕ → Places
+places limits watched addresses =
+    record { limits = limits; watched = record { items = watched }; addresses = record { items = addresses } }
+
+abbrev pub places_of : List ℕ → List ℕ → List ℕ → Option Places
+places_of limits watched addresses =
+    option_and_then (λ l. option_and_then (λ ws. option_map (places l ws) (numbers_of addresses)) (numbers_of watched))
+    (limits_in limits)
+
+-- the goal of a slot
+abbrev pub goal_of : ℕ → Places → Goal
+goal_of slot p =
+    record { slot = slot; low = p.limits.low; high = p.limits.high; watched = p.watched; addresses = p.addresses }
+
+-- whether the last place of a way is asked for
+abbrev pub is_last : List ℕ → Option Bool
+is_last name =
+    if bytes_eq name (codes "until") then Some false
+    else (if bytes_eq name (codes "last") then Some true else None)
+
+abbrev pub searching : Bool → ℕ → Places → Ask
+searching last slot p = if last then Last p.limits.most (goal_of slot p) else Until p.limits.most (goal_of slot p)
+
+-- `until S MOST WATCHED ADDRESSES`, `last S MOST WATCHED ADDRESSES`, where for MOST may stand MOST,LOW,HIGH
+abbrev pub search_ask : List ℕ → List ℕ → Places → Option Ask
+search_ask name slot p = option_and_then (λ last. option_map (λ s. searching last s p) (slot_of slot)) (is_last name)
 
 -- the command of some words
 abbrev pub asked : List (List ℕ) → Option Ask
@@ -62,11 +122,17 @@ asked (name ∷ []) = plain_ask name
 asked (name ∷ slot ∷ []) = slot_ask name slot
 asked (name ∷ slot ∷ number ∷ []) = numbered_ask name slot number
 asked (name ∷ slot ∷ first ∷ second ∷ []) = two_numbers_ask name slot first second
+asked (name ∷ slot ∷ limits ∷ watched ∷ addresses ∷ []) =
+    option_and_then (search_ask name slot) (places_of limits watched addresses)
 asked other = None
 
 -- the command of a word: its own words stand between blanks
 unfoldable pub ask_of : List ℕ → Option Ask
 ask_of word = asked (slice_split (λ b. b == 32) word)
+
+-- that of a line, which may be none
+abbrev pub line_ask : List ℕ → Ask
+line_ask line = unwrap_or (ask_of line) Unknown
 
 -- the commands of words; none where one of them is no command
 abbrev pub all_asks : List (List ℕ) → Option (List Ask)

@@ -1,3 +1,4 @@
 pub mod Asks
 pub mod Answers
 pub mod Looks
+pub mod Lines

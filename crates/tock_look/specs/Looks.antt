@@ -1,5 +1,5 @@
 -- What the program does: what it writes, and how it ends. It is this tool's own promise.
-use Rattle.std.specs.Prelude.{◌≡◌, ◌⊎◌, ℕ, List, ◌++◌, codes, Option, None, Some}
+use Rattle.std.specs.Prelude.{◌≡◌, ◌⊎◌, ℕ, List, [], ◌∷◌, ◌++◌, map, codes, Option, None, Some}
 use Rattle.kernel_model.specs.World.{World}
 use Rattle.run_text.specs.declared.mode.Mode.TheVariants.{Boot}
 use Rattle.tool_words.specs.declared.refusal.Refusal.{Refusal}
@@ -12,8 +12,9 @@ use Rattle.tool_answers.specs.Served.{SinkAccount, All, Part}
 use Rattle.tool_answers.specs.declared.outcome.ServeOutcome.{ServeOutcome}
 use Rattle.tool_answers.specs.declared.outcome.ServeOutcome.TheVariants.{Done, Refused, SinkFailed}
 use Rattle.tock_look.specs.declared.asks.Ask.{Ask}
-use Rattle.tock_look.specs.Asks.{Looking}
+use Rattle.tock_look.specs.Asks.{Looking, line_ask}
 use Rattle.tock_look.specs.Answers.{answers_text}
+use Rattle.tock_look.specs.Lines.{Came, IsEnded, LineAccount}
 
 -- the line of words that are no command
 abbrev pub usage_line : List ℕ
@@ -48,11 +49,24 @@ IsRefused told sent looking (Refused refusal) = CauseOf told (runs looking) refu
 IsRefused told sent looking SinkFailed =
     (refusal : Refusal) × CauseOf told (runs looking) refusal × Part sent (refusal_line refusal)
 
-pub record IsAnswered (told : ShelfAccount) (sent : SinkAccount) (looking : Looking) (outcome : ServeOutcome)
+-- Lines came in, as many as there were; or fewer, where it ended before. Their commands were answered.
+pub record AnswersLines (lines : LineAccount) (sent : SinkAccount) (world : World) (outcome : ServeOutcome)
     : Type 0 where
+  pub given : List (List ℕ)
+  pub came : Came lines.before lines.after given
+  pub all : outcome ≡ Done → IsEnded lines.after
+  pub answers : AnswersAll sent (answers_text world world (map line_ask given)) outcome
+
+-- the commands of words were answered, or where there are none those of lines
+abbrev pub AnswersAsked : LineAccount → SinkAccount → World → List Ask → ServeOutcome → Type 0
+AnswersAsked lines sent world [] outcome = AnswersLines lines sent world outcome
+AnswersAsked lines sent world (ask ∷ asks) outcome = AnswersAll sent (answers_text world world (ask ∷ asks)) outcome
+
+pub record IsAnswered (told : ShelfAccount) (lines : LineAccount) (sent : SinkAccount) (looking : Looking)
+    (outcome : ServeOutcome) : Type 0 where
   pub world : World
   pub opens : Opens told looking world
-  pub answers : AnswersAll sent (answers_text world world looking.asks) outcome
+  pub answers : AnswersAsked lines sent world looking.asks outcome
 
 -- there was no memory for the commands
 abbrev pub IsOutOfMemory : SinkAccount → ServeOutcome → Type 0
@@ -61,12 +75,13 @@ IsOutOfMemory sent (Refused refusal) = (refusal ≡ Memory) × All sent (refusal
 IsOutOfMemory sent SinkFailed = Part sent (refusal_line Memory)
 
 -- with the world that the two files open, if their script has a reading
-abbrev pub LooksAt : SinkAccount → Option World → List Ask → ServeOutcome → Type 0
-LooksAt sent None asks outcome = IsOutOfMemory sent outcome
-LooksAt sent (Some world) asks outcome = AnswersAll sent (answers_text world world asks) outcome
+abbrev pub LooksAt : LineAccount → SinkAccount → Option World → List Ask → ServeOutcome → Type 0
+LooksAt lines sent None asks outcome = IsOutOfMemory sent outcome
+LooksAt lines sent (Some world) asks outcome = AnswersAsked lines sent world asks outcome ⊎ IsOutOfMemory sent outcome
 
-abbrev pub LooksOn : ShelfAccount → SinkAccount → Looking → ServeOutcome → Type 0
-LooksOn told sent looking outcome = IsAnswered told sent looking outcome ⊎ IsRefused told sent looking outcome
+abbrev pub LooksOn : ShelfAccount → LineAccount → SinkAccount → Looking → ServeOutcome → Type 0
+LooksOn told lines sent looking outcome =
+    IsAnswered told lines sent looking outcome ⊎ IsRefused told sent looking outcome
 
 -- words that are no command: nothing is read, and the line says so
 abbrev pub IsNoCommand : SinkAccount → ServeOutcome → Type 0
@@ -75,9 +90,9 @@ IsNoCommand sent (Refused refusal) = (refusal ≡ Usage) × All sent usage_line
 IsNoCommand sent SinkFailed = Part sent usage_line
 
 -- what the program does with the words of its command line
-abbrev pub LooksBy : ShelfAccount → SinkAccount → Option Looking → ServeOutcome → Type 0
-LooksBy told sent None outcome = IsNoCommand sent outcome
-LooksBy told sent (Some looking) outcome = LooksOn told sent looking outcome
+abbrev pub LooksBy : ShelfAccount → LineAccount → SinkAccount → Option Looking → ServeOutcome → Type 0
+LooksBy told lines sent None outcome = IsNoCommand sent outcome
+LooksBy told lines sent (Some looking) outcome = LooksOn told lines sent looking outcome
 
-abbrev pub Looks : ShelfAccount → SinkAccount → Option Looking → ServeOutcome → Type 0
-Looks told sent words outcome = LooksBy told sent words outcome ⊎ IsOutOfMemory sent outcome
+abbrev pub Looks : ShelfAccount → LineAccount → SinkAccount → Option Looking → ServeOutcome → Type 0
+Looks told lines sent words outcome = LooksBy told lines sent words outcome ⊎ IsOutOfMemory sent outcome

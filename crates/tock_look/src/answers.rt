@@ -2,18 +2,20 @@
 ghost use Rattle.std.specs.Prelude.{◌≡◌, ◌++◌, Some, IfOk, OnOk};
 ghost use Rattle.tk_outside.specs.Writes.{Writes};
 ghost use Rattle.kernel_model.specs.Run.{round};
-ghost use Rattle.board_views.specs.Memories.{memory_text};
-ghost use Rattle.board_views.specs.Places.{at_text};
-ghost use Rattle.board_views.specs.States.{state_text};
+ghost use Rattle.board_views.specs.Searches.{last_before, until_goal};
 ghost use Rattle.board_views.specs.Stops.{within};
 ghost use Rattle.tool_tasks.specs.RunFiles.{AreWithinLimits, opened_by};
 ghost use Rattle.tool_answers.specs.Parts.{sink_account};
-ghost use Rattle.tock_look.specs.Answers.{Answers, ok_line, stop_line, stopped_text, traced_text};
+ghost use Rattle.tock_look.specs.Answers.{Answers, AnswersWith, last_text, traced_text, until_text};
+ghost use Rattle.tock_look.specs.Answers.{view_text, words_line};
+ghost use Rattle.tock_look.specs.Asks.{line_ask};
+ghost use Rattle.tock_look.specs.declared.answers.Answered.TheVariants.{Whole};
 ghost use Rattle.tock_look.specs.declared.asks.Ask.TheVariants.{Boot};
 
-use crate::asks::Ask;
+use crate::asks::{Ask, line_ask};
+use crate::views::{View, write_view};
 use board_core::Board;
-use board_views::{Stop, go_steps, go_traced, go_turns, write_at, write_board_state, write_memory};
+use board_views::{Goal, find_last, go_steps, go_traced, go_turns, go_until};
 use std::alloc::Global;
 use tk_base::{NoMemory, Slot};
 use tk_outside::{Failed, Sink, put_all, writes_compose};
@@ -30,60 +32,14 @@ pub enum Answered {
     NoMemory,
 }
 
-/// The line that tells why a board stopped.
-fn stop_line(stop: Stop) -> &'static [u8]
-    ensures { result.now ≡ stop_line stop }
+/// Shows something of a board.
+fn show<K: Sink>(board: &Board, view: View, out: &mut K) -> Answered
+    ensures { AnswersWith (sink_account K.tells out.old out.new) (view_text board.now view) result }
 {
-    match stop {
-        Stop::Done => b"stop done\n",
-        Stop::Most => b"stop most\n",
-        Stop::Turns => b"stop turns\n",
+    match write_view(board, view, out) {
+        Ok(()) => Answered::Whole,
+        Err(_) => Answered::SinkFailed,
     }
-}
-
-/// Writes why and where a board stopped.
-#[tactic(auto, unfolding(crate::specs::Answers::stopped_text))]
-fn write_went<K: Sink>(board: &Board, slot: Slot, stop: Stop, out: &mut K) -> Result<(), Failed>
-    ensures { Writes K.tells out.old out.new (stopped_text board.now slot stop) result }
-{
-    writes_compose::<K>();
-    put_all(out, stop_line(stop))?;
-    write_at(board, slot, out)?;
-    put_all(out, b"= ok\n")
-}
-
-/// Writes where the process of a slot is.
-fn write_where<K: Sink>(board: &Board, slot: Slot, out: &mut K) -> Result<(), Failed>
-    ensures { Writes K.tells out.old out.new (at_text board.now slot ++ ok_line) result }
-{
-    writes_compose::<K>();
-    write_at(board, slot, out)?;
-    put_all(out, b"= ok\n")
-}
-
-/// Writes all that there is to see.
-fn write_all<K: Sink>(board: &Board, out: &mut K) -> Result<(), Failed>
-    ensures { Writes K.tells out.old out.new (state_text board.now ++ ok_line) result }
-{
-    writes_compose::<K>();
-    write_board_state(board, out)?;
-    put_all(out, b"= ok\n")
-}
-
-/// Writes bytes of a block.
-fn write_bytes<K: Sink>(
-    board: &Board,
-    slot: Slot,
-    at: u32,
-    count: u32,
-    out: &mut K,
-) -> Result<(), Failed>
-    ensures { Writes K.tells out.old out.new (memory_text board.now slot at count ++ ok_line)
-        result }
-{
-    writes_compose::<K>();
-    write_memory(board, slot, at, count, out)?;
-    put_all(out, b"= ok\n")
 }
 
 /// Makes at most so many steps, writes the lines of each, and then why and where the board stopped.
@@ -93,7 +49,7 @@ fn trace<K: Sink>(board: &mut Board, slot: Slot, most: u32, out: &mut K) -> Resu
 {
     writes_compose::<K>();
     let stop = go_traced(board, most, out)?;
-    write_went(board, slot, stop, out)
+    write_view(board, View::Stopped { slot, stop }, out)
 }
 
 /// The board of two files before its first step. It fails for want of memory, or where the script
@@ -122,12 +78,52 @@ fn boot_again<K: Sink>(alloc: Global, files: &RunFiles, board: &mut Board, out: 
     match board_of(alloc, files) {
         Ok(opened) => {
             *board = opened;
-            match put_all(out, b"= ok\n") {
-                Ok(()) => Answered::Whole,
-                Err(_) => Answered::SinkFailed,
-            }
+            show(board, View::Nothing, out)
         }
         Err(_) => Answered::NoMemory,
+    }
+}
+
+/// Goes on to a goal, and tells why and where the board stopped.
+fn go_on<K: Sink>(alloc: Global, board: &mut Board, goal: &Goal, most: u32, out: &mut K) -> Answered
+    ensures text { AnswersWith (sink_account K.tells out.old out.new)
+        (until_text most goal.now board.old) result }
+    ensures led { result ≡ Whole → board.new ≡ (until_goal most goal.now board.old).world }
+{
+    writes_compose::<K>();
+    let Ok(stop) = go_until(alloc, board, goal, most) else {
+        return Answered::NoMemory;
+    };
+    let slot = goal.slot;
+    show(board, View::Stopped { slot, stop }, out)
+}
+
+/// Goes on, and tells where a goal would have stopped the board the last time.
+fn look_back<K: Sink>(
+    alloc: Global,
+    board: &mut Board,
+    goal: &Goal,
+    most: u32,
+    out: &mut K,
+) -> Answered
+    ensures text { AnswersWith (sink_account K.tells out.old out.new)
+        (last_text most goal.now board.old) result }
+    ensures led { result ≡ Whole → board.new ≡ (last_before most goal.now board.old).world }
+{
+    writes_compose::<K>();
+    let Ok(found) = find_last(alloc, board, goal, most) else {
+        return Answered::NoMemory;
+    };
+    show(board, View::Last { found }, out)
+}
+
+/// Writes the answer to what is no command.
+fn answer_unknown<K: Sink>(out: &mut K) -> Answered
+    ensures { AnswersWith (sink_account K.tells out.old out.new) words_line result }
+{
+    match put_all(out, b"= words\n") {
+        Ok(()) => Answered::Whole,
+        Err(_) => Answered::SinkFailed,
     }
 }
 
@@ -137,44 +133,68 @@ pub fn answer<K: Sink>(
     alloc: Global,
     files: &RunFiles,
     board: &mut Board,
-    ask: Ask,
+    ask: &Ask,
     out: &mut K,
 ) -> Answered
     requires { AreWithinLimits files.now }
-    ensures { Answers (sink_account K.tells out.old out.new) files.now board.old board.new ask
+    ensures { Answers (sink_account K.tells out.old out.new) files.now board.old board.new ask.now
         result }
 {
     match ask {
         Ask::Boot => boot_again(alloc, files, board, out),
-        Ask::State => match write_all(board, out) {
-            Ok(()) => Answered::Whole,
-            Err(_) => Answered::SinkFailed,
-        },
-        Ask::At { slot } => match write_where(board, slot, out) {
-            Ok(()) => Answered::Whole,
-            Err(_) => Answered::SinkFailed,
-        },
+        Ask::State => show(board, View::State, out),
+        Ask::At { slot } => show(board, View::Place { slot: *slot }, out),
         Ask::Steps { slot, most } => {
-            let stop = go_steps(board, most);
-            match write_went(board, slot, stop, out) {
-                Ok(()) => Answered::Whole,
-                Err(_) => Answered::SinkFailed,
-            }
+            let stop = go_steps(board, *most);
+            show(board, View::Stopped { slot: *slot, stop }, out)
         }
-        Ask::Trace { slot, most } => match trace(board, slot, most, out) {
+        Ask::Trace { slot, most } => match trace(board, *slot, *most, out) {
             Ok(()) => Answered::Whole,
             Err(_) => Answered::SinkFailed,
         },
         Ask::Turns { slot, turns, most } => {
-            let stop = go_turns(board, slot, turns, most);
-            match write_went(board, slot, stop, out) {
-                Ok(()) => Answered::Whole,
-                Err(_) => Answered::SinkFailed,
-            }
+            let stop = go_turns(board, *slot, *turns, *most);
+            show(board, View::Stopped { slot: *slot, stop }, out)
         }
-        Ask::Memory { slot, at, count } => match write_bytes(board, slot, at, count, out) {
-            Ok(()) => Answered::Whole,
-            Err(_) => Answered::SinkFailed,
-        },
+        Ask::Memory { slot, at, count } => show(
+            board,
+            View::Memory {
+                slot: *slot,
+                at: *at,
+                count: *count,
+            },
+            out,
+        ),
+        Ask::Storage { slot, at, count } => show(
+            board,
+            View::Storage {
+                slot: *slot,
+                at: *at,
+                count: *count,
+            },
+            out,
+        ),
+        Ask::Until { most, goal } => go_on(alloc, board, goal, *most, out),
+        Ask::Last { most, goal } => look_back(alloc, board, goal, *most, out),
+        Ask::Unknown => answer_unknown(out),
+    }
+}
+
+/// Does the command of a line, or answers that it is none.
+pub fn answer_line<K: Sink>(
+    alloc: Global,
+    files: &RunFiles,
+    board: &mut Board,
+    line: &str,
+    out: &mut K,
+) -> Answered
+    requires { AreWithinLimits files.now }
+    ensures { Answers (sink_account K.tells out.old out.new) files.now board.old board.new
+        (line_ask line.now) result }
+{
+    writes_compose::<K>();
+    match line_ask(alloc, line) {
+        Ok(ask) => answer(alloc, files, board, &ask, out),
+        Err(_) => Answered::NoMemory,
     }
 }

@@ -1,10 +1,14 @@
 //! The commands, as words.
 ghost use Rattle.std.specs.Prelude.{◌≡◌, ◌==◌, map, IfOk};
 ghost use Rattle.std.specs.List.{slice_split};
-ghost use Rattle.tock_look.specs.Asks.{ask_of, asked, asks_of, is_memory, is_traced, looking_shown};
-ghost use Rattle.tock_look.specs.Asks.{most_of, numbered_ask, plain_ask, slot_ask, slot_of};
-ghost use Rattle.tock_look.specs.Asks.{stepping, two_numbers_ask, with_two};
+ghost use Rattle.std.specs.Option.{option_map};
+ghost use Rattle.tock_look.specs.Asks.{ask_of, asked, asks_of, is_last, is_traced, limits_in, limits_of};
+ghost use Rattle.tock_look.specs.Asks.{line_ask, looking_shown, most_of, numbered_ask, numbers_after};
+ghost use Rattle.tock_look.specs.Asks.{numbers_for, numbers_of, places_of, plain_ask, search_ask, searching};
+ghost use Rattle.tock_look.specs.Asks.{slot_ask, slot_of, stepping, two_numbers_ask, with_two};
 
+use arrayvec::ArrayVec;
+use board_views::{GOAL_NUMBERS, Goal};
 use decimal_number::number_up_to;
 use std::alloc::{AllocError, Global};
 use tk_base::{NoMemory, Slot};
@@ -16,7 +20,7 @@ const LAST_SLOT: u64 = 15;
 const MOST_NUMBER: u64 = 4_294_967_295;
 
 /// A command. Slots are 0 to 15, and other numbers at most 2^32 - 1, all of base 10.
-#[derive(Clone, Copy, Debug, PartialEq, Eq)]
+#[derive(Drop)]
 pub enum Ask {
     /// `boot`: the board is as before its first step.
     Boot,
@@ -30,8 +34,18 @@ pub enum Ask {
     Trace { slot: Slot, most: u32 },
     /// `memory S AT COUNT`: so many bytes of a block, from an address on.
     Memory { slot: Slot, at: u32, count: u32 },
+    /// `storage S AT COUNT`: so many bytes of the storage of a slot, from one on.
+    Storage { slot: Slot, at: u32, count: u32 },
     /// `turns S K MOST`: steps until the process of a slot had so many turns, at most so many steps.
     Turns { slot: Slot, turns: u32, most: u32 },
+    /// `until S MOST WATCHED ADDRESSES`, or with an area `until S MOST,LOW,HIGH WATCHED ADDRESSES`:
+    /// steps until a goal stops the board, at most so many.
+    Until { most: u32, goal: Goal },
+    /// `last S MOST WATCHED ADDRESSES`: at most so many steps, and where a goal would have stopped
+    /// the board the last time.
+    Last { most: u32, goal: Goal },
+    /// No command.
+    Unknown,
 }
 
 /// The slot that a word names.
@@ -104,33 +118,46 @@ fn stepping(is_traced: bool, slot: Slot, most: u32) -> Ask
     }
 }
 
-/// Whether bytes are asked for, and not turns.
-fn is_memory(name: &str) -> Option<bool>
-    ensures { result ≡ is_memory name.now }
+/// What two numbers of a command are for.
+#[derive(Clone, Copy, Debug, PartialEq, Eq)]
+pub enum Numbers {
+    Memory,
+    Storage,
+    Turns,
+}
+
+/// What the two numbers are for of the command of that name.
+fn numbers_for(name: &str) -> Option<Numbers>
+    ensures { result ≡ numbers_for name.now }
 {
     match name {
-        "memory" => Some(true),
-        "turns" => Some(false),
+        "memory" => Some(Numbers::Memory),
+        "storage" => Some(Numbers::Storage),
+        "turns" => Some(Numbers::Turns),
         _ => None,
     }
 }
 
 /// The command of two numbers.
-fn with_two(is_memory: bool, slot: Slot, first: u32, second: u32) -> Ask
-    ensures { result ≡ with_two is_memory slot first second }
+fn with_two(numbers: Numbers, slot: Slot, first: u32, second: u32) -> Ask
+    ensures { result ≡ with_two numbers slot first second }
 {
-    if is_memory {
-        Ask::Memory {
+    match numbers {
+        Numbers::Memory => Ask::Memory {
             slot,
             at: first,
             count: second,
-        }
-    } else {
-        Ask::Turns {
+        },
+        Numbers::Storage => Ask::Storage {
+            slot,
+            at: first,
+            count: second,
+        },
+        Numbers::Turns => Ask::Turns {
             slot,
             turns: first,
             most: second,
-        }
+        },
     }
 }
 
@@ -139,23 +166,188 @@ fn with_two(is_memory: bool, slot: Slot, first: u32, second: u32) -> Ask
 fn two_numbers_ask(name: &str, slot: &str, first: &str, second: &str) -> Option<Ask>
     ensures { result ≡ two_numbers_ask name.now slot.now first.now second.now }
 {
-    let is_memory = is_memory(name)?;
+    let numbers = numbers_for(name)?;
     let slot = slot_in(slot)?;
     let first = number_in(first)?;
     let second = number_in(second)?;
-    Some(with_two(is_memory, slot, first, second))
+    Some(with_two(numbers, slot, first, second))
+}
+
+/// The numbers that words give, behind others; none where one of them gives none, or there are more
+/// than a goal can have.
+fn numbers_after(
+    mut numbers: ArrayVec<u32, GOAL_NUMBERS>,
+    words: &[&str],
+) -> Option<ArrayVec<u32, GOAL_NUMBERS>>
+    ensures { option_map (λ v. v.items) result
+        ≡ numbers_after numbers.items (map (λ word. word.now) words.now) }
+{
+    match words {
+        [] => Some(numbers),
+        [first, rest @ ..] => {
+            let number = number_in(first)?;
+            if numbers.try_push(number).is_err() {
+                return None;
+            }
+            numbers_after(numbers, rest)
+        }
+    }
+}
+
+/// A word's own words, which stand between commas.
+fn listed_in(alloc: Global, word: &str) -> Result<Vec<&str>, AllocError>
+    ensures { IfOk result (λ v. map (λ piece. piece.now) v.items
+        ≡ slice_split (λ b. b == 44) word.now) }
+{
+    word.split(',').collect(alloc)
+}
+
+/// The numbers of a word, which stand between commas; `-` has none.
+#[tactic(auto, unfolding(crate::specs::Asks::numbers_of))]
+fn numbers_in(alloc: Global, word: &str) -> Result<Option<ArrayVec<u32, GOAL_NUMBERS>>, NoMemory>
+    ensures { IfOk result (λ numbers. option_map (λ v. v.items) numbers ≡ numbers_of word.now) }
+{
+    if word == "-" {
+        return Ok(Some(ArrayVec::new()));
+    }
+    match listed_in(alloc, word) {
+        Ok(words) => Ok(numbers_after(ArrayVec::new(), &words)),
+        Err(_) => Err(NoMemory),
+    }
+}
+/// How many steps are made at most, and an area of addresses.
+#[derive(Clone, Copy, Debug, PartialEq, Eq)]
+pub struct Limits {
+    pub most: u32,
+    pub low: u32,
+    pub high: u32,
+}
+
+/// The limits that numbers give: without an area, or with one.
+fn limits_of(numbers: &[u32]) -> Option<Limits>
+    ensures { result ≡ limits_of numbers.now }
+{
+    match numbers {
+        [most] => Some(Limits {
+            most: *most,
+            low: 0,
+            high: 0,
+        }),
+        [most, low, high] => Some(Limits {
+            most: *most,
+            low: *low,
+            high: *high,
+        }),
+        _ => None,
+    }
+}
+
+/// The limits of a word.
+fn limits_in(alloc: Global, word: &str) -> Result<Option<Limits>, NoMemory>
+    ensures { IfOk result (λ limits. limits ≡ limits_in word.now) }
+{
+    match numbers_in(alloc, word)? {
+        Some(numbers) => Ok(limits_of(&numbers)),
+        None => Ok(None),
+    }
+}
+
+/// What a command has that looks for places: its limits, the watched places, and the addresses.
+#[derive(Drop)]
+struct Places {
+    limits: Limits,
+    watched: ArrayVec<u32, GOAL_NUMBERS>,
+    addresses: ArrayVec<u32, GOAL_NUMBERS>,
+}
+
+/// Those of three words.
+fn places_in(
+    alloc: Global,
+    limits: &str,
+    watched: &str,
+    addresses: &str,
+) -> Result<Option<Places>, NoMemory>
+    ensures { IfOk result (λ places. places ≡ places_of limits.now watched.now addresses.now) }
+{
+    let limits = limits_in(alloc, limits)?;
+    let watched = numbers_in(alloc, watched)?;
+    let addresses = numbers_in(alloc, addresses)?;
+    let Some(limits) = limits else {
+        return Ok(None);
+    };
+    let Some(watched) = watched else {
+        return Ok(None);
+    };
+    let Some(addresses) = addresses else {
+        return Ok(None);
+    };
+    Ok(Some(Places {
+        limits,
+        watched,
+        addresses,
+    }))
+}
+
+/// Whether the last place of a way is asked for.
+fn is_last(name: &str) -> Option<bool>
+    ensures { result ≡ is_last name.now }
+{
+    match name {
+        "until" => Some(false),
+        "last" => Some(true),
+        _ => None,
+    }
+}
+
+/// The command that looks for places.
+fn searching(is_last: bool, slot: Slot, places: Places) -> Ask
+    ensures { result ≡ searching is_last slot places }
+{
+    let Places {
+        limits,
+        watched,
+        addresses,
+    } = places;
+    let goal = Goal {
+        slot,
+        low: limits.low,
+        high: limits.high,
+        watched,
+        addresses,
+    };
+    let most = limits.most;
+    if is_last {
+        Ask::Last { most, goal }
+    } else {
+        Ask::Until { most, goal }
+    }
+}
+
+/// The command of a slot that looks for places.
+fn search_ask(name: &str, slot: &str, places: Places) -> Option<Ask>
+    ensures { result ≡ search_ask name.now slot.now places }
+{
+    let is_last = is_last(name)?;
+    let slot = slot_in(slot)?;
+    Some(searching(is_last, slot, places))
 }
 
 /// The command of some words.
-fn asked(pieces: &[&str]) -> Option<Ask>
-    ensures { result ≡ asked (map (λ piece. piece.now) pieces.now) }
+fn asked(alloc: Global, pieces: &[&str]) -> Result<Option<Ask>, NoMemory>
+    ensures { IfOk result (λ ask. ask ≡ asked (map (λ piece. piece.now) pieces.now)) }
 {
     match pieces {
-        [name] => plain_ask(name),
-        [name, slot] => slot_ask(name, slot),
-        [name, slot, number] => numbered_ask(name, slot, number),
-        [name, slot, first, second] => two_numbers_ask(name, slot, first, second),
-        _ => None,
+        [name] => Ok(plain_ask(name)),
+        [name, slot] => Ok(slot_ask(name, slot)),
+        [name, slot, number] => Ok(numbered_ask(name, slot, number)),
+        [name, slot, first, second] => Ok(two_numbers_ask(name, slot, first, second)),
+        [name, slot, limits, watched, addresses] => {
+            match places_in(alloc, limits, watched, addresses)? {
+                Some(places) => Ok(search_ask(name, slot, places)),
+                None => Ok(None),
+            }
+        }
+        _ => Ok(None),
     }
 }
 
@@ -173,8 +365,18 @@ fn ask_in(alloc: Global, word: &str) -> Result<Option<Ask>, NoMemory>
     ensures { IfOk result (λ ask. ask ≡ ask_of word.now) }
 {
     match pieces_of(alloc, word) {
-        Ok(pieces) => Ok(asked(&pieces)),
+        Ok(pieces) => asked(alloc, &pieces),
         Err(_) => Err(NoMemory),
+    }
+}
+
+/// The command of a line; a line may also be none. It fails for want of memory alone.
+pub fn line_ask(alloc: Global, line: &str) -> Result<Ask, NoMemory>
+    ensures { IfOk result (λ ask. ask ≡ line_ask line.now) }
+{
+    match ask_in(alloc, line)? {
+        Some(ask) => Ok(ask),
+        None => Ok(Ask::Unknown),
     }
 }
 

@@ -1,15 +1,17 @@
 //! The program over a shelf and a sink.
 ghost use Rattle.std.specs.Prelude.{◌≡◌, Some};
-ghost use Rattle.run_text.specs.declared.mode.Mode.TheVariants.{Boot};
 ghost use Rattle.tool_tasks.specs.Causes.{told_by};
 ghost use Rattle.tool_tasks.specs.RunFiles.{AreWithinLimits, opened_by};
-ghost use Rattle.tool_answers.specs.Parts.{sink_account};
-ghost use Rattle.tock_look.specs.Asks.{looking, looking_of};
+ghost use Rattle.tool_words.specs.declared.refusal.Refusal.TheVariants.{Memory};
+ghost use Rattle.tool_answers.specs.Parts.{RefusalIs, sink_account};
+ghost use Rattle.tock_look.specs.Asks.{looking_of};
 ghost use Rattle.tock_look.specs.Answers.{answers_text};
-ghost use Rattle.tock_look.specs.Looks.{AnswersAll, IsNoCommand, Looks, LooksAt, LooksOn};
+ghost use Rattle.tock_look.specs.Lines.{line_account};
+ghost use Rattle.tock_look.specs.Looks.{AnswersAll, AnswersLines, IsNoCommand, Looks, LooksAt};
 
-use crate::answers::{Answered, answer, board_of};
+use crate::answers::{Answered, answer, answer_line, board_of};
 use crate::asks::{Ask, asks_in};
+use crate::lines::LineSource;
 use board_core::Board;
 use run_text::Mode;
 use std::alloc::Global;
@@ -33,7 +35,7 @@ fn answer_all<K: Sink>(
 {
     writes_compose::<K>();
     for ask in asks {
-        match answer(alloc, files, board, *ask, out) {
+        match answer(alloc, files, board, ask, out) {
             Answered::Whole => {}
             Answered::SinkFailed => return ServeOutcome::SinkFailed,
             Answered::NoMemory => return refuse(Refusal::Memory, out),
@@ -42,34 +44,61 @@ fn answer_all<K: Sink>(
     ServeOutcome::Done
 }
 
-/// Answers commands on the board of two files.
-fn look_at<K: Sink>(alloc: Global, files: &RunFiles, asks: &[Ask], out: &mut K) -> ServeOutcome
-    requires within { AreWithinLimits files.now }
-    ensures { LooksAt (sink_account K.tells out.old out.new)
-        (opened_by files.now.flash.items files.now.script.items) asks.now result }
+/// Ends a session of more lines than can be counted, as where there is no memory.
+fn end_long_session<K: Sink>(out: &mut K) -> ServeOutcome
+    ensures { RefusalIs (sink_account K.tells out.old out.new) Memory result }
 {
-    match board_of(alloc, files) {
-        Ok(mut board) => answer_all(alloc, files, &mut board, asks, out),
-        Err(_) => refuse(Refusal::Memory, out),
-    }
+    refuse(Refusal::Memory, out)
 }
 
-/// Reads the two files, and answers commands on their board.
-fn look_on<H: Shelf, K: Sink>(
+/// Answers the commands of lines, one after another, on a board before its first step, until no line
+/// is left.
+fn answer_lines<L: LineSource, K: Sink>(
     alloc: Global,
-    words: RunCommand<'_>,
-    asks: &[Ask],
-    shelf: &mut H,
+    files: &RunFiles,
+    board: &mut Board,
+    lines: &mut L,
     out: &mut K,
 ) -> ServeOutcome
-    requires none { words.turns ≡ 0 }
-    requires mode { words.mode ≡ Boot }
-    ensures { LooksOn (told_by H.tells shelf.old shelf.new) (sink_account K.tells out.old out.new)
-        (looking words.entry.flash.now words.entry.script.now asks.now) result }
+    requires within { AreWithinLimits files.now }
+    requires opened { opened_by files.now.flash.items files.now.script.items ≡ Some board.old }
+    ensures { AnswersLines (line_account L.lines lines.old lines.new)
+        (sink_account K.tells out.old out.new) board.old result }
 {
-    match load_files(alloc, words, shelf) {
-        Ok(files) => look_at(alloc, &files, asks, out),
-        Err(refusal) => refuse(refusal, out),
+    writes_compose::<K>();
+    for _ in 0..u64::MAX {
+        let Some(line) = lines.next_line() else {
+            return ServeOutcome::Done;
+        };
+        match answer_line(alloc, files, board, line.as_str(), out) {
+            Answered::Whole => {}
+            Answered::SinkFailed => return ServeOutcome::SinkFailed,
+            Answered::NoMemory => return refuse(Refusal::Memory, out),
+        }
+    }
+    end_long_session(out)
+}
+
+/// Answers commands on the board of two files: those of words, or where there are none those of
+/// lines.
+fn look_at<L: LineSource, K: Sink>(
+    alloc: Global,
+    files: &RunFiles,
+    asks: &[Ask],
+    lines: &mut L,
+    out: &mut K,
+) -> ServeOutcome
+    requires within { AreWithinLimits files.now }
+    ensures { LooksAt (line_account L.lines lines.old lines.new)
+        (sink_account K.tells out.old out.new)
+        (opened_by files.now.flash.items files.now.script.items) asks.now result }
+{
+    let Ok(mut board) = board_of(alloc, files) else {
+        return refuse(Refusal::Memory, out);
+    };
+    match asks {
+        [] => answer_lines(alloc, files, &mut board, lines, out),
+        [_, ..] => answer_all(alloc, files, &mut board, asks, out),
     }
 }
 
@@ -85,15 +114,18 @@ fn refuse_words<K: Sink>(out: &mut K) -> ServeOutcome
 
 /// The program over the words of the command line, the first of which is its own name: the flash
 /// file, the script, and commands. Words that are no command are refused before a file is read, and
-/// files as those of a run; then the commands are answered, one after another. How it ended is the
-/// exit status, by `ServeOutcome::answer`.
-pub fn look<H: Shelf, K: Sink>(
+/// files as those of a run; then the commands are answered, one after another. Where there are none
+/// the lines that come in are commands, and what is none is answered so. How it ended is the exit
+/// status, by `ServeOutcome::answer`.
+pub fn look<H: Shelf, L: LineSource, K: Sink>(
     alloc: Global,
     words: &[String],
     shelf: &mut H,
+    lines: &mut L,
     out: &mut K,
 ) -> ServeOutcome
-    ensures { Looks (told_by H.tells shelf.old shelf.new) (sink_account K.tells out.old out.new)
+    ensures { Looks (told_by H.tells shelf.old shelf.new)
+        (line_account L.lines lines.old lines.new) (sink_account K.tells out.old out.new)
         (looking_of words.now) result }
 {
     let [_, flash, script, commands @ ..] = words else {
@@ -111,5 +143,8 @@ pub fn look<H: Shelf, K: Sink>(
         script: script.as_str(),
         turns: 0,
     };
-    look_on(alloc, words, &asks, shelf, out)
+    match load_files(alloc, words, shelf) {
+        Ok(files) => look_at(alloc, &files, &asks, lines, out),
+        Err(refusal) => refuse(refusal, out),
+    }
 }

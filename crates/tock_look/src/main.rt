@@ -3,13 +3,17 @@
 //!
 //!     tock_look FLASH SCRIPT COMMAND ..
 //!
-//! does the commands, one word of the command line each. The answer to each ends with a line `= ok`.
+//! does the commands, one word of the command line each; without any those that come in, one a line.
+//! The answer to each ends with a line `= ok`.
 #![tactic(auto)]
 
 mod answers;
 mod asks;
+mod lines;
 mod look;
+mod views;
 
+use crate::lines::InputLines;
 use crate::look::look;
 use std::env;
 use std::process::ExitCode;
@@ -23,6 +27,7 @@ fn main(rt: HostRuntime) -> ExitCode {
         return ExitCode::from(7);
     };
     let mut shelf = FileShelf::new(&rt);
+    let mut lines = InputLines::new(&rt);
     let mut out = OutSink::new(&rt);
-    ExitCode::from(look(rt.alloc(), &words, &mut shelf, &mut out).answer())
+    ExitCode::from(look(rt.alloc(), &words, &mut shelf, &mut lines, &mut out).answer())
 }

@@ -3,12 +3,20 @@ use Rattle.driver_model.specs.Commands.{QueueName}
 use Rattle.driver_model.specs.Commands.{Writes, Reads, Randoms, Stores}
 use Rattle.kernel_model.specs.Named.{slots_in}
 use Rattle.kernel_lives.specs.Lists.{times_in}
+use Rattle.kernel_model.specs.Replay.{after_all}
 use Rattle.board_opening.specs.Opening.{opening}
+use Rattle.board_opening.proofs.Boots.{opens_living}
 use Rattle.board_opening.proofs.certified.requests_from_boot_complete_once.Goals as goal
 
-pub returns : goal.returns
+pub returns-clause-begin : goal.returns-clause-begin
+returns-clause-begin c script flash choices choice queue slot =
+    let w = opening script flash in
+    c.requests_complete_once.ensures.begin (after_all w choices) choice queue slot
+    (c.processes_live_as_they_run.ensures.lives w choices slot (opens_living script flash slot))
+
+pub returns-clause-once : goal.returns-clause-once
 unfolding opening
-returns c script flash choices queue slot =
+returns-clause-once c script flash choices queue slot =
     let w = opening script flash in
     let lists = c.lists_from_boot_are_of_requests.ensures script flash [] in
     let none = nobody queue in

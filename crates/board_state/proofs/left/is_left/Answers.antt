@@ -17,7 +17,8 @@ unfolding is_left
 returns-then-is_left_for c =
     sym (ap is_some (sym c.loop-slot.invariant)
     ∙ found_here (is_left_for (world_of c.args.state.now)) c.loop-slot.slot SLOT_COUNT c.loop-slot-test.true
-    (ap (is_left_for (world_of c.args.state.now)) (sym c.new.ensures) ∙ sym c.is_left_for.ensures ∙ c.if-is_left_for.true))
+    (ap (is_left_for (world_of c.args.state.now)) (sym c.new.ensures) ∙ sym c.is_left_for.ensures ∙
+    c.if-is_left_for.true))
 
 pub returns : goal.returns
 unfolding is_left

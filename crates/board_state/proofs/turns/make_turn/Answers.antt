@@ -1,17 +1,18 @@
 use Rattle.std.specs.List.{zip}
 use Rattle.process_record.specs.declared.process.Process.{Process}
-use Rattle.std.proofs.Common.{◌≡◌, ◌+◌, ◌<◌, List, [], true, None, Some, refl, ap, sym, subst, ◌∙◌, arith, length}
+use Rattle.std.proofs.Common.{◌≡◌, ◌≤◌, ◌+◌, ◌*◌, ◌^◌, ◌<◌, Bool, List, [], true, None, Some, refl, ap, sym, subst, ◌∙◌}
+use Rattle.std.proofs.Common.{arith, length}
 use Rattle.tk_base.specs.declared.process.Choice.TheVariants.{Run}
 use Rattle.tk_base.specs.declared.limits.TheConstants.{STEP_LIMIT}
 use Rattle.kernel_model.specs.World.{carried_out, is_ready}
 use Rattle.process_record.specs.declared.emit.Emit.{Emit}
 use Rattle.board_devices.specs.Clock.{clock_at}
-use Rattle.alarm_capsule.specs.Times.{OthersTell}
-use Rattle.board_drivers.specs.Calm.{AlarmsTell, IsCalm}
 use Rattle.board_drivers.specs.Driven.{AreFreeSoon}
 use Rattle.board_drivers.proofs.Lanes.{later_free, same_free}
 use Rattle.board_turns.specs.Turning.{told_in_emit, with_shown}
-use Rattle.board_drivers.specs.declared.moment.Moment.{Moment}
+use Rattle.board_turns.specs.declared.machine.Machine.{Machine}
+use Rattle.board_turns.specs.Machines.{IsCalmUntil, KeepsAlarms, KeepsOtherAlarms}
+use Rattle.board_turns.proofs.Turns.{as_left}
 use Rattle.board_state.specs.Shows.{IsBoard, world_of}
 use Rattle.board_state.proofs.Boards.{ready_within}
 use Rattle.driver_model.specs.Alarm.{ticks_left_in}
@@ -22,10 +23,10 @@ use Rattle.board_state.proofs.Boards.{may_turn_on}
 use Rattle.board_state.proofs.Looks.{free_there}
 use Rattle.board_state.proofs.KnownEnds.{known_at}
 use Rattle.board_state.proofs.TurnLines.{alarms_later, lines_stay, may_serve, none_left_after, others_later}
-use Rattle.board_state.specs.ReadySlots.{OtherTurnsTell, TurnsTell}
+use Rattle.board_turns.specs.ReadySlots.{OtherTurnsTell, TurnsTell}
 use Rattle.board_state.proofs.TurnLines.{turn_leaves_alarm, turn_stays_calm, turned_board}
 use Rattle.board_state.proofs.turns.make_turn.Goals as goal
-use Rattle.board_state.proofs.turns.make_turn.Goals.{After-clear, After-look}
+use Rattle.board_state.proofs.turns.make_turn.Goals.{After-clear, After-look_at, After-note_turn}
 
 -- the slot is one that can have a turn
 can_run_is : (c : After-clear) → is_ready (world_of c.args.state.now) (Run c.args.slot) ≡ true
@@ -56,125 +57,161 @@ turn_at-requires-clause-known c =
     known_at c.args.state.now c.args.slot c.args.end c.requires.board
     c.requires.known
 
-pub calm_after-state-requires-clause-free : goal.calm_after-state-requires-clause-free
-calm_after-state-requires-clause-free c =
-    let b = c.args.state.now in
-    let t = c.turn_at.ensures.turn in
-    let x = c.turn_at.new.self in
-    subst (λ (m : Moment). AreFreeSoon (m.time + 1) x.drivers) (sym t.moment)
-    (same_free (b.machine.moment.time + 1) b.machine.drivers x.drivers
-    (lines_stay b c.args.slot x c.turn_at.new.processes.items (told_in_emit c.turn_at.new.emit) c.requires.board t)
-    (later_free b.machine.moment.time (b.machine.moment.time + 1) b.machine.drivers (omega arith)
-    c.requires.board.driven.free))
+-- the machine once the process is looked at again: it is that of the turn, and the rest is the board's
+looked : (c : After-look_at) → c.look_at.new.self ≡ record c.args.state.now.machine {
+  home = c.turn_at.new.self.home;
+  guard = c.turn_at.new.self.guard;
+  drivers = c.turn_at.new.self.drivers;
+  ready = c.look_at.new.self.ready;
+}
+looked c =
+    c.look_at.ensures.rest
+    ∙ ap (λ (m : Machine). record m { ready = c.look_at.new.self.ready })
+    (as_left c.args.state.now.machine c.turn_at.new.self c.turn_at.ensures.turn.rest)
 
-pub calm_after-state-requires-clause-calm : goal.calm_after-state-requires-clause-calm
-calm_after-state-requires-clause-calm c quiet =
+-- and once its alarm is
+noted : (c : After-note_turn) → c.look_at.new.self ≡ record c.args.state.now.machine {
+  home = c.turn_at.new.self.home;
+  guard = c.turn_at.new.self.guard;
+  drivers = c.turn_at.new.self.drivers;
+  ready = c.look_at.new.self.ready;
+} → c.note_turn.new.self ≡ record c.args.state.now.machine {
+  home = c.turn_at.new.self.home;
+  guard = c.turn_at.new.self.guard;
+  drivers = c.turn_at.new.self.drivers;
+  ready = c.look_at.new.self.ready;
+  moment = turn_later c.args.state.now.machine.moment;
+  alarms = c.note_turn.new.self.alarms;
+}
+noted c is =
+    c.note_turn.ensures.rest
+    ∙ ap (λ (m : Machine). record m { moment = turn_later m.moment; alarms = c.note_turn.new.self.alarms }) is
+
+pub look_at-requires-clause-owns : goal.look_at-requires-clause-owns
+look_at-requires-clause-owns c =
+    let b = c.args.state.now in
+    owns_after c.args.slot b.machine.home c.turn_at.new.self.home b.processes.items c.turn_at.new.processes.items
+    c.turn_at.ensures.turn.at c.requires.board.owns ∙ ap length (sym c.deref.ensures.value)
+
+pub look_at-requires-clause-others : goal.look_at-requires-clause-others
+look_at-requires-clause-others c =
     let b = c.args.state.now in
     let x = c.turn_at.new.self in
     let t = c.turn_at.ensures.turn in
-    subst (λ (m : Moment). IsCalm m.settings.start m.window (m.time + 1) b.calm x.home.owns x.drivers) (sym t.moment)
-    (turn_stays_calm b c.args.slot x c.turn_at.new.processes.items (told_in_emit c.turn_at.new.emit)
-    c.requires.board t c.alarms_change_at_their_commands.ensures.quiet quiet)
+    subst (λ (ps : List Process). OtherTurnsTell c.args.slot x.ready (zip ps x.home.owns)) (sym c.deref.ensures.value)
+    (subst (λ (ready : List Bool). OtherTurnsTell c.args.slot ready (zip c.turn_at.new.processes.items x.home.owns))
+    (sym t.rest.ready)
+    (others_stay_ready c.args.slot b.machine.home x.home b.processes.items c.turn_at.new.processes.items t.at
+    b.machine.ready c.requires.board.ready))
 
-pub look_again-requires-clause-others : goal.look_again-requires-clause-others
-look_again-requires-clause-others c =
+pub note_turn-requires-clause-time : goal.note_turn-requires-clause-time
+note_turn-requires-clause-time c =
+    let board = c.requires.board.machine in
+    subst (λ (m : Machine). m.moment.time + 1 + 2 ^ 32 ≤ 2 ^ 64)
+    (sym (looked (goal.at.note_turn-requires-clause-time c).After-look_at))
+    (omega (arith, board.time, board.steps))
+
+pub note_turn-requires-clause-others : goal.note_turn-requires-clause-others
+note_turn-requires-clause-others c =
     let b = c.args.state.now in
-    let x = c.turn_at.new.self in
-    let t = c.turn_at.ensures.turn in
-    subst (λ (m : Moment). OthersTell c.args.slot (clock_at m.settings.start (m.time + 1)) (m.time + 1) b.alarms
-    x.home.owns) (sym t.moment)
-    (others_later b c.args.slot x c.turn_at.new.processes.items (told_in_emit c.turn_at.new.emit) c.requires.board t
-    c.time_brings_an_alarm_nearer.ensures)
+    subst (λ (m : Machine). KeepsOtherAlarms c.args.slot (record m { moment = turn_later m.moment }))
+    (sym (looked (goal.at.note_turn-requires-clause-others c).After-look_at))
+    (others_later b c.args.slot c.turn_at.new.self c.turn_at.new.processes.items (told_in_emit c.turn_at.new.emit)
+    c.requires.board c.turn_at.ensures.turn c.time_brings_an_alarm_nearer.ensures)
 
-pub look_again-requires-clause-denied : goal.look_again-requires-clause-denied
-look_again-requires-clause-denied c denied =
+pub note_turn-requires-clause-denied : goal.note_turn-requires-clause-denied
+note_turn-requires-clause-denied c denied =
     let b = c.args.state.now in
-    let x = c.turn_at.new.self in
-    let t = c.turn_at.ensures.turn in
-    subst (λ (m : Moment). ticks_left_in (clock_at m.settings.start (m.time + 1)) x.home.owns c.args.slot ≡ None)
-    (sym t.moment)
-    (none_left_after b c.args.slot x c.turn_at.new.processes.items (told_in_emit c.turn_at.new.emit) c.requires.board t
-    denied _)
+    subst (λ (m : Machine). ticks_left_in (clock_at m.moment.settings.start (m.moment.time + 1)) m.home.owns c.args.slot
+    ≡ None) (sym (looked (goal.at.note_turn-requires-clause-denied c).After-look_at))
+    (none_left_after b c.args.slot c.turn_at.new.self c.turn_at.new.processes.items (told_in_emit c.turn_at.new.emit)
+    c.requires.board c.turn_at.ensures.turn denied _)
 
-pub look_again-requires-clause-unarmed : goal.look_again-requires-clause-unarmed
-look_again-requires-clause-unarmed c unarmed =
+pub note_turn-requires-clause-unarmed : goal.note_turn-requires-clause-unarmed
+note_turn-requires-clause-unarmed c unarmed =
     let b = c.args.state.now in
     let x = c.turn_at.new.self in
     let t = c.turn_at.ensures.turn in
     let shown = told_in_emit c.turn_at.new.emit in
     let processes = c.turn_at.new.processes.items in
-    subst (λ (m : Moment). AlarmsTell (turn_later m) b.alarms x.home.owns) (sym t.moment)
+    subst (λ (m : Machine). KeepsAlarms (record m { moment = turn_later m.moment }))
+    (sym (looked (goal.at.note_turn-requires-clause-unarmed c).After-look_at))
     (alarms_later b c.args.slot x processes shown c.requires.board t c.time_brings_an_alarm_nearer.ensures
     (turn_leaves_alarm b c.args.slot x processes shown c.requires.board t
     c.alarms_change_at_their_commands.ensures.alarms unarmed))
 
--- the table of processes, as it is looked at again
-looked : (c : After-look) → TurnsTell c.look.new.self (zip c.turn_at.new.processes.items c.turn_at.new.self.home.owns)
-looked c =
-    subst (λ (ps : List Process). TurnsTell c.look.new.self (zip ps c.turn_at.new.self.home.owns)) c.deref.ensures.value
-    c.look.ensures
+pub calm_after-state-requires-clause-time : goal.calm_after-state-requires-clause-time
+calm_after-state-requires-clause-time c =
+    let a = goal.at.calm_after-state-requires-clause-time c in
+    let board = c.requires.board.machine in
+    let below = (within a.After-clear).0 in
+    subst (λ (m : Machine). m.moment.time ≤ STEP_LIMIT * 2 ^ 32)
+    (sym (noted a.After-note_turn (looked a.After-look_at))) (omega (arith, board.time, below))
 
-pub look-requires-clause-owns : goal.look-requires-clause-owns
-look-requires-clause-owns c =
+pub calm_after-state-requires-clause-free : goal.calm_after-state-requires-clause-free
+calm_after-state-requires-clause-free c =
+    let a = goal.at.calm_after-state-requires-clause-free c in
     let b = c.args.state.now in
-    owns_after c.args.slot b.machine.home c.turn_at.new.self.home b.processes.items c.turn_at.new.processes.items
-    c.turn_at.ensures.turn.at c.requires.board.owns ∙ ap length (sym c.deref.ensures.value)
+    let t = c.turn_at.ensures.turn in
+    let x = c.turn_at.new.self in
+    subst (λ (m : Machine). AreFreeSoon m.moment.time m.drivers)
+    (sym (noted a.After-note_turn (looked a.After-look_at)))
+    (same_free (b.machine.moment.time + 1) b.machine.drivers x.drivers
+    (lines_stay b c.args.slot x c.turn_at.new.processes.items (told_in_emit c.turn_at.new.emit) c.requires.board t)
+    (later_free b.machine.moment.time (b.machine.moment.time + 1) b.machine.drivers (omega arith)
+    c.requires.board.machine.driven.free))
 
-pub look-requires-clause-others : goal.look-requires-clause-others
-look-requires-clause-others c =
+pub calm_after-state-requires-clause-calm : goal.calm_after-state-requires-clause-calm
+calm_after-state-requires-clause-calm c quiet =
+    let a = goal.at.calm_after-state-requires-clause-calm c in
     let b = c.args.state.now in
-    subst (λ (ps : List Process). OtherTurnsTell c.args.slot b.ready (zip ps c.turn_at.new.self.home.owns))
-    (sym c.deref.ensures.value)
-    (others_stay_ready c.args.slot b.machine.home c.turn_at.new.self.home b.processes.items
-    c.turn_at.new.processes.items c.turn_at.ensures.turn.at b.ready c.requires.board.ready)
+    let x = c.turn_at.new.self in
+    let t = c.turn_at.ensures.turn in
+    subst (λ (m : Machine). IsCalmUntil m m.calm) (sym (noted a.After-note_turn (looked a.After-look_at)))
+    (turn_stays_calm b c.args.slot x c.turn_at.new.processes.items (told_in_emit c.turn_at.new.emit)
+    c.requires.board t c.alarms_change_at_their_commands.ensures.quiet quiet)
 
 pub returns-clause-board : goal.returns-clause-board
 returns-clause-board c =
+    let a = goal.at.returns-clause-board c in
     let b = c.args.state.now in
     let t = c.turn_at in
     let left = record b { machine = t.new.self; processes = t.new.processes } in
     let calm = c.calm_after-state.result in
-    let times = c.look_again.new.alarms in
-    subst (λ (m : Moment). IsBoard (record b {
-      machine = record t.new.self { moment = turn_later m };
+    let is = noted a.After-note_turn (looked a.After-look_at) in
+    subst (λ (m : Machine). IsBoard (record b {
+      machine = record m { calm = calm };
       processes = t.new.processes;
-      calm = calm;
-      alarms = times;
-      ready = c.look.new.self;
       present = Some c.args.slot;
       used = c.used_after-state.result;
-    })) (sym t.ensures.turn.moment)
+    })) (sym is)
     (turned_board b left c.args.slot (told_in_emit t.new.emit) c.requires.board t.ensures.turn calm
-    c.used_after-state.result times c.look.new.self c.grants_change_at_calls.ensures.drops
-    c.turns_keep_lines.ensures.lines
-    (can_run_is (goal.at.returns-clause-board c).After-clear)
-    (subst (λ (m : Moment). IsCalm m.settings.start m.window (m.time + 1) calm t.new.self.home.owns t.new.self.drivers)
-    t.ensures.turn.moment c.calm_after-state.ensures)
-    (subst (λ (m : Moment). AlarmsTell (turn_later m) times t.new.self.home.owns) t.ensures.turn.moment
-    c.look_again.ensures)
-    (looked (goal.at.returns-clause-board c).After-look)
+    c.used_after-state.result c.note_turn.new.self.alarms c.look_at.new.self.ready
+    c.grants_change_at_calls.ensures.drops c.turns_keep_lines.ensures.lines (can_run_is a.After-clear)
+    (subst (λ (m : Machine). IsCalmUntil m calm) is c.calm_after-state.ensures)
+    (subst KeepsAlarms is c.note_turn.ensures.tell)
+    (subst (λ (ps : List Process). TurnsTell c.look_at.new.self.ready (zip ps t.new.self.home.owns))
+    c.deref.ensures.value c.look_at.ensures.tell)
     (c.used_after-state.ensures.within c.requires.board.slice c.requires.board.used))
 
 pub returns-clause-step : goal.returns-clause-step
 returns-clause-step c =
+    let a = goal.at.returns-clause-step c in
     let b = c.args.state.now in
     let x = c.turn_at.new.self in
     let t = c.turn_at.ensures.turn in
     let shown = told_in_emit c.turn_at.new.emit in
     let processes = c.turn_at.new.processes in
     let few = beside b.processes.items b.machine.home.owns b.machine.drivers.stores.slots c.requires.board.owns
-    c.requires.board.few c.requires.board.driven.slots in
+    c.requires.board.few c.requires.board.machine.driven.slots in
     made_so (world_of b) (world_of c.args.state.now) _ (Run c.args.slot) c.args.emit.now c.turn_at.new.emit refl
-    (can_run_is (goal.at.returns-clause-step c).After-clear)
-    (subst (λ (m : Moment). world_of (record b {
-      machine = record x { moment = turn_later m };
+    (can_run_is a.After-clear)
+    (subst (λ (m : Machine). world_of (record b {
+      machine = record m { calm = c.calm_after-state.result };
       processes = processes;
-      calm = c.calm_after-state.result;
-      alarms = c.look_again.new.alarms;
-      ready = c.look.new.self;
       present = Some c.args.slot;
       used = c.used_after-state.result;
-    }) ≡ (carried_out (world_of b) (Run c.args.slot)).after) (sym t.moment)
+    }) ≡ (carried_out (world_of b) (Run c.args.slot)).after) (sym (noted a.After-note_turn (looked a.After-look_at)))
     (world_after b c.args.slot x processes.items shown t few c.used_after-state.result
     c.used_after-state.ensures.value))
     (c.turn_at.ensures.emit ∙ ap (λ (e : Emit). with_shown (record e { slot = Some c.args.slot }) shown) c.clear.ensures

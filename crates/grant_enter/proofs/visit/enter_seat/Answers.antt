@@ -55,11 +55,11 @@ returns-clause-enters g c =
       sym c.if-is_gone.ensures,
       sym room,
       subst (λ (flash : List ℕ). Visited grants leaves flash
-          (own_entering c.args.driver (own_in c.args.memory.now.ram c.args.seat.now)) c.in-Ok-visit_at.answer after)
+          (own_entering c.args.driver (own_in c.args.memory.now.ram c.args.seat.now)) c.visit_at.result after)
           c.in-Ok.ensures.made.grants.flash
-          (subst (λ (own : Own). Visited grants leaves c.make_room_in.new.memory.flash own c.in-Ok-visit_at.answer
+          (subst (λ (own : Own). Visited grants leaves c.make_room_in.new.memory.flash own c.visit_at.result
           after)
-          (entered g at) c.in-Ok-visit_at.ensures.visited),
+          (entered g at) c.visit_at.ensures.visited),
     )
 
 pub returns-in_default-clause-enters : goal.returns-in_default-clause-enters

@@ -11,16 +11,16 @@ pub value_at-requires : goal.value_at-requires
 value_at-requires g c =
     let size = size_of g.T.GrantValue.driver c.args.driver g.T.GrantValue.SIZE g.T.GrantValue.count c.args.counts.now
     c.requires.counted g.met.T.GrantValue.whole in
-    omega (arith, c.in_ok-at.ensures.found.within, size)
+    omega (arith, c.in_ok-place.ensures.found.within, size)
 
 pub returns : goal.returns
 returns g c =
-    let v = c.in_ok-at.ensures.found in
+    let v = c.in_ok-place.ensures.found in
     let size = size_of g.T.GrantValue.driver c.args.driver g.T.GrantValue.SIZE g.T.GrantValue.count c.args.counts.now
     c.requires.counted g.met.T.GrantValue.whole in
-    let words = words_of (take (value_bytes c.args.driver) (drop c.in_ok-at.at c.args.kernel.now)) in
+    let words = words_of (take (value_bytes c.args.driver) (drop c.in_ok-place.place.at c.args.kernel.now)) in
     ap Some (c.value_at.ensures
-    ∙ ap (λ (n : ℕ). value_by (words_of (take n (drop c.in_ok-at.at c.args.kernel.now))) g.T.GrantValue.driver)
+    ∙ ap (λ (n : ℕ). value_by (words_of (take n (drop c.in_ok-place.place.at c.args.kernel.now))) g.T.GrantValue.driver)
     (sym size)
     ∙ sym (told_is g.T.GrantValue.driver c.args.driver words c.requires.counted.driver_is)
     ∙ ap (value_told c.args.driver) v.taken ∙ v.fits.told)

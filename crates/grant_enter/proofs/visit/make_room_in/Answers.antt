@@ -2,8 +2,8 @@ use Rattle.std.proofs.Common.{◌≡◌, ℕ, List, ap, ◌∙◌, rules, refl}
 use Rattle.grant_model.specs.Grants.{grant_of}
 use Rattle.grant_model.specs.Encoding.{decode_grants}
 use Rattle.grant_region.specs.Region.{fits, parts_of}
-use Rattle.grant_enter.proofs.Blocks.{AreLent, lent_kernel, lent_parts}
-use Rattle.grant_enter.proofs.Entering.{makes_room, on_both}
+use Rattle.grant_enter.proofs.Blocks.{AreLent, both_ok, lent_kernel, lent_parts}
+use Rattle.grant_enter.proofs.Entering.{area_stands, makes_room, on_both}
 use Rattle.grant_enter.proofs.visit.make_room_in.Goals as goal
 
 pub make_room-made-requires-clause-parts : goal.make_room-made-requires-clause-parts
@@ -28,3 +28,10 @@ returns-clause-made c =
     on_both c.make_room-made.result (makes_room c.args.memory.now c.args.layout.now c.requires.block.settled
     c.args.driver before after lent refl c.in_order.ensures) c.make_room-made.ensures.layout
     c.make_room-made.ensures.made
+
+pub returns-clause-area : goal.returns-clause-area
+returns-clause-area c =
+    let kernel : c.of-app.result.kernel.now ≡ _ = search rules in
+    both_ok c.make_room-made.result (area_stands c.values_are_found.ensures c.args.driver c.args.memory.now
+    c.args.layout.now _ c.make_room-made.new.layout _ (kernel ∙ lent_kernel c.args.memory.now c.args.layout.now
+    c.requires.block.settled)) (returns-clause-made c) c.make_room-made.ensures.area

@@ -1,3 +1,4 @@
+use Rattle.kernel_lives.proofs.Begun.{requests_begin_by_commands}
 use Rattle.kernel_lives.proofs.Requests.{requests_complete_once, requests_end_with_their_life}
 use Rattle.kernel_lives.proofs.certified.requests_complete_once.Goals as goal
 
@@ -8,3 +9,8 @@ returns-clause-once c =
 pub returns-clause-life : goal.returns-clause-life
 returns-clause-life c =
     requests_end_with_their_life c.drivers_keep_places_and_order.ensures c.turns_keep_lines.ensures.lines
+
+pub returns-clause-begin : goal.returns-clause-begin
+returns-clause-begin c =
+    requests_begin_by_commands c.lines_follow_answers.ensures c.events_tell_steps.ensures
+    c.turns_keep_lines.ensures.lines c.drivers_ask_for_their_own.ensures c.a_driver_that_refuses_changes_nothing.ensures

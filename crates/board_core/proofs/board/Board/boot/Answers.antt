@@ -1,10 +1,10 @@
 use Rattle.std.proofs.Common.{◌≡◌, ◌≤◌, List, [], ◌∷◌, ℕ, zero, suc, None, Some, All, ap, length, map, sym, subst, ◌∙◌}
-use Rattle.std.proofs.Common.{◌==◌, ap₂, arith, not}
+use Rattle.std.proofs.Common.{◌==◌, ◌*◌, ◌^◌, ap₂, arith, not}
 use Rattle.std.specs.Prelude.{unwrap_or}
 use Rattle.std.specs.List.{AllPairs, filter_map, count_by, zip}
 use Rattle.std.specs.Prelude.{vec_len}
 use Rattle.std.proofs.lemmas.List.{length-map}
-use Rattle.tk_base.specs.declared.limits.TheConstants.{BYTE_TICKS_LIMIT, SLOT_COUNT}
+use Rattle.tk_base.specs.declared.limits.TheConstants.{BYTE_TICKS_LIMIT, SLOT_COUNT, STEP_LIMIT}
 use Rattle.process_model.specs.declared.place.Footprint.{Footprint}
 use Rattle.process_layout.specs.Ordered.{IsOrdered}
 use Rattle.process_model.specs.Own.{opened}
@@ -14,7 +14,7 @@ use Rattle.app_placement.specs.Placement.{is_placed, LiesInFlash}
 use Rattle.grant_enter.specs.Homes.{Homes, CanMoveIn, EndsBefore, FitsMemory}
 use Rattle.script_text.specs.Settings.{ScriptSettings as Script}
 use Rattle.kernel_model.specs.declared.settings.Settings.{Settings}
-use Rattle.board_drivers.specs.Driven.{AreDriven, AreFresh, HasLanes, devices_of}
+use Rattle.board_drivers.specs.Driven.{AreDriven, AreFreeSoon, AreFresh, HasLanes, devices_of}
 use Rattle.board_opening.specs.Settings.{visible_settings}
 use Rattle.board_opening.specs.Boot.{IsFirst, fresh_record, layout_at}
 use Rattle.board_opening.specs.Opening.{opening, record_placed}
@@ -27,9 +27,12 @@ use Rattle.board_opening.proofs.Crews.{opening_shown}
 use Rattle.board_opening.proofs.Fresh.{all_same, driven_first, lanes_first}
 use Rattle.kernel_model.specs.World.{World, lane_count}
 use Rattle.board_state.proofs.Boards.{first_tell}
-use Rattle.board_state.specs.ReadySlots.{NoneBeyond, TurnsTell}
-use Rattle.board_state.proofs.TurnsKept.{none_first}
+use Rattle.board_turns.specs.ReadySlots.{NoneBeyond, TurnsTell}
+use Rattle.board_turns.proofs.TurnsKept.{none_first}
 use Rattle.process_record.specs.declared.process.Process.{Process}
+use Rattle.board_state.specs.Shows.{IsBoard, world_of}
+use Rattle.board_turns.specs.declared.machine.Machine.{Machine}
+use Rattle.board_turns.specs.Machines.{IsCalmUntil, KeepsAlarms}
 use Rattle.board_core.proofs.board.Board.boot.Goals as goal
 use Rattle.board_core.proofs.board.Board.boot.Goals.{After-deref-4}
 
@@ -79,16 +82,28 @@ new-requires-clause-apart c =
     (subst (AllPairs EndsBefore) (sym (layouts a))
     (all_apart c.placed_in-placed.result.items c.placed_in-placed.ensures.apart))
 
-pub look_ahead-calm-requires-clause-alarms : goal.look_ahead-calm-requires-clause-alarms
-look_ahead-calm-requires-clause-alarms c =
+pub look_ahead-requires-clause-alarms : goal.look_ahead-requires-clause-alarms
+look_ahead-requires-clause-alarms c =
     let es = c.in_ok-processes.field-0.footprints.items in
     let home_is : c.in-Ok.home ≡ record { flash = c.deref-2.result.now; owns = map opened es }
     = c.in-Ok.ensures
     ∙ ap (λ (xs : List Footprint). record { flash = c.args.flash.items; owns = map opened xs })
     c.deref-4.ensures.value
     ∙ ap (λ (f : List ℕ). record { flash = f; owns = map opened es }) (sym c.deref-2.ensures.value) in
-    first_tell c.settings_of.result.start c.new-alarms.result c.in-Ok.home es (ap (λ (h : Homes). h.owns) home_is)
-    c.new-alarms.ensures
+    subst KeepsAlarms (sym c.look_at_all.ensures.rest)
+    (first_tell c.settings_of.result.start c.new-alarms.result c.in-Ok.home es (ap (λ (h : Homes). h.owns) home_is)
+    c.new-alarms.ensures)
+
+pub look_ahead-requires-clause-time : goal.look_ahead-requires-clause-time
+look_ahead-requires-clause-time c =
+    subst (λ (m : Machine). m.moment.time ≤ STEP_LIMIT * 2 ^ 32) (sym c.look_at_all.ensures.rest) (omega arith)
+
+pub look_ahead-requires-clause-free : goal.look_ahead-requires-clause-free
+look_ahead-requires-clause-free c =
+    let es = c.in_ok-processes.field-0.footprints.items in
+    let slow = subst (λ (s : Script). s.uart ≤ BYTE_TICKS_LIMIT) c.script.view_is c.script.invariant.uart in
+    subst (λ (m : Machine). AreFreeSoon m.moment.time m.drivers) (sym c.look_at_all.ensures.rest)
+    (driven_first c.args.script c.in_ok-drivers.drivers es slow c.in_ok-drivers.ensures).free
 
 pub look_at_all-requires-clause-owns : goal.look_at_all-requires-clause-owns
 look_at_all-requires-clause-owns c =
@@ -124,28 +139,38 @@ invariant_of-result c =
     subst (λ (h : Homes). AreDriven c.settings_of.result 0 h.owns drivers) (sym home_is)
     (subst (λ (s : Settings). AreDriven s 0 (map opened es) drivers) (sym c.settings_of.ensures)
     (driven_first c.args.script drivers es slow c.in_ok-drivers.ensures)) in
-    record {
+    subst (λ (m : Machine). IsBoard (record {
+      machine = record m { calm = c.look_ahead.result };
+      processes = c.in_ok-processes.field-0.processes;
+      unplaced = c.unplaced.result;
+      slice = c.script.inside.slice;
+      present = None;
+      used = 0;
+    })) (sym c.look_at_all.ensures.rest) (record {
+      machine = record {
+        lost = subst (λ (h : Homes). All (HasLost 0) h.owns) (sym home_is) (none_lost es);
+        guard = record { protects = λ slot is. absurd (nobody_set slot (sym c.new-3.ensures ∙ is)) };
+        driven = driven;
+        lanes = subst (λ (n : ℕ). HasLanes n drivers) (sym c.unwrap_or-window.ensures)
+            (subst (λ (s : Script). HasLanes s.partition drivers) (sym c.script.view_is)
+            (lanes_first c.args.script drivers c.in_ok-drivers.ensures));
+        served = subst (λ (s : StoredSlots). All (λ count. count ≤ 0) s.served) (sym c.in_ok-drivers.ensures.stores)
+            (all_same (λ count. count ≤ 0) (lane_count c.args.script.partition) 0 (omega arith));
+        steps = omega arith;
+        time = omega arith;
+        calm = subst (λ (m : Machine). IsCalmUntil m c.look_ahead.result) c.look_at_all.ensures.rest
+            c.look_ahead.ensures.calm;
+        alarms = first_tell c.settings_of.result.start c.new-alarms.result c.in-Ok.home es
+            (ap (λ (h : Homes). h.owns) home_is) c.new-alarms.ensures;
+      };
       seated = subst (λ (h : Homes). All (IsResident h.flash 0) (zip processes h.owns)) (sym home_is) crew.seated;
-      lost = subst (λ (h : Homes). All (HasLost 0) h.owns) (sym home_is) (none_lost es);
       owns = ap (λ (h : Homes). length h.owns) home_is ∙ owns;
       few = no_more_than_slots (goal.at.invariant_of-result c).After-deref-4;
-      guard = record { protects = λ slot is. absurd (nobody_set slot (sym c.new-3.ensures ∙ is)) };
-      driven = driven;
-      lanes = subst (λ (n : ℕ). HasLanes n drivers) (sym c.unwrap_or-window.ensures)
-          (subst (λ (s : Script). HasLanes s.partition drivers) (sym c.script.view_is)
-          (lanes_first c.args.script drivers c.in_ok-drivers.ensures));
-      served = subst (λ (s : StoredSlots). All (λ count. count ≤ 0) s.served) (sym c.in_ok-drivers.ensures.stores)
-          (all_same (λ count. count ≤ 0) (lane_count c.args.script.partition) 0 (omega arith));
-      steps = omega arith;
-      time = omega arith;
-      calm = c.look_ahead-calm.ensures.calm;
-      alarms = first_tell c.settings_of.result.start c.new-alarms.result c.in-Ok.home es
-          (ap (λ (h : Homes). h.owns) home_is) c.new-alarms.ensures;
-      ready = subst (λ (ps : List Process). TurnsTell c.look_at_all.new.self (zip ps c.in-Ok.home.owns))
-          c.deref-5.ensures.value c.look_at_all.ensures;
+      ready = subst (λ (ps : List Process). TurnsTell c.look_at_all.new.self.ready (zip ps c.in-Ok.home.owns))
+          c.deref-5.ensures.value c.look_at_all.ensures.tell;
       slice = c.script.invariant.slice_least;
       used = omega arith;
-    }
+    })
   where
     none_lost : (fs : List Footprint) → All (HasLost 0) (map opened fs)
     none_lost [] k d h = absurd (omega arith)
@@ -202,7 +227,15 @@ returns-clause-world c =
     let shown = subst (λ (f : List ℕ). map (fresh_record script.storage f) residents
     ≡ filter_map (record_placed script.storage f) c.deref-3.result.now) c.deref-2.ensures.value
     (crew.shown script.storage) in
-    ap in_windows c.unwrap_or-window.ensures
+    ap (λ (m : Machine). world_of (record {
+      machine = record m { calm = c.look_ahead.result };
+      processes = c.in_ok-processes.field-0.processes;
+      unplaced = c.unplaced.result;
+      slice = script.slice;
+      present = None;
+      used = 0;
+    })) c.look_at_all.ensures.rest
+    ∙ ap in_windows c.unwrap_or-window.ensures
     ∙ opening_shown said flash c.in-Ok.home es processes c.unplaced.result c.settings_of.result c.in_ok-drivers.drivers
     (c.in-Ok.ensures
     ∙ ap (λ (xs : List Footprint). record { flash = flash; owns = map opened xs }) c.deref-4.ensures.value)

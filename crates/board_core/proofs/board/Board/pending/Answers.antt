@@ -14,7 +14,8 @@ returns-then-index-len c =
 
 pub returns : goal.returns
 returns c =
-    read_there c.self.inside.state c.self.invariant c.args.slot (λ (r : Record). r.own.inbox.pending) c.pending.result.now
+    read_there c.self.inside.state c.self.invariant c.args.slot (λ (r : Record). r.own.inbox.pending)
+    c.pending.result.now
     (omega (arith, c.len.ensures, c.index.ensures.value, c.if-index-len.false)) (λ p is. c.pending.ensures)
     ∙ ap (λ (w : World). option_map (λ (r : Record). r.own.inbox.pending) (slice_get w.records c.args.slot))
     c.self.view_is

@@ -1,5 +1,5 @@
 use Rattle.std.proofs.Common.{◌≡◌, ◌+◌, ◌<◌, ℕ, List, [], ◌∷◌, Option, Some, true, false, All}
-use Rattle.std.proofs.Common.{slice_get, sym, ap, ap₂, subst, ◌∙◌, arith}
+use Rattle.std.proofs.Common.{slice_get, sym, ap, subst, ◌∙◌, arith}
 use Rattle.std.specs.List.{zip}
 use Rattle.std.specs.Prelude.{IfSome}
 use Rattle.tk_base.specs.declared.process.Choice.{Choice}
@@ -14,6 +14,7 @@ use Rattle.board_drivers.specs.Residents.{HasLost, IsResident}
 use Rattle.board_drivers.specs.declared.drivers.Drivers.{Drivers}
 use Rattle.board_drivers.specs.declared.moment.Moment.{Moment}
 use Rattle.board_turns.specs.declared.machine.Machine.{Machine}
+use Rattle.board_turns.proofs.Turns.{as_left}
 use Rattle.board_state.specs.declared.state.BoardState.{BoardState}
 use Rattle.board_state.specs.Shows.{IsBoard, world_of}
 use Rattle.board_state.specs.KnownEnds.{IsKnownEnd}
@@ -38,9 +39,16 @@ returns-then-self-clause-ends c e h g =
     nothing_comes c.self.inside.state c.self.invariant g
     c.next_is_ready.ensures.ahead (c.calm_ahead-self-inside.ensures.come c.if-self.true)
 
+-- the board that looked up to when no device step is ready
+abbrev looking_ahead : BoardState → ℕ → BoardState
+looking_ahead b calm = record b { machine = record b.machine { calm = calm } }
+
 pub turns_at-stretch-requires : goal.turns_at-stretch-requires
 turns_at-stretch-requires c =
-    may_turn_on c.turns_left-left.result c.self.inside.state c.in-Some.slot c.self.invariant
+    may_turn_on c.turns_left-left.result (looking_ahead c.self.inside.state c.calm_ahead-self-inside.result)
+    c.in-Some.slot
+    (looked_ahead c.self.inside.state c.calm_ahead-self-inside.result c.self.invariant
+    c.calm_ahead-self-inside.ensures.calm)
     (runs_within c.self.inside.state.processes.items c.in-Some.slot
     (ap (λ (ps : List Process). slot_runs (slice_get ps c.in-Some.slot)) (sym c.deref.ensures.value)
     ∙ sym c.runs.ensures ∙ c.if-not-runs.false))
@@ -55,19 +63,19 @@ runs_there : (c : After-is_over) → slot_runs (slice_get c.self.inside.state.pr
 runs_there c = ap (λ (ps : List Process). slot_runs (slice_get ps c.in-Some.slot)) (sym c.deref.ensures.value)
     ∙ sym c.runs.ensures ∙ c.if-not-runs.false
 
--- the machine after the turns: the drivers and the moment are those before
-left_machine : (old new : Machine) → new.drivers ≡ old.drivers → new.moment ≡ old.moment
-    → new ≡ record old { home = new.home; guard = new.guard }
-left_machine old new d m =
-    ap₂ (λ (e : Drivers) (n : Moment). record new { drivers = e; moment = n }) d m
-
+-- the machine after the turns: the drivers and the rest are those before
 same_machine : (c : After-is_over) → c.turns_at-stretch.new.self
     ≡ record c.self.inside.state.machine {
       home = c.turns_at-stretch.new.self.home;
       guard = c.turns_at-stretch.new.self.guard;
+      calm = c.calm_ahead-self-inside.result;
     }
-same_machine c = left_machine c.self.inside.state.machine c.turns_at-stretch.new.self c.turns_at-stretch.ensures.drivers
-    c.turns_at-stretch.ensures.quiet.moment
+same_machine c =
+    let old = record c.self.inside.state.machine { calm = c.calm_ahead-self-inside.result } in
+    let new = c.turns_at-stretch.new.self in
+    as_left old new c.turns_at-stretch.ensures.quiet.rest
+    ∙ ap (λ (d : Drivers). record old { home = new.home; guard = new.guard; drivers = d })
+    c.turns_at-stretch.ensures.drivers
 
 -- a board with these turns made
 abbrev turned : After-is_over → Machine → BoardState
@@ -79,7 +87,6 @@ turned c x = record c.self.inside.state {
     };
   };
   processes = c.turns_at-stretch.new.processes;
-  calm = c.calm_ahead-self-inside.result;
   present = c.present_after-present.result.0;
   used = c.present_after-present.result.1;
 }
@@ -87,7 +94,7 @@ turned c x = record c.self.inside.state {
 -- is a board
 board_then : (c : After-is_over) → IsBoard (turned c c.turns_at-stretch.new.self)
 board_then c =
-    let b = record c.self.inside.state { calm = c.calm_ahead-self-inside.result } in
+    let b = looking_ahead c.self.inside.state c.calm_ahead-self-inside.result in
     let board = looked_ahead c.self.inside.state c.calm_ahead-self-inside.result c.self.invariant
     c.calm_ahead-self-inside.ensures.calm in
     let k = c.turns_at-stretch.result.went in
@@ -99,23 +106,26 @@ board_then c =
     let holds = still b board c.in-Some.slot k c.turns_left-left.result present.result.1 present.result.0 x processes
     c.turns_at-stretch.ensures.quiet in
     subst (λ (y : Machine). IsBoard (turned c y)) (sym (same_machine c)) (record {
+      machine = record {
+        lost = subst (λ (n : ℕ). All (HasLost (b.machine.moment.steps + n)) x.home.owns) (sym ticks) holds.lost;
+        guard = c.turns_at-stretch.ensures.quiet.guard;
+        driven = subst (λ (n : ℕ). AreDriven b.machine.moment.settings (b.machine.moment.time + n) x.home.owns
+            b.machine.drivers) (sym ticks) holds.driven;
+        lanes = board.machine.lanes;
+        served = few_still b.machine.moment.steps (b.machine.moment.steps + c.from-ticks.result)
+            b.machine.drivers.stores.served (omega arith) board.machine.served;
+        steps = omega (arith, ticks, left.limit, c.turns_at-stretch.ensures.most);
+        time = omega (arith, board.machine.time);
+        calm = subst (λ (n : ℕ). IsCalm b.machine.moment.settings.start b.machine.moment.window
+            (b.machine.moment.time + n) b.machine.calm x.home.owns
+            b.machine.drivers) (sym ticks) holds.calm;
+        alarms = subst (λ (n : ℕ). AlarmsTell (turns_later n b.machine.moment) b.machine.alarms x.home.owns) (sym ticks)
+            (holds.alarms c.time_brings_an_alarm_nearer.ensures);
+      };
       seated = subst (λ (n : ℕ). All (IsResident x.home.flash (b.machine.moment.steps + n)) (zip processes x.home.owns))
           (sym ticks) holds.seated;
-      lost = subst (λ (n : ℕ). All (HasLost (b.machine.moment.steps + n)) x.home.owns) (sym ticks) holds.lost;
       owns = holds.owns;
       few = holds.few;
-      guard = c.turns_at-stretch.ensures.quiet.guard;
-      driven = subst (λ (n : ℕ). AreDriven b.machine.moment.settings (b.machine.moment.time + n) x.home.owns
-          b.machine.drivers) (sym ticks) holds.driven;
-      lanes = board.lanes;
-      served = few_still b.machine.moment.steps (b.machine.moment.steps + c.from-ticks.result)
-          b.machine.drivers.stores.served (omega arith) board.served;
-      steps = omega (arith, ticks, left.limit, c.turns_at-stretch.ensures.most);
-      time = omega (arith, board.time);
-      calm = subst (λ (n : ℕ). IsCalm b.machine.moment.settings.start b.machine.moment.window (b.machine.moment.time + n) b.calm x.home.owns
-          b.machine.drivers) (sym ticks) holds.calm;
-      alarms = subst (λ (n : ℕ). AlarmsTell (turns_later n b.machine.moment) b.alarms x.home.owns) (sym ticks)
-          (holds.alarms c.time_brings_an_alarm_nearer.ensures);
       ready = holds.ready;
       slice = board.slice;
       used = used_within b.used b.slice c.used_before-before.result k present.result.1 board.used
@@ -134,14 +144,15 @@ calm_then c fewer =
     let b = turned c c.turns_at-stretch.new.self in
     let board = board_then c in
     let until = c.turns_left-left.ensures.until in
-    let same = ap (λ (m : Moment). m.time) c.turns_at-stretch.ensures.quiet.moment in
-    calm_shown b board (board.calm.none b.machine.moment.time (omega arith)
-    (omega (arith, until, fewer, same, c.from-ticks.ensures)))
+    let rest = c.turns_at-stretch.ensures.quiet.rest in
+    let same = ap (λ (m : Moment). m.time) rest.moment in
+    calm_shown b board (board.machine.calm.none b.machine.moment.time (omega arith)
+    (omega (arith, until, fewer, same, rest.calm, c.from-ticks.ensures)))
 
 pub returns-clause-stretch : goal.returns-clause-stretch
 returns-clause-stretch c =
     let a = (goal.at.returns-clause-stretch c).After-is_over in
-    let b = record c.self.inside.state { calm = c.calm_ahead-self-inside.result } in
+    let b = looking_ahead c.self.inside.state c.calm_ahead-self-inside.result in
     let board = looked_ahead c.self.inside.state c.calm_ahead-self-inside.result c.self.invariant
     c.calm_ahead-self-inside.ensures.calm in
     let left = c.turns_left-left.ensures in
@@ -162,7 +173,7 @@ returns-clause-stretch c =
 pub returns-clause-ends : goal.returns-clause-ends
 returns-clause-ends c e h g =
     let a = (goal.at.returns-clause-ends c).After-is_over in
-    let b = record c.self.inside.state { calm = c.calm_ahead-self-inside.result } in
+    let b = looking_ahead c.self.inside.state c.calm_ahead-self-inside.result in
     let board = looked_ahead c.self.inside.state c.calm_ahead-self-inside.result c.self.invariant
     c.calm_ahead-self-inside.ensures.calm in
     let left = c.turns_left-left.ensures in
@@ -183,7 +194,7 @@ returns-clause-ends c e h g =
 pub returns-clause-next : goal.returns-clause-next
 returns-clause-next c e =
     let a = (goal.at.returns-clause-next c).After-is_over in
-    let b = record c.self.inside.state { calm = c.calm_ahead-self-inside.result } in
+    let b = looking_ahead c.self.inside.state c.calm_ahead-self-inside.result in
     let board = looked_ahead c.self.inside.state c.calm_ahead-self-inside.result c.self.invariant
     c.calm_ahead-self-inside.ensures.calm in
     let left = c.turns_left-left.ensures in
@@ -206,7 +217,7 @@ returns-clause-next c e =
 pub returns-clause-known : goal.returns-clause-known
 returns-clause-known c e =
     let a = (goal.at.returns-clause-known c).After-is_over in
-    let b = record c.self.inside.state { calm = c.calm_ahead-self-inside.result } in
+    let b = looking_ahead c.self.inside.state c.calm_ahead-self-inside.result in
     let board = looked_ahead c.self.inside.state c.calm_ahead-self-inside.result c.self.invariant
     c.calm_ahead-self-inside.ensures.calm in
     let end = c.turns_at-stretch.result.end in

@@ -39,10 +39,11 @@ returns-clause-ahead c =
     let b = c.self.inside.state in
     let reached : w.clock.time ≤ STEP_LIMIT * 2 ^ 32 =
     subst (λ (v : World). v.clock.time ≤ STEP_LIMIT * 2 ^ 32) c.self.view_is
-    (omega (arith, c.self.invariant.time, c.self.invariant.steps)) in
+    (omega (arith, c.self.invariant.machine.time, c.self.invariant.machine.steps)) in
     let near = subst (λ (v : World). IfSome (next_time v) (λ n. n - v.clock.time < 2 ^ 32)) c.self.view_is
     (subst (λ (at : Option ℕ). IfSome at (λ n. n - b.machine.moment.time < 2 ^ 32)) c.time_ahead.ensures.at
     c.time_ahead.ensures.near) in
     subst (λ (s : Situation). IsChoiceAhead s (option_map lanes_shown c.lanes.result)) (sym (returns-clause-status c))
     (subst (IsChoiceAhead (situation_of w)) (sym (returns-clause-lanes c))
-    (choice_ahead c.next_is_of_the_window.ensures.ahead c.next_is_ready.ensures.ahead w w.pace.window refl reached near))
+    (choice_ahead c.next_is_of_the_window.ensures.ahead c.next_is_ready.ensures.ahead w w.pace.window refl reached
+    near))

@@ -8,7 +8,7 @@ use Rattle.board_drivers.specs.Residents.{can_turn_in}
 use Rattle.board_state.specs.declared.state.BoardState.{BoardState}
 use Rattle.board_state.specs.Shows.{IsBoard, residents, world_of}
 use Rattle.board_state.proofs.Boards.{and_false, slot_shown}
-use Rattle.board_state.proofs.Counted.{none_counted}
+use Rattle.board_turns.proofs.Counted.{none_counted}
 use Rattle.board_drivers.proofs.Pairs.{length-firsts}
 use Rattle.board_core.proofs.board.BoardSituated.slots.Goals as goal
 
@@ -40,4 +40,4 @@ returns-else-has_any-clause-none c slot past =
     let b = c.self.inside.state in
     not_ready b c.self.invariant c.args.self.now c.self.view_is slot
     (sym (c.self.invariant.ready slot)
-    ∙ none_counted b.ready (sym c.has_any.ensures ∙ c.if-has_any.false) slot past)
+    ∙ none_counted b.machine.ready (sym c.has_any.ensures ∙ c.if-has_any.false) slot past)

@@ -24,7 +24,7 @@ returns-in-Went-clause-leaves c =
           i.ensures.rest
           i.ensures.turn;
       guard = guards_only c.args.slot i.new.guard i.new.home i.ensures.guard;
-      moment = refl;
+      rest = record { moment = refl; alarms = refl; calm = refl; ready = refl };
     }
 
 -- what drivers ask of the process stays

@@ -34,5 +34,5 @@ returns-clause-leaves c =
         protects = subst (λ (o : Own). Protect c.switch_to.new.self.pmp o.layout) (sym same)
             c.switch_to.ensures.protects;
       });
-      moment = refl;
+      rest = record { moment = refl; alarms = refl; calm = refl; ready = refl };
     }

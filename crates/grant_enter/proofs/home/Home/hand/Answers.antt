@@ -29,7 +29,8 @@ pub returns-clause-handed : goal.returns-clause-handed
 returns-clause-handed c =
     let a = (goal.at.returns-clause-handed c).After-index_mut-seat in
     on_ok c.hand_at.result (reseated_shows (reads a) c.hand_at.new.memory c.hand_at.new.seat c.hand_at.ensures.reseats
-    (λ flash own own_after. own_after ≡ handing c.args.kind c.args.driver c.args.number c.args.pair own))
+    (λ flash own own_after. own_after ≡ handing c.args.handover.kind c.args.handover.driver
+    c.args.handover.number c.args.handover.pair own))
     c.hand_at.ensures.handed
 
 pub returns-clause-refused : goal.returns-clause-refused

@@ -1,0 +1,432 @@
+-- What comes in on the serial line is read in its order: each step keeps it, lane by lane.
+use Rattle.std.proofs.Common.{◌≡◌, inl, inr, ◌≤◌, ◌<◌, ℕ, zero, suc, ◌+◌, ◌-◌, ◌==◌, Bool, true, false, cond, List}
+use Rattle.std.proofs.Common.{[], ◌∷◌, ◌++◌, drop, take, length, map, slice_get, slice_set}
+use Rattle.std.proofs.Common.{Option, None, Some, refl, sym, ap, ap₂, subst, ◌∙◌, arith, eqb-true, eq-eqb}
+use Rattle.std.specs.Prelude.{option_to_list}
+use Rattle.std.specs.List.{cons_option}
+use Rattle.std.specs.Option.{option_map}
+use Rattle.std.specs.Prelude.{unwrap_or}
+use Rattle.std.proofs.lemmas.Bool.{false≢true}
+use Rattle.std.proofs.lemmas.List.{append_assoc, append-nil, get_or-set_other, length-append, length-map, length-set}
+use Rattle.tk_base.specs.declared.limits.TheConstants.{RING_SIZE}
+use Rattle.tk_base.specs.declared.process.Choice.{Choice}
+use Rattle.tk_base.specs.declared.process.Choice.TheVariants.{Run, Device, Pass}
+use Rattle.tk_base.specs.declared.process.Dev.{Dev}
+use Rattle.tk_base.specs.declared.process.Dev.TheVariants as dev
+use Rattle.tk_base.specs.declared.process.Verb.{Verb}
+use Rattle.script_text.specs.Settings.{ScriptEvent as Arrival, EventKind}
+use Rattle.script_text.specs.Settings as script
+use Rattle.grant_values.specs.declared.console.WaitingRead.{WaitingRead}
+use Rattle.board_devices.specs.SerialLine.{SerialLine, line_at, with_input}
+use Rattle.process_model.specs.Own.{Own}
+use Rattle.driver_model.specs.Commands.{BoardRequest, Waits, Leaves, Lights, QueueName, Writes, Reads, Randoms, Stores}
+use Rattle.driver_model.specs.Console as console
+use Rattle.driver_model.specs.Console.{console_reads}
+use Rattle.driver_model.specs.Requests.{waiting_in}
+use Rattle.kernel_model.specs.Record.{Record, flash_of}
+use Rattle.kernel_model.specs.Turn.{Taken, WriteDone, turned}
+use Rattle.kernel_model.specs.World.{Answer, DeviceAnswer, DeviceStep, Devices, Label, Stepped, World, acted, after}
+use Rattle.kernel_model.specs.World.{answer_label, answering, arrived, carried_out, coming_in, device_step_of, done}
+use Rattle.kernel_model.specs.World.{is_ready, labels, labels_told, lane_in, only_for, operating, queue_without, ran}
+use Rattle.kernel_model.specs.World.{random_step, receive_step, routed, serving, stepped, storing, telling_edge, telling_nobody}
+use Rattle.kernel_model.specs.World.{transmitting, turn_label, unmade, with_queue}
+use Rattle.kernel_model.specs.Parts.{acting_on, acts_of, alarmed, drawn_event, served_by, slot_of_name}
+use Rattle.kernel_model.specs.Named.{lane_by, slots_in}
+use Rattle.kernel_model.specs.Laws.{one_answered}
+use Rattle.kernel_model.specs.Choices.{labels_of_all}
+use Rattle.kernel_model.specs.Edges.{arrival_in, arrivals_in, first_for}
+use Rattle.kernel_model.specs.Replay.{after_all}
+use Rattle.kernel_model.proofs.Told.{done_one, edge_answer, of_device as of_each_device, told_labels, with_rest}
+use Rattle.kernel_model.proofs.Places.{of_stepped, stepped_else, stepped_ready}
+use Rattle.kernel_laws.specs.Inputs.{HasRoom, InputIsKept, IsSubsequence, KeepsInput}
+use Rattle.kernel_laws.specs.Inputs.{bytes_arriving, bytes_in, input_in, input_told, inputs_told, ring_in}
+use Rattle.kernel_laws.specs.Words.{of_lane}
+use Rattle.kernel_laws.proofs.Lanes.{lane_joined, one_silent, served_here, tells_none}
+
+-- bytes of which none was taken out, or the first ones were
+all_remain : (xs : List ℕ) → IsSubsequence xs xs
+all_remain [] = refl
+all_remain (x ∷ xs) = inr (xs, (refl, all_remain xs))
+
+last_remain : (n : ℕ) (xs : List ℕ) → IsSubsequence (drop n xs) xs
+last_remain zero xs = all_remain xs
+last_remain (suc n) [] = refl
+last_remain (suc n) (x ∷ xs) = inl (last_remain n xs)
+
+-- with more bytes before, and after; and one after another
+after_more : (first xs ys : List ℕ) → IsSubsequence xs ys → IsSubsequence (first ++ xs) (first ++ ys)
+after_more [] xs ys h = h
+after_more (x ∷ first) xs ys h = inr (first ++ xs, (refl, after_more first xs ys h))
+
+before_more : (xs ys then : List ℕ) → IsSubsequence xs ys → IsSubsequence (xs ++ then) (ys ++ then)
+before_more xs [] then h = subst (λ (zs : List ℕ). IsSubsequence (zs ++ then) then) (sym h) (all_remain then)
+before_more xs (y ∷ ys) then (inl h) = inl (before_more xs ys then h)
+before_more xs (y ∷ ys) then (inr h) =
+    inr (h.0 ++ then, (ap (λ (zs : List ℕ). zs ++ then) h.1.0, before_more h.0 ys then h.1.1))
+
+remain_of : (xs ys zs : List ℕ) → IsSubsequence xs ys → IsSubsequence ys zs → IsSubsequence xs zs
+remain_of xs ys [] h g = subst (IsSubsequence xs) g h
+remain_of xs ys (z ∷ zs) h (inl g) = inl (remain_of xs ys zs h g)
+remain_of xs ys (z ∷ zs) h (inr g) =
+    by_head (subst (IsSubsequence xs) g.1.0 h) (λ ws f. remain_of ws g.0 zs f g.1.1)
+  where
+    by_head : IsSubsequence xs (z ∷ g.0) → ((ws : List ℕ) → IsSubsequence ws g.0 → IsSubsequence ws zs)
+        → IsSubsequence xs (z ∷ zs)
+    by_head (inl f) later = inl (later xs f)
+    by_head (inr f) later = inr (f.0, (f.1.0, later f.0 f.1.1))
+
+-- what is kept exactly is kept
+exactly : (before arrived read left : List ℕ) (Roomy : Type 0) → read ++ left ≡ before ++ arrived
+    → KeepsInput before arrived read left Roomy
+exactly before arrived read left Roomy e =
+    record { kept = subst (IsSubsequence (read ++ left)) e (all_remain (read ++ left)); whole = λ roomy. e }
+
+-- bytes that come in at a ring, of which the newest are kept
+into_ring : (lines : List SerialLine) (lane : ℕ) (bytes : List ℕ) →
+    let ring = (line_at lane lines).ring in
+    KeepsInput ring bytes [] (line_at lane (map (with_input bytes) lines)).ring
+    ((lane < length lines) × (length ring + length bytes ≤ RING_SIZE))
+into_ring [] lane bytes = record { kept = nothing bytes; whole = λ h. absurd (omega (arith, h.0)) }
+  where
+    nothing : (xs : List ℕ) → IsSubsequence [] xs
+    nothing [] = refl
+    nothing (x ∷ xs) = inl (nothing xs)
+into_ring (line ∷ lines) zero bytes =
+    let all = line.ring ++ bytes in
+    record {
+      kept = last_remain (length all - RING_SIZE) all;
+      whole = λ h.
+          let none : length all - RING_SIZE ≡ 0 = omega (arith, h.1, length-append line.ring bytes) in
+          ap (λ (n : ℕ). drop n all) none;
+    }
+into_ring (line ∷ lines) (suc lane) bytes =
+    let later = into_ring lines lane bytes in
+    record { kept = later.kept; whole = λ h. later.whole (omega (arith, h.0), h.1) }
+
+-- what stands in a ring after another line was put at a place
+put_there : (lines : List SerialLine) (i : ℕ) (line : SerialLine) → (length lines ≤ i → line.ring ≡ [])
+    → (line_at i (slice_set lines i line)).ring ≡ line.ring
+put_there [] i line beyond = sym (beyond (omega arith))
+put_there (x ∷ lines) zero line beyond = refl
+put_there (x ∷ lines) (suc i) line beyond = put_there lines i line (λ h. beyond (omega (arith, h)))
+
+put_same : (lines : List SerialLine) (i lane : ℕ) (line : SerialLine) → line.ring ≡ (line_at i lines).ring
+    → (line_at lane (slice_set lines i line)).ring ≡ (line_at lane lines).ring
+put_same [] i lane line e = refl
+put_same (x ∷ lines) zero zero line e = e
+put_same (x ∷ lines) zero (suc lane) line e = refl
+put_same (x ∷ lines) (suc i) zero line e = refl
+put_same (x ∷ lines) (suc i) (suc lane) line e = put_same lines i lane line e
+
+none_there : (lines : List SerialLine) (i : ℕ) → length lines ≤ i → (line_at i lines).ring ≡ []
+none_there [] i h = refl
+none_there (x ∷ lines) zero h = absurd (omega (arith, h))
+none_there (x ∷ lines) (suc i) h = none_there lines i (omega (arith, h))
+
+none_dropped : (n : ℕ) (xs : List ℕ) → xs ≡ [] → drop n xs ≡ []
+none_dropped zero xs e = e
+none_dropped (suc n) [] e = refl
+none_dropped (suc n) (x ∷ xs) e = absurd (cc)
+
+-- the bytes that a read moves are the first of the ring
+taken_first : (n : ℕ) (xs : List ℕ) → take n xs ++ drop (length (take n xs)) xs ≡ xs
+taken_first zero xs = refl
+taken_first (suc n) [] = refl
+taken_first (suc n) (x ∷ xs) = ap (λ (ys : List ℕ). x ∷ ys) (taken_first n xs)
+
+moved_first : (ring : List ℕ) (own : Own) →
+    let moved = (console.received ring own).moved in moved ++ drop (length moved) ring ≡ ring
+unfolding console.received
+moved_first ring own = by_read (waiting_in console_reads own)
+  where
+    by_read : (o : Option WaitingRead) →
+        let moved = (unwrap_or (option_map (console.receiving ring own) o) (console.unreceived own)).moved in
+        moved ++ drop (length moved) ring ≡ ring
+    by_read None = refl
+    by_read (Some read) = taken_first _ ring
+
+-- what a turn asks of the board, and what an operator's act does, reads nothing
+queue_lines : (name : QueueName) (change : List ℕ → List ℕ) (d : Devices) → (with_queue name change d).lines ≡ d.lines
+queue_lines Writes change d = refl
+queue_lines Reads change d = refl
+queue_lines Randoms change d = refl
+queue_lines Stores change d = refl
+
+acted_lines : (slot : ℕ) (act : BoardRequest) (d : Devices) → (acted slot act d).lines ≡ d.lines
+acted_lines slot (Waits queue) d = queue_lines queue (λ slots. slots ++ slot ∷ []) d
+acted_lines slot (Leaves queue) d = queue_lines queue (queue_without slot) d
+acted_lines slot (Lights led switch) d = refl
+
+routed_lines : (slot : ℕ) (acts : List BoardRequest) (d : Devices) → (routed slot acts d).lines ≡ d.lines
+routed_lines slot [] d = refl
+routed_lines slot (act ∷ acts) d = routed_lines slot acts (acted slot act d) ∙ acted_lines slot act d
+
+sent_none : (b : Bool) → input_in (cond b WriteDone Taken) ≡ []
+sent_none true = refl
+sent_none false = refl
+
+drawn_none : (o : Option ℕ) → input_in (drawn_event o) ≡ []
+drawn_none None = refl
+drawn_none (Some word) = refl
+
+module _ (w : World) (lane : ℕ) where
+  abbrev ring : List ℕ
+  ring = ring_in lane w.devices
+
+  -- a step by which bytes come in, or none, keeps the input of the lane
+  abbrev Keeps : List ℕ → Stepped → Type 0
+  Keeps bytes s =
+      KeepsInput ring bytes (inputs_told (of_lane w.pace.window lane s.labels)) (ring_in lane s.after.devices)
+      ((lane < length w.devices.lines) × (length ring + length bytes ≤ RING_SIZE))
+
+  -- where nothing comes in, nothing is told, and the ring stays
+  quietly : (read left : List ℕ) (Roomy : Type 0) → read ≡ [] → left ≡ ring → KeepsInput ring [] read left Roomy
+  quietly read left Roomy none same =
+      exactly ring [] read left Roomy (ap₂ (λ (xs ys : List ℕ). xs ++ ys) none same ∙ sym (append-nil ring))
+
+  idle : Keeps [] (unmade w)
+  idle = quietly [] ring _ refl refl
+
+  answers_quietly : (slot : ℕ) (r : Record) (a : DeviceAnswer) → input_in a.answer.event ≡ []
+      → ring_in lane a.devices ≡ ring → Keeps [] (one_answered w slot r a)
+  answers_quietly slot r a none same =
+      quietly _ _ _ (one_silent input_told w.pace.window lane (answer_label slot a.answer) none) same
+
+  -- a read moves bytes in the lane that serves, and in no other
+  reads : (slot : ℕ) (r : Record) → served_by w dev.Receive ≡ Some slot
+      → Keeps [] (one_answered w slot r (receive_step (lane_in w) w.devices slot r))
+  reads slot r first =
+      exactly ring [] _ _ _ (by_lane (lane_by (only_for w.pace.window slot) == lane) refl ∙ sym (append-nil ring))
+    where
+      here : lane_by (only_for w.pace.window slot) ≡ lane_in w
+      here = served_here w.clock.time w.pace.window slot (slots_in Reads w.devices.waiting) first
+
+      line : SerialLine
+      line = line_at (lane_in w) w.devices.lines
+
+      moved : List ℕ
+      moved = (console.received line.ring r.own).moved
+
+      rest : SerialLine
+      rest = record line { ring = drop (length moved) line.ring }
+
+      lines : List SerialLine
+      lines = slice_set w.devices.lines (lane_in w) rest
+
+      left_here : (line_at (lane_in w) lines).ring ≡ drop (length moved) line.ring
+      left_here = put_there w.devices.lines (lane_in w) rest
+          (λ h. none_dropped (length moved) line.ring (none_there w.devices.lines (lane_in w) h))
+
+      label : Label
+      label = answer_label slot (receive_step (lane_in w) w.devices slot r).answer
+
+      by_lane : (b : Bool) → (lane_by (only_for w.pace.window slot) == lane) ≡ b
+          → inputs_told (cond b (label ∷ []) []) ++ (line_at lane lines).ring ≡ ring
+      by_lane true is =
+          let same : lane ≡ lane_in w = sym (eqb-true (lane_by (only_for w.pace.window slot)) lane is) ∙ here in
+          subst (λ (l : ℕ). (moved ++ []) ++ (line_at l lines).ring ≡ ring_in l w.devices) (sym same)
+          (ap₂ (λ (xs ys : List ℕ). xs ++ ys) (append-nil moved) left_here ∙ moved_first line.ring r.own)
+      by_lane false is =
+          ap (λ (x : SerialLine). x.ring) (get_or-set_other w.devices.lines (lane_in w) lane rest _
+          (λ same. false≢true (sym is ∙ eq-eqb (lane_by (only_for w.pace.window slot)) lane (here ∙ sym same))))
+
+  of_serving : (make : ℕ → Record → DeviceAnswer) (served : Option ℕ)
+      → ((slot : ℕ) (r : Record) → served ≡ Some slot → Keeps [] (one_answered w slot r (make slot r)))
+      → Keeps [] (done w (serving w.records make served))
+  of_serving make None each = idle
+  of_serving make (Some slot) each = by_record (slice_get w.records slot) refl
+    where
+      by_record : (o : Option Record) → slice_get w.records slot ≡ o
+          → Keeps [] (done w (option_map (λ (r : Record). answering slot (make slot r)) o))
+      by_record None e = idle
+      by_record (Some r) e = subst (Keeps []) (sym (done_one w slot (make slot r) r e)) (each slot r refl)
+
+  -- a step that tells nobody of input
+  tells_no_input : (deed : DeviceStep)
+      → ((at : ℕ) (a : Answer) → deed.told at ≡ Some a → input_in a.event ≡ [])
+      → inputs_told (of_lane w.pace.window lane (labels_told deed.told 0 w.records)) ≡ []
+  tells_no_input deed none =
+      tells_none input_told w.pace.window lane (labels_told deed.told 0 w.records)
+      (told_labels (λ label. input_told label ≡ []) deed.told 0 w.records (λ slot at r a here there is. none at a is))
+
+  -- an operator's act tells one process of it, or nobody of anything
+  of_act : (verb : Verb) (d : Devices) (o : Option ℕ) → d.lines ≡ w.devices.lines
+      → Keeps [] (done w (Some (acting_on verb w.records d o)))
+  of_act verb d None same =
+      quietly _ _ _ (tells_no_input (telling_nobody d) (λ at a is. absurd (cc)))
+      (ap (λ (lines : List SerialLine). (line_at lane lines).ring) same)
+  of_act verb d (Some slot) same = by_record (slice_get w.records slot) refl
+    where
+      by_record : (o : Option Record) → slice_get w.records slot ≡ o
+          → Keeps [] (done w (Some (unwrap_or
+          (option_map (λ (r : Record). answering slot (operating verb d slot r)) o) (telling_nobody d))))
+      by_record None e =
+          quietly _ _ _ (tells_no_input (telling_nobody d) (λ at a is. absurd (cc)))
+          (ap (λ (lines : List SerialLine). (line_at lane lines).ring) same)
+      by_record (Some r) e =
+          subst (Keeps []) (sym (done_one w slot (operating verb d slot r) r e))
+          (answers_quietly slot r (operating verb d slot r) refl
+          (ap (λ (lines : List SerialLine). (line_at lane lines).ring) (routed_lines slot (acts_of verb r) d ∙ same)))
+
+  of_edge : (button : ℕ) (pressed : Bool) (rest : List Arrival)
+      → Keeps [] (done w (Some (telling_edge button pressed w.records (with_rest w.devices rest))))
+  of_edge button pressed rest =
+      quietly _ _ _ (tells_no_input (telling_edge button pressed w.records (with_rest w.devices rest))
+      (λ at a is. ap (λ (x : Answer). input_in x.event) (edge_answer button pressed (slice_get w.records at) a is))) refl
+
+  of_arrived : (arrivals : List Arrival)
+      → Keeps (bytes_arriving (option_to_list (slice_get arrivals 0))) (done w (arrived w.records w.devices arrivals))
+  of_arrived [] = idle
+  of_arrived (arrival ∷ rest) = by_kind arrival.kind
+    where
+      by_kind : (kind : EventKind)
+          → Keeps (bytes_in kind ++ []) (done w (Some (coming_in kind w.records (with_rest w.devices rest))))
+      by_kind (script.Input bytes) =
+          let deed = coming_in (script.Input bytes) w.records (with_rest w.devices rest) in
+          let none = tells_no_input deed (λ at a is. absurd (cc)) in
+          subst (λ (bs : List ℕ). Keeps bs (done w (Some deed))) (sym (append-nil bytes))
+          (subst (λ (read : List ℕ). KeepsInput ring bytes read (ring_in lane deed.devices)
+          ((lane < length w.devices.lines) × (length ring + length bytes ≤ RING_SIZE))) (sym none)
+          (into_ring w.devices.lines lane bytes))
+      by_kind (script.Press button) = of_edge button true rest
+      by_kind (script.Release button) = of_edge button false rest
+      by_kind (script.Act verb name) =
+          of_act verb (with_rest w.devices rest) (slot_of_name name w.records) refl
+
+  of_device : (device : Dev)
+      → Keeps (bytes_arriving (option_to_list (first_for (Device device) w.devices.arrivals)))
+      (done w (device_step_of w device))
+  of_device dev.Event = of_arrived w.devices.arrivals
+  of_device dev.Alarm =
+      of_serving (λ slot r. alarmed w.settings w.clock.time w.devices) (served_by w dev.Alarm)
+      (λ slot r first. answers_quietly slot r (alarmed w.settings w.clock.time w.devices) refl refl)
+  of_device dev.Uart =
+      of_serving (transmitting (lane_in w) w.clock.time w.devices) (served_by w dev.Uart)
+      (λ slot r first. answers_quietly slot r (transmitting (lane_in w) w.clock.time w.devices slot r)
+      (sent_none (console.sent (flash_of r) r.own).completed)
+      (put_same w.devices.lines (lane_in w) lane _ refl))
+  of_device dev.Receive =
+      of_serving (receive_step (lane_in w) w.devices) (served_by w dev.Receive) reads
+  of_device dev.Random =
+      of_serving (random_step (lane_in w) w.devices) (served_by w dev.Random)
+      (λ slot r first. answers_quietly slot r (random_step (lane_in w) w.devices slot r) (drawn_none _) refl)
+  of_device dev.Store =
+      of_serving (storing (lane_in w) w.devices) (served_by w dev.Store)
+      (λ slot r first. answers_quietly slot r (storing (lane_in w) w.devices slot r) refl refl)
+
+  of_choice : (choice : Choice)
+      → Keeps (bytes_arriving (option_to_list (first_for choice w.devices.arrivals))) (carried_out w choice)
+  unfolding carried_out
+  of_choice (Run slot) = by_record (slice_get w.records slot)
+    where
+      by_record : (o : Option Record) → Keeps [] (ran w slot o)
+      by_record None = idle
+      by_record (Some r) =
+          let t = turned w.settings w.clock.time r in
+          quietly _ _ _ (one_silent input_told w.pace.window lane (turn_label slot w.clock.time t.told) refl)
+          (ap (λ (lines : List SerialLine). (line_at lane lines).ring) (routed_lines slot t.acts w.devices))
+  of_choice (Device device) = of_device device
+  of_choice (Pass ticks) = quietly [] ring _ refl refl
+
+  step_keeps : (choice : Choice) → KeepsInput ring (bytes_arriving (option_to_list (arrival_in w choice)))
+      (inputs_told (of_lane w.pace.window lane (labels w choice))) (ring_in lane (after w choice).devices)
+      ((lane < length w.devices.lines) × HasRoom lane w choice)
+  step_keeps choice = by_ready (is_ready w choice) refl
+    where
+      by_ready : (b : Bool) → is_ready w choice ≡ b →
+          let arrived = bytes_arriving (option_to_list (cond b (first_for choice w.devices.arrivals) None)) in
+          KeepsInput ring arrived
+          (inputs_told (of_lane w.pace.window lane (labels w choice))) (ring_in lane (after w choice).devices)
+          ((lane < length w.devices.lines) × (length ring + length arrived ≤ RING_SIZE))
+      by_ready true e =
+          subst (Keeps (bytes_arriving (option_to_list (first_for choice w.devices.arrivals))))
+          (sym (stepped_ready w choice e)) (of_choice choice)
+      by_ready false e = subst (Keeps []) (sym (stepped_else w choice e)) idle
+
+-- there are as many lines after a step
+module _ (w : World) where
+  abbrev IsAsMany : Stepped → Type 0
+  IsAsMany s = length s.after.devices.lines ≡ length w.devices.lines
+
+  as_many_done : (device : Dev) → IsAsMany (done w (device_step_of w device))
+  as_many_done device =
+      of_each_device w IsAsMany (record {
+        none = refl;
+        arrives = λ bytes rest. length-map w.devices.lines (with_input bytes);
+        edges = λ button pressed rest. refl;
+        nobody = λ rest. refl;
+        acts = λ verb rest slot r is.
+            ap (λ (lines : List SerialLine). length lines)
+            (routed_lines slot (acts_of verb r) (with_rest w.devices rest));
+        alarms = λ slot r first is. refl;
+        sends = λ slot r first is. length-set w.devices.lines (lane_in w) _;
+        receives = λ slot r first is. length-set w.devices.lines (lane_in w) _;
+        draws = λ slot r first is. refl;
+        stores = λ slot r first is. refl;
+      }) device
+
+  as_many_made : (choice : Choice) → IsAsMany (carried_out w choice)
+  unfolding carried_out
+  as_many_made (Run slot) = by_record (slice_get w.records slot)
+    where
+      by_record : (o : Option Record) → IsAsMany (ran w slot o)
+      by_record None = refl
+      by_record (Some r) =
+          ap (λ (lines : List SerialLine). length lines)
+          (routed_lines slot (turned w.settings w.clock.time r).acts w.devices)
+  as_many_made (Device device) = as_many_done device
+  as_many_made (Pass ticks) = refl
+
+  as_many : (choice : Choice) → IsAsMany (stepped w choice)
+  as_many choice = of_stepped IsAsMany w choice refl (λ ready. as_many_made choice)
+
+-- what comes in, and then later
+bytes_joined : (o : Option Arrival) (arrivals : List Arrival)
+    → bytes_arriving (cons_option o arrivals) ≡ bytes_arriving (option_to_list o) ++ bytes_arriving arrivals
+bytes_joined None arrivals = refl
+bytes_joined (Some arrival) arrivals =
+    ap (λ (xs : List ℕ). xs ++ bytes_arriving arrivals) (sym (append-nil (bytes_in arrival.kind)))
+
+-- two stretches of what was kept, one after another
+kept_on : (before arrived read left come told last : List ℕ) (P Q : Type 0)
+    → KeepsInput before arrived read left P → KeepsInput left come told last Q
+    → KeepsInput before (arrived ++ come) (read ++ told) last (P × Q)
+kept_on before arrived read left come told last P Q h g =
+    let joins : (read ++ told) ++ last ≡ read ++ (told ++ last) = append_assoc read told last in
+    let comes : (before ++ arrived) ++ come ≡ before ++ (arrived ++ come) = append_assoc before arrived come in
+    record {
+      kept = subst (λ (xs : List ℕ). IsSubsequence xs (before ++ (arrived ++ come))) (sym joins)
+          (subst (IsSubsequence (read ++ (told ++ last))) comes
+          (remain_of (read ++ (told ++ last)) ((read ++ left) ++ come) ((before ++ arrived) ++ come)
+          (subst (IsSubsequence (read ++ (told ++ last))) (sym (append_assoc read left come))
+          (after_more read (told ++ last) (left ++ come) g.kept))
+          (before_more (read ++ left) (before ++ arrived) come h.kept)));
+      whole = λ both.
+          joins ∙ ap (λ (xs : List ℕ). read ++ xs) (g.whole both.1) ∙ sym (append_assoc read left come)
+          ∙ ap (λ (xs : List ℕ). xs ++ come) (h.whole both.0) ∙ comes;
+    }
+
+pub input_is_kept : InputIsKept
+input_is_kept w [] lane =
+    record {
+      kept = subst (IsSubsequence (ring_in lane w.devices)) (sym (append-nil (ring_in lane w.devices)))
+          (all_remain (ring_in lane w.devices));
+      whole = λ roomy. sym (append-nil (ring_in lane w.devices));
+    }
+input_is_kept w (choice ∷ choices) lane =
+    let v = after w choice in
+    let both = kept_on _ _ _ _ _ _ _ _ _ (step_keeps w lane choice) (input_is_kept v choices lane) in
+    let comes = bytes_joined (arrival_in w choice) (arrivals_in v choices) in
+    let tells = lane_joined input_told w choice choices lane in
+    record {
+      kept = subst (λ (read : List ℕ). IsSubsequence (read ++ ring_in lane (after_all v choices).devices)
+          (ring_in lane w.devices ++ bytes_arriving (arrivals_in w (choice ∷ choices)))) (sym tells)
+          (subst (λ (bytes : List ℕ). IsSubsequence ((inputs_told (of_lane w.pace.window lane (labels w choice))
+          ++ inputs_told (of_lane v.pace.window lane (labels_of_all v choices)))
+          ++ ring_in lane (after_all v choices).devices) (ring_in lane w.devices ++ bytes)) (sym comes) both.kept);
+      whole = λ roomy.
+          let there : lane < length v.devices.lines = omega (arith, roomy.0, as_many w choice) in
+          ap (λ (read : List ℕ). read ++ ring_in lane (after_all v choices).devices) tells
+          ∙ both.whole ((roomy.0, roomy.1.0), (there, roomy.1.1))
+          ∙ ap (λ (bytes : List ℕ). ring_in lane w.devices ++ bytes) (sym comes);
+    }

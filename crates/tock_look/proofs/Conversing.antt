@@ -1,0 +1,212 @@
+-- Commands of lines that are answered one after another.
+use Rattle.std.proofs.Common.{◌≡◌, ℕ, List, [], ◌∷◌, ◌++◌, map, Option, None, Some, inl, inr}
+use Rattle.std.proofs.Common.{refl, sym, ap, subst, ◌∙◌, append_assoc, append-nil}
+use Rattle.tk_outside.specs.Sink.{SinkFacts}
+use Rattle.tk_outside.specs.Writes.{WroteAll, WrotePart}
+use Rattle.tk_outside.specs.Laws.{WritesCompose}
+use Rattle.kernel_model.specs.World.{World}
+use Rattle.tool_words.specs.declared.refusal.Refusal.TheVariants.{Memory}
+use Rattle.tool_tasks.specs.declared.prepare.RunFiles.{RunFiles}
+use Rattle.tool_tasks.specs.RunFiles.{opened_by}
+use Rattle.tool_answers.specs.declared.outcome.ServeOutcome.{ServeOutcome}
+use Rattle.tool_answers.specs.declared.outcome.ServeOutcome.TheVariants.{Done, Refused, SinkFailed}
+use Rattle.tool_answers.specs.Parts.{RefusalIs, sink_account}
+use Rattle.tock_look.specs.declared.asks.Ask.{Ask}
+use Rattle.tock_look.specs.Answers.{IsAfter, answer_text, answers_text, world_after}
+use Rattle.tock_look.specs.Asks.{line_ask}
+use Rattle.tock_look.specs.Lines.{Came, GivesLine, IsEnded}
+use Rattle.tock_look.specs.Looks.{AnswersAll, AnswersLines}
+use Rattle.tock_look.proofs.Answering.{after_is}
+
+-- the world after commands
+abbrev worlds_after : World → World → List Ask → World
+worlds_after opening w [] = w
+worlds_after opening w (ask ∷ asks) = worlds_after opening (world_after opening w ask) asks
+
+-- with one command more
+answers-more : (opening w : World) (asks : List Ask) (ask : Ask) → answers_text opening w (asks ++ ask ∷ [])
+    ≡ answers_text opening w asks ++ answer_text (worlds_after opening w asks) ask
+answers-more opening w [] ask = append-nil (answer_text w ask)
+answers-more opening w (a ∷ asks) ask =
+    ap (λ (t : List ℕ). answer_text w a ++ t) (answers-more opening (world_after opening w a) asks ask)
+    ∙ sym (append_assoc (answer_text w a) (answers_text opening (world_after opening w a) asks)
+    (answer_text (worlds_after opening (world_after opening w a) asks) ask))
+
+worlds-more : (opening w : World) (asks : List Ask) (ask : Ask) → worlds_after opening w (asks ++ ask ∷ [])
+    ≡ world_after opening (worlds_after opening w asks) ask
+worlds-more opening w [] ask = refl
+worlds-more opening w (a ∷ asks) ask = worlds-more opening (world_after opening w a) asks ask
+
+-- the commands of lines, with one line more
+commands : List (List ℕ) → List Ask
+commands lines = map line_ask lines
+
+commands-more : (lines : List (List ℕ)) (line : List ℕ)
+    → commands (lines ++ line ∷ []) ≡ commands lines ++ line_ask line ∷ []
+unfolding commands
+commands-more [] line = refl
+commands-more (l ∷ lines) line = ap (λ (asks : List Ask). line_ask l ∷ asks) (commands-more lines line)
+
+-- lines that came, and then more of them
+came-more : (a b c : Option (List (List ℕ))) (given more : List (List ℕ)) → Came a b given → Came b c more
+    → Came a c (given ++ more)
+came-more None b c given more h k = tt
+came-more (Some ls) None c given more h k = absurd h
+came-more (Some ls) (Some ms) None given more h k = absurd k
+came-more (Some ls) (Some ms) (Some ns) given more h k =
+    h ∙ ap (λ (xs : List (List ℕ)). given ++ xs) k ∙ sym (append_assoc given more ns)
+
+-- lines were given, and their commands answered
+pub record Converses {K : Type 0} (tells : K → SinkFacts) (old now : K) (opening here : World)
+    (before left : Option (List (List ℕ))) : Type 0 where
+  pub given : List (List ℕ)
+  pub came : Came before left given
+  pub wrote : WroteAll tells old now (answers_text opening opening (map line_ask given))
+  pub there : here ≡ worlds_after opening opening (map line_ask given)
+
+pub begins : {K : Type 0} {tells : K → SinkFacts} → WritesCompose tells → (a : K) (w : World)
+    (lines : Option (List (List ℕ))) → Converses tells a a w w lines lines
+begins law a w lines = record {
+  given = [];
+  came = none_came lines;
+  wrote = law.wrote_nothing a;
+  there = refl;
+}
+  where
+    none_came : (o : Option (List (List ℕ))) → Came o o []
+    none_came None = tt
+    none_came (Some ls) = refl
+
+module _ {K : Type 0} {tells : K → SinkFacts} {old now : K} {opening here : World}
+    {before left : Option (List (List ℕ))} (r : Converses tells old now opening here before left)
+    (law : WritesCompose tells) where
+  -- no line is left
+  pub ended : (rest : Option (List (List ℕ))) (o : Option (List ℕ)) → o ≡ None → GivesLine left rest o
+      → AnswersLines (record { before = before; after = rest }) (sink_account tells old now) opening Done
+  ended rest (Some line) e g = absurd (cc)
+  ended rest None e g = record {
+    given = r.given;
+    came = subst (λ (ls : List (List ℕ)). Came before rest ls) (append-nil r.given)
+        (came-more before left rest r.given [] r.came g.0);
+    all = λ done. g.1;
+    answers = r.wrote;
+  }
+
+  -- there were more lines than can be counted
+  pub too_many : (last : K) (outcome : ServeOutcome) → RefusalIs (sink_account tells now last) Memory outcome
+      → AnswersLines (record { before = before; after = left }) (sink_account tells old last) opening outcome
+  too_many last outcome f = record {
+    given = r.given;
+    came = r.came;
+    all = not_done outcome f;
+    answers = answers outcome f;
+  }
+    where
+      not_done : (outcome : ServeOutcome) → RefusalIs (sink_account tells now last) Memory outcome
+          → outcome ≡ Done → IsEnded left
+      not_done Done f e = absurd f
+      not_done (Refused refusal) f e = absurd (cc)
+      not_done SinkFailed f e = absurd (cc)
+
+      answers : (outcome : ServeOutcome) → RefusalIs (sink_account tells now last) Memory outcome
+          → AnswersAll (sink_account tells old last) (answers_text opening opening (map line_ask r.given)) outcome
+      answers Done f = absurd f
+      answers (Refused refusal) f = (
+        f.0,
+        (
+          answers_text opening opening (map line_ask r.given),
+          record { rest = []; whole = sym (append-nil (answers_text opening opening (map line_ask r.given))) },
+          law.all_then_all r.wrote f.1,
+        ),
+      )
+      answers SinkFailed f =
+          inr (
+            answers_text opening opening (map line_ask r.given),
+            record { rest = []; whole = sym (append-nil (answers_text opening opening (map line_ask r.given))) },
+            law.all_then_part r.wrote f,
+          )
+
+  module _ (rest : Option (List (List ℕ))) (line : List ℕ) (g : Came left rest (line ∷ [])) where
+    all_given : List (List ℕ)
+    all_given = r.given ++ line ∷ []
+
+    came : Came before rest (r.given ++ line ∷ [])
+    came = came-more before left rest r.given (line ∷ []) r.came g
+
+    text : answers_text opening opening (map line_ask (r.given ++ line ∷ []))
+        ≡ answers_text opening opening (map line_ask r.given) ++ answer_text here (line_ask line)
+    unfolding commands
+    text = ap (answers_text opening opening) (commands-more r.given line)
+        ∙ answers-more opening opening (commands r.given) (line_ask line)
+        ∙ ap (λ (w : World). answers_text opening opening (map line_ask r.given) ++ answer_text w (line_ask line))
+        (sym r.there)
+
+    -- one answer more
+    pub more : (files : RunFiles) (later : K) (new : World)
+        → opened_by files.flash.items files.script.items ≡ Some opening
+        → WroteAll tells now later (answer_text here (line_ask line)) → IsAfter files here (line_ask line) new
+        → Converses tells old later opening new before rest
+    unfolding commands
+    more files later new o w a = record {
+      given = r.given ++ line ∷ [];
+      came = came;
+      wrote = subst (λ (t : List ℕ). WroteAll tells old later t) (sym text) (law.all_then_all r.wrote w);
+      there = after_is files opening here (line_ask line) new o a
+          ∙ ap (λ (v : World). world_after opening v (line_ask line)) r.there
+          ∙ sym (worlds-more opening opening (commands r.given) (line_ask line))
+          ∙ ap (worlds_after opening opening) (sym (commands-more r.given line));
+    }
+
+    -- the sink failed in an answer
+    pub part : (later : K) → WrotePart tells now later (answer_text here (line_ask line))
+        → AnswersLines (record { before = before; after = rest }) (sink_account tells old later) opening SinkFailed
+    part later w = record {
+      given = r.given ++ line ∷ [];
+      came = came;
+      all = λ done. absurd (cc);
+      answers = inl (subst (λ (t : List ℕ). WrotePart tells old later t) (sym text)
+          (law.all_then_part r.wrote w));
+    }
+
+    -- there was no memory for an answer
+    pub refused : (later last : K) (outcome : ServeOutcome) → WroteAll tells now later []
+        → RefusalIs (sink_account tells later last) Memory outcome
+        → AnswersLines (record { before = before; after = rest }) (sink_account tells old last) opening outcome
+    refused later last outcome w f = record {
+      given = r.given ++ line ∷ [];
+      came = came;
+      all = not_done outcome f;
+      answers = answers outcome f;
+    }
+      where
+        front : List ℕ
+        front = answers_text opening opening (map line_ask r.given)
+
+        done_only : WroteAll tells old later (answers_text opening opening (map line_ask r.given))
+        done_only = subst (λ (t : List ℕ). WroteAll tells old later t)
+            (append-nil (answers_text opening opening (map line_ask r.given))) (law.all_then_all r.wrote w)
+
+        not_done : (outcome : ServeOutcome) → RefusalIs (sink_account tells later last) Memory outcome
+            → outcome ≡ Done → IsEnded rest
+        not_done Done f e = absurd f
+        not_done (Refused refusal) f e = absurd (cc)
+        not_done SinkFailed f e = absurd (cc)
+
+        answers : (outcome : ServeOutcome) → RefusalIs (sink_account tells later last) Memory outcome
+            → AnswersAll (sink_account tells old last)
+            (answers_text opening opening (map line_ask (r.given ++ line ∷ []))) outcome
+        answers Done f = absurd f
+        answers (Refused refusal) f = (
+          f.0,
+          (
+            answers_text opening opening (map line_ask r.given),
+            record { rest = answer_text here (line_ask line); whole = text },
+            law.all_then_all done_only f.1,
+          ),
+        )
+        answers SinkFailed f =
+            inr (
+              answers_text opening opening (map line_ask r.given),
+              record { rest = answer_text here (line_ask line); whole = text },
+              law.all_then_part done_only f,
+            )

@@ -1,0 +1,8 @@
+// The buttons.
+
+#ifndef BUTTON_H
+#define BUTTON_H
+
+#include <libtock/interface/button.h>
+
+#endif

@@ -1,0 +1,41 @@
+# Where a process begins. The kernel gives it in a0 where its code lies, in a1 where its RAM begins, in a2 how long its
+# block is, and in a3 its break, which is the end of the RAM that it may use.
+
+        .section .start, "ax"
+        .globl _start
+_start:
+#ifndef HAS_VARIABLES
+        andi    sp, a3, -16             # the stack grows down from the break; C wants it at a multiple of 16
+#else
+# The stack lies lowest, so that one that grows too large is denied, and the static variables behind it, up to the
+# break. The kernel relocates nothing: all code finds them from gp, which is set by where this process's RAM begins.
+        lui     t0, %hi(stack_size)
+        addi    t0, t0, %lo(stack_size)
+        add     t1, a1, t0              # where the variables begin
+        andi    sp, t1, -16
+        mv      gp, t1                  # __global_pointer$, by application.ld
+        lla     t0, _initial_values
+        lla     t2, _data_end
+        j       2f
+1:      lw      t3, 0(t0)               # initialised variables get their values,
+        sw      t3, 0(t1)
+        addi    t0, t0, 4
+        addi    t1, t1, 4
+2:      bltu    t1, t2, 1b
+        lla     t2, _bss_end
+        j       4f
+3:      sw      zero, 0(t1)             # and the others are cleared
+        addi    t1, t1, 4
+4:      bltu    t1, t2, 3b
+#endif
+#ifdef PICOLIBC
+        lla     tp, _thread_variables
+        call    main
+        call    exit                    # with what main returned
+#else
+        call    main
+        mv      a1, a0                  # exit-terminate, with what main returned
+        li      a0, 0
+        li      a4, 6
+        ecall
+#endif

@@ -1,0 +1,330 @@
+"""Checks of what builds applications and scripts: examples/Makefile with its C library and picolibc, examples/pack, and
+tools/script. `checks` gives each with its name, for tests/run."""
+
+import os
+import re
+import shutil
+import subprocess
+import tempfile
+
+from cases.programs import EXIT_7
+from common import EXAMPLES, REPOSITORY, SCRIPTS, contents, run, write
+from flash_images import FLASH, RAM, app, fixed_addresses_tlv, padding, permissions_tlv, writeable_flash_regions_tlv
+
+# What examples/pack refuses, with a part of what it says.
+BAD_PACKS = [
+    (["a b", "256", "program"], "a name has 1 to 32 visible letters of ASCII"),
+    (["n" * 33, "256", "program"], "a name has 1 to 32 visible letters of ASCII"),
+    (["name", "much", "program"], "RAM is no number: much"),
+    (["name", "258", "program"], "RAM is no multiple of 4: 258"),
+    (["name", "262148", "program"], "RAM is not from 0 to 262144: 262148"),
+    (["name", "256", "none"], "none: No such file or directory"),
+    (["name", "256", "empty"], "empty: a program has 1 to 1048576 bytes, and this one 0"),
+    (["name"], "examples/pack NAME RAM PROGRAM OBJECT"),
+]
+
+# The same of the words behind these.
+BAD_ELEMENTS = [
+    ("1", "a permission is DRIVER:COMMAND: 1"),
+    ("1:x", "a command is no number: x"),
+    ("region=64", "a region is OFFSET:SIZE: 64"),
+    ("region=0:4294967296", "a size is not from 0 to 4294967295: 4294967296"),
+    ("fixed=0", "fixed addresses are RAM:FLASH: 0"),
+    ("flash=0:0", "neither region= nor fixed=: flash=0:0"),
+]
+
+# An application of two files with static variables of both kinds, and calls of C's library.
+MAIN = r"""
+#include "console.h"
+#include <string.h>
+
+struct block { int words[40]; };
+static struct block first = {{1, 2, 3}}, second;
+static uint64_t wide = 1000000000000;
+static char bytes[SIZE];
+extern int times_seven(int);
+
+int main(void)
+{
+    second = first;
+    struct block third = second;
+    memset(bytes, 7, sizeof bytes);
+    memmove(bytes + 1, bytes, 100);
+    wide /= (uint32_t)times_seven(third.words[2]);
+    console_print(memcmp(&second, &first, sizeof second) ? "differ\n" : "same\n");
+    return (int)(wide % 1000) + bytes[sizeof bytes - 1];
+}
+"""
+SEVEN = "int times_seven(int number) { static int sum; sum += number; return sum * 7; }\n"
+
+# The same with what has an address in it: a table of texts, one of functions, a pointer with a first value.
+TABLES = """
+static const char *const names[] = {"a", "b"};
+static int plus(int number) { return number + 1; }
+static int minus(int number) { return number - 1; }
+static int (*const changes[])(int) = {plus, minus};
+static int sum;
+int *counted = &sum;
+int times_seven(int number)
+{
+    *counted += number;
+    return changes[number & 1](sum * 7) + names[number & 1][0] - 'a';
+}
+"""
+
+
+def make(folder, *words):
+    """Builds the application of a folder."""
+    return run(["make", "-C", EXAMPLES, "APP=" + os.path.join(folder, "own"), *words])
+
+
+def ran(program, *images, script=os.path.join(SCRIPTS, "empty.script")):
+    """What a run of these images, put together, writes."""
+    with tempfile.TemporaryDirectory() as folder:
+        flash = os.path.join(folder, "flash")
+        with open(flash, "wb") as file:
+            file.write(b"".join(contents(image) for image in images))
+        return run([program, "boot", flash, script, "--turns", "1000000"]).stdout
+
+
+def packed_for(flash, entries):
+    """The object with two regions whose program begins at a multiple of 16 where the object begins at that place of
+    flash, and how many bytes stand before it."""
+    def told(*fixed):
+        return [writeable_flash_regions_tlv((64, 16), (96, 8)), fixed_addresses_tlv(RAM, *fixed), entries]
+
+    before = len(app(name="name", elements=told()))
+    if flash == "-":
+        return app(b"a program!", name="name", elements=told()), before
+    start = (int(flash, 16) + before + 15) // 16 * 16
+    fill = start - int(flash, 16) - before
+    return app(bytes(fill), b"a program!", name="name", elements=told(start), entry=fill, protected=fill), before + fill
+
+
+def pack():
+    """examples/pack makes the object of its words, and refuses words that are wrong."""
+    with tempfile.TemporaryDirectory() as folder:
+        write(folder, "program", "a program!")
+        write(folder, "empty", "")
+        tool, made = os.path.join(EXAMPLES, "pack"), os.path.join(folder, "object")
+        entries = permissions_tlv((1, 0, 10), (1, 1, 1), (2, 0, 1))
+        run([tool, "name", "256", "program", "object", "0x1:1", "2:0", "0x1:3", "1:64"], cwd=folder)
+        if contents(made) != app(b"a program!", name="name", elements=[entries]):
+            return "made %r" % contents(made)
+        for flash in ("-", "0x20000000", "0x20000344"):
+            words = ["2:0", "region=0x40:16", "0x1:1", "fixed=0x80000000:" + flash, "0x1:3", "region=0x60:8", "1:64"]
+            run([tool, "name", "256", "program", "object", *words], cwd=folder)
+            expected, before = packed_for(flash, entries)
+            header = run([tool, "--header", "name", *words], cwd=folder).stdout
+            if contents(made) != expected or header != "%d\n" % before:
+                return "made %r with a header of %s" % (contents(made), header)
+        bad = BAD_PACKS + [(["name", "256", "program", "other", word], said) for word, said in BAD_ELEMENTS]
+        for words, said in bad:
+            end = run([tool] + words + ["other"] * (len(words) == 3), cwd=folder)
+            if end.returncode != 1 or said not in end.stderr or os.path.exists(os.path.join(folder, "other")):
+                return "%s: %d, %r" % (words, end.returncode, end.stderr)
+    return None
+
+
+def missing_tools():
+    """Where there is no compiler, or no picolibc, the Makefile says how to come by one."""
+    with tempfile.TemporaryDirectory() as folder:
+        write(folder, "own/main.c", SEVEN)
+        end = make(folder, "TOOLCHAIN=none-")
+        if end.returncode == 0 or "there is no none-gcc: on Debian, apt-get install" not in end.stderr:
+            return end.stderr
+        write(folder, "fake-gcc", "#!/bin/sh\necho picolibc.specs\n", 0o755)
+        end = make(folder, "TOOLCHAIN=" + os.path.join(folder, "fake-"), "FIXED=1")
+    said = "there is no picolibc: on Debian, apt-get install picolibc-riscv64-unknown-elf"
+    return None if end.returncode and said in end.stderr else end.stderr
+
+
+def own_application(program):
+    """Any application is built: with static variables, C's library, several files; a stack that is too small is found
+    out; and what depends on where it lies is refused, by its name."""
+    with tempfile.TemporaryDirectory() as folder:
+        write(folder, "own/main.c", MAIN.replace("SIZE", "1500"))
+        write(folder, "own/seven.c", SEVEN)
+        image = os.path.join(folder, "own", "own.bin")
+        for words, said in (([], "same\n==\nslot 0 own terminated 626 "),
+                            (["STACK=16"], "==\nslot 0 own faulted store 7ffff")):
+            end = make(folder, *words)
+            if end.returncode or not ran(program, image).startswith(said):
+                return "%s: %r, %r" % (words, end.stderr, ran(program, image))
+        write(folder, "own/seven.c", TABLES)
+        end = make(folder)
+        told = re.findall(r"^own: (\S+) holds the address of (a text|\S+),", end.stderr, re.M)
+        expected = [("changes", "minus"), ("changes", "plus"), ("counted", "sum"), ("names", "a text")]
+        if end.returncode == 0 or "FIXED=1" not in end.stderr or not set(told) <= set(expected) or len(told) != 3:
+            return "what holds an address: %r" % end.stderr
+        write(folder, "own/main.c", MAIN.replace("SIZE", "1900"))
+        end = make(folder)
+        if end.returncode == 0 or "static variables may have 2,000 bytes in all: FIXED=1 has no" not in end.stderr:
+            return "too many static variables: %r" % end.stderr
+    return None
+
+
+def placed_program():
+    """A program that is linked for one place by itself, for a debugger, has the same bytes; and the debugger is started
+    on an application by its name."""
+    with tempfile.TemporaryDirectory() as folder:
+        write(folder, "own/main.c", MAIN.replace("SIZE", "1500"))
+        write(folder, "own/seven.c", SEVEN)
+        end = make(folder)
+        end = end if end.returncode else make(folder, "own.placed.elf", "FLASH_AT=0x20000028", "RAM_AT=0x80000400")
+        if end.returncode:
+            return end.stderr
+        out = os.path.join(folder, "own", "out")
+        run(["riscv64-unknown-elf-objcopy", "-O", "binary", os.path.join(out, "own.placed.elf"),
+             os.path.join(out, "placed")])
+        symbols = run(["riscv64-unknown-elf-nm", os.path.join(out, "own.placed.elf")]).stdout
+        if contents(os.path.join(out, "placed")) != contents(os.path.join(out, "own.program")):
+            return "other bytes"
+        end = make(folder, "-n", "own.debug", "SCRIPT=" + os.path.join(SCRIPTS, "hi.script"))
+    debug = "../tools/debug %s/own/own.bin %s/hi.script --slot 0 %s/own.elf" % (folder, SCRIPTS, out)
+    if debug not in end.stdout:
+        return "not started: %s%s" % (end.stdout, end.stderr)
+    return None if "20000028 T _start" in symbols else symbols
+
+
+def fixed_application(program):
+    """With FIXED=1 tables of addresses, any size of static variables, permissions and regions work, at the first place
+    and behind another object; at another place the object is refused."""
+    with tempfile.TemporaryDirectory() as folder:
+        write(folder, "own/main.c", MAIN.replace("SIZE", "20000"))
+        write(folder, "own/seven.c", TABLES)
+        write(folder, "own/permissions", "0x1:1\n")
+        write(folder, "own/regions", "0:64 64:32\n")
+        before = EXIT_7 + padding(20)
+        with open(os.path.join(folder, "other"), "wb") as file:
+            file.write(before)
+        image, other = os.path.join(folder, "own", "own.bin"), os.path.join(folder, "other")
+        for words, images, slot in (([], [image], 0), (["STACK=4096"], [image], 0),
+                                    (["FLASH=0x%x" % (FLASH + len(before)), "RAM=0x%x" % (RAM + 0x2000)],
+                                     [other, image], 1)):
+            end = make(folder, "FIXED=1", *words)
+            if end.returncode:
+                return "%s: %s" % (words, end.stderr)
+            text = ran(program, *images)
+            if "same\n" not in text or "\nslot %d own terminated " % slot not in text:
+                return "%s: %r" % (words, text)
+        text = ran(program, image)
+    return None if "slot" not in text and "own" not in text else "at another place: %r" % text
+
+
+def by_this_machine(source):
+    """What a C file of tests/ writes by the C library of this machine."""
+    with tempfile.TemporaryDirectory() as folder:
+        program = os.path.join(folder, "program")
+        subprocess.run(["cc", "-w", "-std=gnu11", "-o", program, os.path.join(REPOSITORY, "tests", source), "-lm"],
+                       check=True)
+        return run([program]).stdout
+
+
+def by_the_board(program, source, *words):
+    """What it writes as an application that is built so, and the report."""
+    with tempfile.TemporaryDirectory() as folder:
+        os.mkdir(os.path.join(folder, "own"))
+        shutil.copy(os.path.join(REPOSITORY, "tests", source), os.path.join(folder, "own", "main.c"))
+        end = make(folder, *words)
+        return end.stderr if end.returncode else ran(program, os.path.join(folder, "own", "own.bin"))
+
+
+def library(program, has_picolibc):
+    """What calls of string.h, stdlib.h and printf write is the same by the C library of this machine, by the one of
+    examples/ and by picolibc."""
+    expected = by_this_machine("library.c") + "==\nslot 0 own terminated 0 "
+    texts = [by_the_board(program, "library.c", *words) for words in [[], ["FIXED=1"]][:1 + has_picolibc]]
+    wrong = [text for text in texts if not text.startswith(expected)]
+    return repr(wrong[0]) if wrong else None
+
+
+def picolibc(program):
+    """So is what floating point numbers, memory and texts come to by picolibc; an assertion that fails ends the process
+    with the code 134."""
+    text, expected = by_the_board(program, "picolibc.c", "FIXED=1"), by_this_machine("picolibc.c")
+    is_told = re.search(r'^assertion "argc == -1" failed: .*\n==\nslot 0 own terminated 134 ', text, re.M)
+    return None if text.startswith(expected) and expected and is_told else repr(text)
+
+
+def alarms(program):
+    """Alarms that are set, cancelled and waited for inside the functions of others come as tests/alarms.c says."""
+    text = by_the_board(program, "alarms.c")
+    return None if text.startswith("1a2bc3d40e-1g\n==\nslot 0 own terminated 0 ") else repr(text)
+
+
+# Lines that tools/script reads, and the script that it writes.
+TYPED = r"""# what a person does
+buttons 2
+2s type hello world
+100 type apple
++50 send a\x00b\n
+300ms tap 1
++1 tap 0 5
+1000 terminate echo
+900 type 01234567890123456789012345678901234567890123456789012345678901234567890123456789 é
++0 press 0
+"""
+SCRIPT = """# what a person does
+buttons 2
+at 100 input 6170706c650a
+at 150 input 6100620a
+at 300 press 1
+at 301 press 0
+at 306 release 0
+at 400 release 1
+at 900 input %s
+at 900 input %s
+at 900 press 0
+at 1000 do terminate echo
+at 2000 input 68656c6c6f20776f726c640a
+""" % ((b"0123456789" * 6 + b"0123").hex(), ("4567890123456789 é\n".encode()).hex())
+
+# Lines that it refuses, and a part of what it says.
+BAD_LINES = [
+    ("5 tipe x", "line 1: this is neither type, send, press, release, tap nor an operator's act: tipe"),
+    ("\nAt 5", "line 2: this is neither a time with what is done then, nor a setting: At 5"),
+    ("5 send \\q", "line 1: this is no escape: \\q"),
+    ("5 send", "line 1: there is no text"),
+    ("5 press a", "line 1: press wants the number of a button"),
+    ("5 tap", "line 1: tap wants the number of a button, and may have ticks"),
+    ("5 stop a b", "line 1: stop wants the name of a process"),
+    ("4294968s type x", "line 1: a time is at most 4294967295 ticks"),
+]
+
+
+def scripts():
+    """tools/script makes a script of what a person does, and says what is wrong; those of examples/ are made by it."""
+    tool = os.path.join(REPOSITORY, "tools", "script")
+    end = run([tool], input=TYPED)
+    if (end.returncode, end.stdout, end.stderr) != (0, SCRIPT, ""):
+        return "made %r, %r" % (end.stdout, end.stderr)
+    for line, said in BAD_LINES:
+        end = run([tool], input=line + "\n")
+        if (end.returncode, end.stdout) != (1, "") or said not in end.stderr:
+            return "%s: %d, %r" % (line, end.returncode, end.stderr)
+    for name in os.listdir(SCRIPTS):
+        if name.endswith(".typed"):
+            made = run([tool, os.path.join(SCRIPTS, name)]).stdout
+            if made != contents(os.path.join(SCRIPTS, name.replace(".typed", ".script"))).decode():
+                return "%s makes %r" % (name, made)
+    end = run([tool, "none"])
+    return None if end.returncode == 1 and "none: No such file or directory" in end.stderr else end.stderr
+
+
+def checks(program, has_compiler, has_picolibc):
+    """Each check with its name."""
+    found = [("pack", pack), ("missing-tools", missing_tools), ("scripts", scripts)]
+    if has_compiler:
+        found += [("own-application", lambda: own_application(program)), ("placed-program", placed_program),
+                  ("alarms-in-alarms", lambda: alarms(program))]
+    if has_picolibc:
+        found.append(("fixed-application", lambda: fixed_application(program)))
+    else:
+        print("fixed-application: not tried without picolibc")
+    if has_compiler and shutil.which("cc"):
+        found.append(("library", lambda: library(program, has_picolibc)))
+        found += [("picolibc", lambda: picolibc(program))] * has_picolibc
+    else:
+        print("library, picolibc: not tried without both compilers, cc and the one for RISC-V")
+    return found

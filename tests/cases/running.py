@@ -1,0 +1,171 @@
+"""How an application exits, what it is denied, what its instructions do, and memop."""
+
+from flash_images import *
+from .case import boot
+from .programs import EXIT_7, RUN_OF_EXIT_7
+
+RUNS = [
+    boot("exit-with-7", "an application exits, and the report tells its code", EXIT_7, RUN_OF_EXIT_7),
+    boot("empty-flash", "a flash image without objects makes no step", b"", """
+        ==
+        leds 0000
+        end done steps 0 time 0
+    """),
+    boot("no-turns", "a run may have no turns", EXIT_7, turns=0, text="""
+        ==
+        slot 0 - running turns 0 restarts 0
+        leds 0000
+        end turns steps 0 time 0
+    """),
+    boot("just-enough-turns", "the run is done where the last turn ends the last process", EXIT_7, turns=4,
+         text=RUN_OF_EXIT_7),
+    boot("exit-1-restarts-forever", "exit 1 starts the process again, three turns a life",
+         app(exits(1)), """
+        ==
+        slot 0 - running turns 1000 restarts 333
+        leds 0000
+        end turns steps 1000 time 1000
+    """),
+]
+
+DENIALS = [
+    boot("store-to-flash", "flash is not to be written", app(sb(ZERO, A0)), """
+        ==
+        slot 0 - faulted store 20000020 no-write turns 1 restarts 0
+        leds 0000
+        end done steps 1 time 1
+    """),
+    boot("misaligned-store", "a word lies at a multiple of 4", app(sw(ZERO, A1, 1)), """
+        ==
+        slot 0 - faulted store 80000001 misaligned turns 1 restarts 0
+        leds 0000
+        end done steps 1 time 1
+    """),
+    boot("load-of-the-header", "its header is not the process's to read", app(lw(T0, A0, -32)), """
+        ==
+        slot 0 - faulted load 20000000 no-region turns 1 restarts 0
+        leds 0000
+        end done steps 1 time 1
+    """),
+    boot("jump-to-ram", "RAM is not to be executed", app(jalr(ZERO, A1)), """
+        ==
+        slot 0 - faulted fetch 80000000 no-execute turns 2 restarts 0
+        leds 0000
+        end done steps 2 time 2
+    """),
+    boot("store-past-the-break", "the last word below the break may be stored, and the next may not",
+         app(sw(ZERO, A1, 252), sw(ZERO, A1, 256)), """
+        ==
+        slot 0 - faulted store 80000100 no-region turns 2 restarts 0
+        leds 0000
+        end done steps 2 time 2
+    """),
+    boot("second-parcel-past-flash", "each parcel of an instruction is permitted on its own",
+         app(jalr(ZERO, A0, 30), bytes(26), nop[:2]), """
+        ==
+        slot 0 - faulted fetch 20000040 no-region turns 2 restarts 0
+        leds 0000
+        end done steps 2 time 2
+    """),
+]
+
+INSTRUCTIONS = [
+    boot("division-by-zero", "the quotient by zero has all bits set",
+         app(li(A1, 7), div(A1, A1, ZERO), exits()), """
+        ==
+        slot 0 - terminated 4294967295 turns 5 restarts 0
+        leds 0000
+        end done steps 5 time 5
+    """),
+    boot("division-that-overflows", "the least number divided by -1 is itself",
+         app(li(A1, 0x80000000), li(A2, -1), div(A1, A1, A2), exits()), """
+        ==
+        slot 0 - terminated 2147483648 turns 6 restarts 0
+        leds 0000
+        end done steps 6 time 6
+    """),
+    boot("remainder-that-overflows", "the remainder of the least number by -1 is 0",
+         app(li(A1, 0x80000000), li(A2, -1), rem(A1, A1, A2), exits()), """
+        ==
+        slot 0 - terminated 0 turns 6 restarts 0
+        leds 0000
+        end done steps 6 time 6
+    """),
+    boot("compressed-li", "a parcel sets the register that a word had set",
+         app(li(A4, 6), li(A0, 1), li(A1, 9), c_li(A0, 0), ecall), """
+        ==
+        slot 0 - terminated 9 turns 5 restarts 0
+        leds 0000
+        end done steps 5 time 5
+    """),
+    boot("compressed-exit", "an application of parcels alone, but for the call",
+         app(c_li(A4, 6), c_li(A0, 0), c_li(A1, 7), ecall, size=64), RUN_OF_EXIT_7),
+    boot("compressed-ebreak", "a breakpoint stops the process", app(c_ebreak), """
+        ==
+        slot 0 - faulted fetch 20000020 breakpoint turns 1 restarts 0
+        leds 0000
+        end done steps 1 time 1
+    """),
+    boot("parcel-of-zeros", "the parcel of zeros is illegal", app(parcel(0)), """
+        ==
+        slot 0 - faulted fetch 20000020 illegal turns 1 restarts 0
+        leds 0000
+        end done steps 1 time 1
+    """),
+    boot("compressed-shift-by-32", "no shift is by 32", app(c_slli(ZERO, 32)), """
+        ==
+        slot 0 - faulted fetch 20000020 illegal turns 1 restarts 0
+        leds 0000
+        end done steps 1 time 1
+    """),
+    boot("stack-adjusted-by-0", "the stack pointer is not adjusted by 0", app(c_addi16sp(0)), """
+        ==
+        slot 0 - faulted fetch 20000020 illegal turns 1 restarts 0
+        leds 0000
+        end done steps 1 time 1
+    """),
+    boot("fence-i", "fence.i is no instruction of this machine", app(fence_i), """
+        ==
+        slot 0 - faulted fetch 20000020 illegal turns 1 restarts 0
+        leds 0000
+        end done steps 1 time 1
+    """),
+    boot("illegal-word", "the word after the first instruction is none", app(lui(A1, 0x80000), size=64), """
+        ==
+        slot 0 - faulted fetch 20000024 illegal turns 2 restarts 0
+        leds 0000
+        end done steps 2 time 2
+    """),
+]
+
+# Memop 0 sets the break, 3 asks for the block's end, and 9 for the end of a region in flash.
+CALLS = [
+    boot("region-that-is-not-there", "memop 9 is refused where the header names no region",
+         app(memop(9, 0), exits()), """
+        ==
+        slot 0 - terminated 1 turns 7 restarts 0
+        leds 0000
+        end done steps 7 time 7
+    """),
+    boot("fixed-ram-start", "the block begins at the start that the header fixes; memop 3 tells its end",
+         app(memop(3), exits(), elements=[fixed_addresses_tlv(RAM + 0x400, FLASH + 44)]), """
+        ==
+        slot 0 - terminated 2147485696 turns 6 restarts 0
+        leds 0000
+        end done steps 6 time 6
+    """),
+    boot("break-below-ram", "a break outside the block is refused; the process exits with the error's code",
+         app(memop(0, -1), exits()) + EXIT_7, """
+        ==
+        slot 0 - terminated 9 turns 7 restarts 0
+        slot 1 - terminated 7 turns 4 restarts 0
+        leds 0000
+        end done steps 11 time 11
+    """),
+    boot("class-8-is-unknown", "the classes end at 7", app(li(A4, 8), ecall), """
+        ==
+        slot 0 - faulted fetch 20000024 unknown-class turns 2 restarts 0
+        leds 0000
+        end done steps 2 time 2
+    """),
+]

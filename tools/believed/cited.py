@@ -1,0 +1,112 @@
+"""Finds in a document what it cites: names in backquotes before ` in ` or ` (` and a place in backquotes, which is a
+crate or a file of one. In a section whose first paragraph has places, the names with which a line of its lists begins
+are cited from these."""
+
+import glob
+import os
+import re
+from dataclasses import dataclass
+
+NAMES = r"((?:`[A-Za-z_][\w:]*`(?:, clause |, field |, | and | of )?)+)"
+CITED = re.compile(NAMES + r"(?: in | \()`(?:crates/)?([a-z]\w*(?:/(?:src|specs)/[\w/]+\.\w+)?)`")
+DECLARES = r"\b(?:fn|ensures\*?|struct|enum|trait|type|const|mod|record|data|pub)\s+%s\b"
+LAW = r"^ *pub fn %s\(\)\s+ensures\b"
+
+
+@dataclass
+class Citation:
+    """Names that a line of a document cites, the places where they are to be found, and the heading above the line."""
+    line: int
+    heading: str
+    names: list
+    places: list
+
+
+def reader(top):
+    """What reads the sources of a crate, or one file of it, of a repository; nothing where there is none."""
+    def text_of(place):
+        path = os.path.join(top, "crates", place)
+        inside = [os.path.join(path, "src", "**", "*.rt"), os.path.join(path, "specs", "**", "*.antt")]
+        below = [file for each in inside for file in glob.glob(each, recursive=True)]
+        found = [path] if os.path.isfile(path) else below
+        return "\n".join(open(file, encoding="utf-8").read() for file in sorted(found))
+    return text_of
+
+
+def declares(text, name):
+    """Whether a source has a function, type, definition, field or clause of a name, `a::b` being that of b."""
+    return re.search(DECLARES % name.split("::")[-1], re.sub(r"(?m)^\s*(//|--).*$", "", text)) is not None
+
+
+def is_law(text, name):
+    """Whether a source has a law of a name: a public function that is given nothing and has a contract."""
+    return re.search(LAW % re.escape(name), text, re.M) is not None
+
+
+def is_function(text, name):
+    """Whether a source has a public function of a name, `A::b` being `b`."""
+    return re.search(r"^ *pub fn %s\b" % re.escape(name.split("::")[-1]), text, re.M) is not None
+
+
+def citations(page, read):
+    """The citations of a document, in their order."""
+    places, heading = [], ""
+    for number, line in enumerate(page.split("\n"), 1):
+        if line.startswith("#"):
+            places, heading = None, line.lstrip("# ")
+        elif line and places is None:
+            places = [place.removeprefix("crates/") for place in re.findall(r"`(crates/[\w/.]+|[a-z]\w*)`", line)
+                      if place.startswith("crates/") or read(place)]
+        for names, place in CITED.findall(line):
+            yield Citation(number, heading, re.findall(r"`([\w:]+)`", names), [place])
+        listed = re.match("- " + NAMES, line)
+        if listed and places and not CITED.match(line, 2):
+            yield Citation(number, heading, re.findall(r"`([\w:]+)`", listed[1]), places)
+
+
+def rows_cited(page):
+    """The definitions that the tables of a document list: names in the first cell of a row, files of specs/ in the last
+    one, of which one without a crate stands beside the one before it."""
+    heading = ""
+    for number, line in enumerate(page.split("\n"), 1):
+        heading = line.lstrip("# ") if line.startswith("#") else heading
+        cells = line.strip("|").split(" | ")
+        names, places = re.findall(r"`(\w+)`", cells[0]), []
+        for crate, file in re.findall(r"`(?:(\w+)/specs/)?(\w+\.antt)`", cells[-1]):
+            places.append("%s/specs/%s" % (crate or places[-1].split("/")[0], file))
+        if line.startswith("| `") and names and places:
+            yield Citation(number, heading, names, places)
+
+
+def words_of(folders):
+    """The words of the sources below some folders, without their comments, and the names of their files."""
+    words = set()
+    for folder in folders:
+        for path, below, names in os.walk(folder):
+            below[:] = [name for name in below if name != "out"]
+            for name in names:
+                words |= set(re.findall(r"\w+", os.path.relpath(os.path.join(path, name), folder)))
+                if name.endswith((".rt", ".antt", ".py")) or "." not in name:
+                    comment = r"(?m)(^|\s)(//|--).*$" if name.endswith((".rt", ".antt")) else r"(?m)(^|\s)#.*$"
+                    with open(os.path.join(path, name), encoding="utf-8", errors="ignore") as file:
+                        words |= set(re.findall(r"\w+", re.sub(comment, "", file.read())))
+    return words
+
+
+def unknown_names(page, words):
+    """The lines of a document with names in backquotes that no source has, `a::b` and `a.b` being two, with these."""
+    for number, line in enumerate(page.split("\n"), 1):
+        for cited in re.findall(r"`([A-Za-z_]\w*(?:(?:::|\.)\w+)*)(?:\([^`]*\))?`", "" if line[:4].isspace() else line):
+            if not set(re.split(r"::|\.", cited)) <= words:
+                yield number, cited
+
+
+def cited_functions(page, read, chosen):
+    """The functions that a document cites and that are as it is asked, each once: heading, place and name."""
+    found = {}
+    for citation in citations(page, read):
+        for name in citation.names:
+            for place in citation.places:
+                if chosen(read(place), name):
+                    found.setdefault((place, name), citation.heading)
+    return [(heading, place, name) for (place, name), heading in found.items()]

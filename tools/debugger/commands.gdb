@@ -1,0 +1,38 @@
+# What a session of tools/debug has beside GDB's own commands.
+define seek
+  monitor seek $arg0
+  continue
+end
+document seek
+seek STEP: goes to after so many steps of the board, back or on.
+end
+define seek-turn
+  monitor turn $arg0
+  continue
+end
+document seek-turn
+seek-turn K: goes to after a turn of this slot, back or on.
+end
+define seek-time
+  monitor time $arg0
+  continue
+end
+document seek-time
+seek-time T: goes to a time of the board, back or on.
+end
+define slots
+  monitor slots
+end
+document slots
+The report: each slot with its process.
+end
+define events
+  if $argc == 0
+    monitor events
+  else
+    monitor events $arg0
+  end
+end
+document events
+events [STEPS]: what happened in the last steps: system calls, upcalls, denials, what came in, acts and restarts.
+end

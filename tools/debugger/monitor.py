@@ -1,0 +1,131 @@
+"""Monitor commands: what the kernel keeps, what happened, and going to a step or a time."""
+
+from debugger.board import RAM
+from debugger.trace import call_text, driver_name, happened, line_time, script_events
+
+# How many pairs of upcalls, read-only buffers, read-write buffers and readable buffers each driver has
+# (docs/drivers.md).
+PAIRS = {0: (1, 0, 0, 1), 1: (3, 2, 2, 0), 2: (0, 0, 0, 0), 3: (1, 0, 0, 0), 0x40001: (1, 0, 1, 0),
+         0x50001: (2, 1, 1, 0)}
+KINDS = ("upcall", "read-only", "read-write", "readable")
+STEPS_OF_EVENTS = 400
+HELP = """slots              the report: each slot with its process
+state              what the kernel keeps of each process: where it lies, what is pending, its grants
+trace [N]          the last N system calls, denials, prints and acts (20)
+events [N]         the last N steps (400): calls, upcalls, denials, what came in, acts and restarts
+seek STEP, turn K, time T
+                   where `continue` goes at once: after a step, after a turn of this slot, to a time
+where              where it looks
+"""
+
+
+def grant_lines(slot, data, at):
+    """The grants in the kernel's bytes of a block, which begin at an address."""
+    lines = []
+    while len(data) >= 8:
+        words = [int.from_bytes(data[n:n + 4], "little") for n in range(0, len(data), 4)]
+        driver, cost = words[:2]
+        if not 8 <= cost <= len(data):
+            break
+        lines.append("grant %d %s at %08x, %d bytes" % (slot, driver_name(driver), at, cost))
+        place = 2
+        for kind, count in zip(KINDS, PAIRS.get(driver, (0, 0, 0, 0))):
+            for n in range(count):
+                lines.append("  %s %d: %08x %08x" % (kind, n, words[place], words[place + 1]))
+                place += 2
+        lines.append("  keeps " + " ".join("%08x" % word for word in words[place:cost // 4]))
+        data, at = data[cost:], at + cost
+    return lines
+
+
+class Monitor:
+    """The commands of a session."""
+
+    def __init__(self, server, script):
+        self.server, self.script = server, script
+
+    def do(self, words):
+        commands = {"slots": self.slots, "state": self.state, "trace": self.trace, "events": self.events,
+                    "seek": self.seek, "turn": self.turn, "time": self.time, "where": self.where}
+        command = commands.get(words[0]) if words else None
+        if command is None or not all(word.isdigit() for word in words[1:]):
+            self.server.packets.say(HELP)
+            return
+        try:
+            text = command(*map(int, words[1:]))
+        except TypeError:
+            text = HELP
+        self.server.packets.say(text)
+
+    def slots(self):
+        return "\n".join(self.server.past.state().report) + "\n"
+
+    def state(self):
+        past = self.server.past
+        state = past.state()
+        lines = []
+        for slot in sorted(state.slots):
+            lines += self.state_lines(slot, state.slots[slot])
+        return "\n".join(lines) + "\n"
+
+    def state_lines(self, slot, state):
+        lines = [state.report]
+        numbers = state.numbers
+        lines.append("  flash %08x to %08x, memory %08x to %08x, break %08x, grants from %08x" % (
+            *numbers["flash"], *numbers["block"], *numbers["break"], *numbers["kernel-break"]))
+        for upcall in state.pending:
+            lines.append("  pending: %s upcall %d, function %08x, data %08x, a0 to a2 %08x %08x %08x" % (
+                driver_name(upcall[0]), *upcall[1:]))
+        at, end = numbers["kernel-break"][0], numbers["block"][1]
+        data = self.server.past.memory(at, end - at) if RAM <= at < end else b""
+        return lines + ["  " + line for line in grant_lines(slot, data, at)]
+
+    def here(self):
+        return self.server.past.place(self.server.slot)
+
+    def text_of(self, line):
+        """A line of the trace, in words where it is a call."""
+        words = line.split()
+        if words[2] == "call":
+            return call_text(line)
+        if words[2] == "out":
+            return "%s slot %s: prints %r" % (words[0], words[1], bytes.fromhex(words[3]).decode("latin-1"))
+        return "%s slot %s: %s" % (words[0], words[1], " ".join(words[2:]))
+
+    def trace(self, count=20):
+        self.server.teller.go_to(self.server.past.steps)
+        lines = self.server.teller.before(self.server.past.steps, self.here().time)
+        return "".join(self.text_of(line) + "\n" for line in lines[-count:])
+
+    def events(self, count=STEPS_OF_EVENTS):
+        past = self.server.past
+        past.sync()
+        first = max(0, past.steps - count)
+        self.server.teller.go_to(past.steps)
+        now = self.here().time
+        found = [(time, "@%d %s" % (time, line)) for time, line in happened(past.board, first, past.steps)]
+        start = min((time for time, _ in found), default=now)
+        found += [(line_time(line), self.text_of(line)) for line in self.server.teller.before(past.steps, now)
+                  if line_time(line) >= start]
+        found += [(time, "@%d the script: %s" % (time, text)) for time, text in script_events(self.script)
+                  if start <= time <= now]
+        return "".join(line + "\n" for _, line in sorted(found, key=lambda event: event[0]))
+
+    def later(self, seek):
+        # GDB keeps what it has read until it lets the process go on.
+        self.server.target = seek
+        return "`continue` is there at once\n"
+
+    def seek(self, steps):
+        return self.later(lambda: self.server.past.seek(steps))
+
+    def turn(self, turns):
+        return self.later(lambda: self.server.past.seek_turn(self.server.slot, turns))
+
+    def time(self, time):
+        return self.later(lambda: self.server.past.seek_time(time))
+
+    def where(self):
+        place = self.here()
+        return "step %d, time %d: slot %d is %s after %d turns, pc %08x\n" % (
+            place.steps, place.time, place.slot, place.state, place.turns, place.pc)

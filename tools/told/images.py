@@ -1,0 +1,147 @@
+"""What of a flash image is not run, and why."""
+
+import os
+from collections import namedtuple
+
+import scripts
+from files import content
+from program import tell
+
+FLASH_START = 0x20000000
+MOST_OBJECTS, LEAST_HEADER = 64, 16
+NONE = 0xFFFFFFFF
+# The verdicts of objects whose header cannot be read.
+UNREADABLE = ("bad-sizes", "bad-checksum", "bad-tlv")
+
+# By the verdict of the list, or the word of the report; where that means another thing with time partitions, by
+# `share-` and the word.
+CAUSES = {
+    "disabled": "it is not enabled",
+    "bad-sizes": "its header's size is no size of a header, or passes the object",
+    "bad-checksum": "its header's checksum is wrong",
+    "bad-tlv": "an element of its header is too short, or passes the header",
+    "bad-entry": "its entry, protected bytes or binary's end do not lie in the object",
+    "no-slot": "all sixteen slots are taken",
+    "fixed-taken": "the address of RAM for which it is linked is taken, or no multiple of 8",
+    "no-room": "RAM has no room for its memory; `ram` in the script sets how much there is",
+    "share-fixed-taken": "the address of RAM for which it is linked is not where its slot's share starts",
+    "share-no-room": "its slot's share of RAM, a sixteenth, has no room for its memory; "
+                     "`ram` in the script sets how much there is",
+}
+
+
+# An object as the list tells it.
+Found = namedtuple("Found", "offset size verdict name")
+
+# What an application's header says: its size, the protected bytes after it, the least RAM, where the binary ends or
+# None, and the addresses of RAM and flash for which it is linked, or None.
+Header = namedtuple("Header", "size protected ram binary_end fixed_ram fixed_flash")
+
+
+def word(image, offset, size=4):
+    """A number of a flash image."""
+    return int.from_bytes(image[offset:offset + size], "little")
+
+
+def objects(program, flash):
+    """The objects of a flash image."""
+    lines = [line.split(" ", 4) for line in program.lines("list", flash) if line.startswith("object ")]
+    return [Found(int(offset), int(size), verdict, name) for _, offset, size, verdict, name in lines]
+
+
+def elements(image, offset):
+    """The elements of the header of an object that is not bad, by their types; of a repeated type the first counts."""
+    found, at, end = {}, offset + LEAST_HEADER, offset + word(image, offset + 2, 2)
+    while at + 4 <= end:
+        kind, length = word(image, at, 2), word(image, at + 2, 2)
+        found.setdefault(kind, image[at + 4:at + 4 + length])
+        at += 4 + (length + 3) // 4 * 4
+    return found
+
+
+def header(image, offset):
+    """The header of an object that is an application, or linked for another address."""
+    found = elements(image, offset)
+    main, fixed = found.get(9, found.get(1)), found.get(5, b"\xff" * 8)
+    addresses = [None if word(fixed, at) == NONE else word(fixed, at) for at in (0, 4)]
+    return Header(word(image, offset + 2, 2), word(main, 4), word(main, 8), word(main, 12) if 9 in found else None,
+                  *addresses)
+
+
+def code_start(offset, its):
+    """The address after an object's header and protected bytes."""
+    return FLASH_START + offset + its.size + its.protected
+
+
+def cause(flash, found):
+    """Why an object is not run."""
+    if found.verdict != "wrong-flash":
+        return CAUSES[found.verdict]
+    its = header(content(flash), found.offset)
+    return "it is linked for the address 0x%08x of flash, and stands at 0x%08x" % (
+        its.fixed_flash, code_start(found.offset, its))
+
+
+def tell_not_run(program, flash):
+    """Tells each object of an image that is bad, disabled or linked for another place."""
+    for found in objects(program, flash):
+        if found.verdict not in ("app", "padding"):
+            tell("%s: the object at %d was not run: %s: %s" % (flash, found.offset, found.verdict, cause(flash, found)))
+
+
+def tell_listed(program, flash):
+    """Tells why objects of a list would not be run."""
+    for found in objects(program, flash):
+        if found.verdict not in ("app", "padding"):
+            tell("%s: the object at %d is not run: %s: %s" % (flash, found.offset, found.verdict, cause(flash, found)))
+
+
+def tell_bad(program, flash):
+    """Tells each bad object of a file of which an image was made."""
+    for found in objects(program, flash):
+        if found.verdict.startswith("bad-"):
+            tell("%s: the object at %d is bad: %s: %s" % (flash, found.offset, found.verdict, cause(flash, found)))
+
+
+def has_partitions(script):
+    return any(words[0] == "partition" for _, words in scripts.lines_of(script))
+
+
+def tell_unplaced(program, flash, script):
+    """Tells each application that has no place."""
+    lines = [line.split() for line in program.report(flash, script) if line.startswith("unplaced ")]
+    for _, offset, verdict in lines:
+        share = "share-" + verdict if has_partitions(script) else verdict
+        tell("%s: the object at %s was not run: %s: %s" % (
+            flash, offset, verdict, CAUSES.get(share, CAUSES[verdict])))
+
+
+def why_no_object(image, offset, number):
+    """Why the bytes from an offset on, behind so many objects, are none."""
+    left, version, size = len(image) - offset, word(image, offset, 2), word(image, offset + 4)
+    if number == MOST_OBJECTS:
+        return "an image has at most %d" % MOST_OBJECTS
+    if left < LEAST_HEADER:
+        return "a header has %d at least" % LEAST_HEADER
+    if version != 2:
+        return "a header begins with version 2, and here is %d" % version
+    if size > left:
+        return "an object of %d bytes begins here, and %d are left" % (size, left)
+    return "its header says %d bytes, and an object has %d at least, in fours" % (size, LEAST_HEADER)
+
+
+def tell_rest(program, flash):
+    """Tells the bytes of an image after its last object, which nothing runs."""
+    found, size = objects(program, flash), os.path.getsize(flash)
+    end = found[-1].offset + found[-1].size if found else 0
+    if size == 0:
+        tell("%s: the image is empty" % flash)
+    elif size > end:
+        tell("%s: the %d bytes from %d on are no object: %s" % (
+            flash, size - end, end, why_no_object(content(flash), end, len(found))))
+
+
+def tell_empty(program, flash):
+    """Tells of a file without objects that nothing of it is packed."""
+    if os.path.getsize(flash) and not objects(program, flash):
+        tell("%s: it has no object, so nothing of it is in the image" % flash)
