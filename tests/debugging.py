@@ -12,8 +12,8 @@ import tempfile
 from cases.case import REPOSITORY
 
 sys.path.insert(0, os.path.join(REPOSITORY, "tools"))
+from debugger import past, search
 from debugger.board import MOST, Refused, find_look
-from debugger.past import Past
 
 EXAMPLES, DEBUG = os.path.join(REPOSITORY, "examples"), os.path.join(REPOSITORY, "tools", "debug")
 EMPTY = os.path.join(EXAMPLES, "scripts", "empty.script")
@@ -23,6 +23,9 @@ GDB = os.environ.get("GDB") or "gdb-multiarch"
 RUNS = [("crash", "threshold", 0), ("together", "operator", 2), ("spied", "empty", 1), ("lanes", "lanes", 2),
         ("press", "press", 0), ("beside_hostile", "partition", 1)]
 TURNS, PLACES = 400, 25
+# In how many steps it looks for what was last, and from how many on two boards do: the debugger's own, and such that
+# these runs have all of them.
+WINDOWS = [(past.WINDOWS, search.LEAST), ((10, 50), 20)]
 
 # Commands of tock_look, and why the board stopped at each that made steps.
 COMMANDS = ["until 0 1000 - -", "until 0 1000 - -", "until 0 1000 - 536870972", "boot", "until 0 1000 2,2147485904,3 -",
@@ -94,7 +97,7 @@ class Gone:
 
     def __init__(self, look, image, script, slot):
         flash = os.path.join(EXAMPLES, "images", image + ".bin")
-        self.past = Past(look, flash, os.path.join(EXAMPLES, "scripts", script + ".script"))
+        self.past = past.Past(look, flash, os.path.join(EXAMPLES, "scripts", script + ".script"))
         self.slot, (self.start, self.end) = slot, self.past.first.block(slot)
         self.seen = [self.here()]
         while len(self.seen) <= TURNS:
@@ -161,13 +164,21 @@ def changes_before(gone, draws):
     return None
 
 
+def last_before(gone, draws):
+    """What was last is found, in whatever windows it is looked for."""
+    for past.WINDOWS, search.LEAST in WINDOWS:
+        wrong = addresses_before(gone, draws) or changes_before(gone, draws)
+        if wrong:
+            return "in windows of %s steps: %s" % (past.WINDOWS, wrong)
+    return None
+
+
 def back_and_on(look):
     """In each run going back leads to where going on was."""
     for image, script, slot in RUNS:
         draws = random.Random(image)
         gone = Gone(look, image, script, slot)
-        for wrong in (turn_by_turn(gone), anywhere(gone, draws), addresses_before(gone, draws),
-                      changes_before(gone, draws)):
+        for wrong in (turn_by_turn(gone), anywhere(gone, draws), last_before(gone, draws)):
             if wrong:
                 return "%s, slot %d: %s" % (image, slot, wrong)
     return None

@@ -1,12 +1,10 @@
 """What the page may not be: each fault in words."""
 
 import re
-from dataclasses import dataclass, field
 
 from library import LIBRARY
 from page import key, section_of
-from remarks import REMARKS
-from standards import BESIDE, has_source
+from standards import has_source
 
 NUMBERS = re.compile(r"rests on [\d,]+ definitions in [\d,]+ files \([\d,]+ lines\)")
 TOGETHER = re.compile(r"[\d,]+ lines as they are printed, all five guarantees on [\d,]+")
@@ -39,14 +37,11 @@ def unplaced(plan, reached):
     return missing + idle
 
 
-def unexplained(sources, reached, remarks):
-    """Definitions without a comment and without a remark, of all that the page shows, and remarks on others."""
+def unexplained(reached):
+    """Definitions without a comment, of all that the page shows."""
     bare = {key(found): found for part in reached.parts for found in part.definitions if not found.is_explained}
-    there = {key(found): found for spec in sources.specs.values() for found in spec.definitions.values()}
-    return (["%s/specs/%s.antt:%d: %s has no comment" % (found.crate, found.file, found.first + 1, found.name)
-             for name, found in bare.items() if name not in remarks]
-            + ["tools/believed/remarks.py: %s has a comment, or is not there" % name
-               for name in remarks if name not in there or there[name].is_explained])
+    return ["%s/specs/%s.antt:%d: %s has no comment" % (found.crate, found.file, found.first + 1, found.name)
+            for found in bare.values()]
 
 
 def places_of(parts):
@@ -62,19 +57,10 @@ def for_proofs_only(sources, plan, reached):
             if plan.PROOFS_ONLY in sources.specs[tuple(place.split("/"))].raw[0]]
 
 
-def without_source(sources, reached, beside):
-    """Files of which neither the head comment nor the table beside it names a standard with its section; and entries
-    of that table on other files."""
-    wrong = []
-    for place in places_of(reached.parts):
-        spec = sources.specs[tuple(place.split("/"))]
-        if has_source(spec.head) and place in beside:
-            wrong.append("tools/believed/standards.py: the head of %s names its source already" % place)
-        if not has_source(spec.head) and not has_source(beside.get(place, "")):
-            wrong.append("%s: neither its head comment nor tools/believed/standards.py names a standard with its "
-                         "section" % place)
-    return wrong + ["tools/believed/standards.py: there is no %s" % place for place in beside
-                    if tuple(place.split("/")) not in sources.specs]
+def without_source(sources, reached):
+    """Files whose head comment names no standard with its section, of all that the page shows."""
+    return ["%s: its head comment names no standard with its section" % place for place in places_of(reached.parts)
+            if not has_source(sources.specs[tuple(place.split("/"))].head)]
 
 
 def untold_words(reached, library):
@@ -98,19 +84,10 @@ def too_long(plan, reached):
     return ["%d lines are to be believed, of at most %d" % (size, plan.LIMIT)] if size > plan.LIMIT else []
 
 
-@dataclass
-class Tables:
-    """The tables that explain what the sources do not: sources of files, words of the library, remarks."""
-    beside: dict = field(default_factory=lambda: BESIDE)
-    library: list = field(default_factory=lambda: LIBRARY)
-    remarks: dict = field(default_factory=lambda: REMARKS)
-
-
-def source_faults(sources, plan, reached, tables=Tables()):
-    """What is wrong with the sources themselves, and with the tables that explain them."""
-    return (unplaced(plan, reached) + unexplained(sources, reached, tables.remarks)
-            + without_source(sources, reached, tables.beside) + for_proofs_only(sources, plan, reached)
-            + untold_words(reached, tables.library)
+def source_faults(sources, plan, reached, library=LIBRARY):
+    """What is wrong with the sources themselves, and with the sentences on words of the library."""
+    return (unplaced(plan, reached) + unexplained(reached) + without_source(sources, reached)
+            + for_proofs_only(sources, plan, reached) + untold_words(reached, library)
             + unknown_parts(plan, reached) + too_long(plan, reached))
 
 

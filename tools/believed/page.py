@@ -5,8 +5,7 @@ from collections import defaultdict
 
 from aliases import ambiguous, meant_in_contract, meant_in_spec
 from library import LIBRARY, NOTATION
-from remarks import REMARKS
-from standards import BESIDE, STANDARDS
+from standards import STANDARDS
 
 
 def section_of(plan, definition):
@@ -57,27 +56,19 @@ def fenced(language, text):
     return ["```" + language, text.strip("\n"), "```", ""]
 
 
-def remarks_text(definitions):
-    """What is said of those of some definitions that have no comment."""
-    return ["`%s`: %s." % (found.name, REMARKS[key(found)]) for found in definitions if key(found) in REMARKS]
-
-
 def key(definition):
-    """By what sections and remarks name a definition."""
+    """By what sections name a definition."""
     return "%s:%s" % (definition.place, definition.name)
 
 
 def file_text(sources, place, definitions, several):
-    """A file of the page: its head comment, its source where that tells none, what its names mean, and its definitions
-    as they stand in it."""
+    """A file of the page: its head comment, what its names mean, and its definitions as they stand in it."""
     crate, _, file = place.partition("/")
     spec = sources.specs[crate, file]
     text = "\n\n".join(found.written for found in sorted(definitions, key=lambda found: found.first))
     head = [spec.head, ""] if spec.head else []
-    beside = ["Source: %s." % BESIDE[place], ""] if place in BESIDE else []
-    remarks = remarks_text(definitions)
-    return (["### %s/specs/%s.antt" % (crate, file), ""] + head + beside + meant_in_spec(spec, definitions, several)
-            + remarks + [""] * bool(remarks) + fenced("antt", text))
+    return (["### %s/specs/%s.antt" % (crate, file), ""] + head + meant_in_spec(spec, definitions, several)
+            + fenced("antt", text))
 
 
 def by_file(definitions):
@@ -130,16 +121,18 @@ def numbers_text(plan, reached):
 def premises_text(plan, contract):
     """What the contract asks of its caller, and what a reader assumes beside it."""
     asks = ["The contract asks of its caller:", ""] + fenced("rust", "\n".join(contract.premises))
-    none = ["The contract asks nothing of its caller: it holds for all words, shelves and sinks.", ""]
+    none = ["The contract asks nothing of its caller: it holds for all words, and for all shelves and sinks, each of "
+            "which is proved to keep the contract of its trait.", ""]
     listed = ["%d. %s" % (number, text) for number, text in enumerate(plan.ASSUMPTIONS, 1)]
     return (["## Assumptions", ""] + (asks if contract.premises else none)
             + ["Beside what is printed here a reader assumes:", ""] + listed + [""])
 
 
 def headline_text(plan, reached, several):
-    """The headline in a sentence, which names have its parts, what is assumed, and the contract."""
+    """The headline in a sentence, which names have its parts, what is not promised or assumed, and the contract."""
     lines = ["## The headline", "", "**%s**" % plan.SENTENCE, "", "Where each part of it stands:", ""]
-    lines += ["- " + part for part in plan.PARTS] + [""] + numbers_text(plan, reached)
+    lines += ["- " + part for part in plan.PARTS] + ["", "## What is not promised", ""]
+    lines += ["- " + part for part in plan.NOT_PROMISED] + [""] + numbers_text(plan, reached)
     lines += premises_text(plan, reached.headline) + ["## The contract of `%s`" % reached.headline.name, ""]
     return lines + contract_text(reached.headline, several)[2:]
 

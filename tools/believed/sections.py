@@ -16,19 +16,38 @@ abstract kernel under round-robin turns; there a process's byte changes only by 
 buffer it then allowed, every denial names its address and rule, and a process's record is the replay of its own turns
 and device answers alone, whatever others do."""
 PARTS = [
-    "*For every*: any words, shelf and sink; of the words `command_of`, of the files' bytes `comes_to`.",
-    "*Writes exactly*: `ProgramDoes`, fields `done` and `decided`; the text is `run_text`, for `boot` in mode `Boot`.",
-    "*Abstract kernel under round-robin turns*: `round`, a fold of `stepped` by `next`, from the world `opening`. "
-    "Under a script with `partition` the turns are those of the windows.",
+    "*For every*: any words, shelf and sink; of the words `command_of`, of the files' bytes `comes_to`. A file that is "
+    "too long and a script that has no reading are refused. The limit counts steps: turns, steps of devices and passes "
+    "of time.",
+    "*Writes exactly*: at answer 0, `ProgramDoes`, field `done`; the text is `run_text`, for `boot` in mode `Boot`. "
+    "Each other answer but 7 has its cause: its own field. Which answer comes, where the output does not fail: field "
+    "`decided`, of files whose bytes the shelf tells.",
+    "*TRD 104's abstract kernel under round-robin turns*: the one that is defined here, after TRD 104 and with this "
+    "board's own rules, as each file's head says. It is `round`, a fold of `stepped` by `next`, from the world "
+    "`opening`. Under a script with `partition` the turns are those of the windows.",
     "*Byte, act, buffer*: `IsAccountedFor`, field `causes`, for memory below the grants and for storage; a grant "
-    "changes only in a turn of its process, an answer to it or an act on it. An operator's restart counts as the "
-    "process's own act.",
+    "changes only in a turn of its process, an answer to it or an act on it. A restart counts as the process's own "
+    "act: by exit, by the policy after a denial, or by an operator.",
     "*Every denial*: fields `denials`, `recorded` and `shown`; conversely no access that is permitted is denied "
     "(`DenialIsDue`).",
-    "*Replay alone*: `IsAccountedRun`, field `alone`. What an operator does to the process counts as an answer, as "
-    "does an edge of a button.",
-    "*What the others do*: how long a process waits for its turns and answers; with `partition` not even that "
-    "(`RunIsPartitioned`).",
+    "*Replay alone*: `IsAccountedRun`, field `alone`, from the object, its place and the settings that processes see. "
+    "A turn is replayed with its time. What an operator does to the process counts as an answer, as does an edge of a "
+    "button.",
+    "*Whatever others do*: they may decide which answers a process gets, and how long it waits for these and for its "
+    "turns; with `partition` not even that (`RunIsPartitioned`).",
+]
+
+# What a reader might take to be promised, and is not.
+NOT_PROMISED = [
+    "*What others decide*: without `partition` a process may learn of others from which answers it gets, since all "
+    "share input, random words and the script's storage faults, and from when its turns and answers come. With it the "
+    "text of the console and the LEDs stay shared, which no process can read; and real time.",
+    "*That a run is made, or ends*: that memory is found, that answer 7 comes for want of memory alone, that files can "
+    "be read and written, or that a run is `done` within its limit of steps.",
+    "*That an image is whole*, or whose it is: a header has a checksum and nothing more. An object that is bad, "
+    "disabled or has no place is not run, and the answer may be 0.",
+    "*Agreement with any real board*, or with the code of Tock's kernel; speed, energy and real time.",
+    "*What stands beside the program*: the script `./tock`, `tools/` and `tests/` have no contracts.",
 ]
 
 SECTIONS = [
@@ -87,7 +106,9 @@ ASSUMPTIONS = [
     "sentences](#the-words-of-the-library) say.",
     "*The C library* and the operating system under it.",
     "*The two adapters*, for the files of the host and its standard output: shelves and sinks in memory tell their "
-    "bytes, these tell none, so that what a file holds and what was written through them is the host's to keep.",
+    "bytes, these tell none, so that what a file holds and what was written through them is the host's to keep. And "
+    "`main`, which gives `serve` the two and the words, and ends with its answer: it is proved safe, and has no other "
+    "contract.",
     "*The ported crates*: the contracts of `arrayvec`, `byteorder`, `circular_buffer`, `hex`, `itoa` and `thiserror` "
     "hold of their code.",
     "*Tables read from manuals*: instructions, system calls, error codes and formats stand here as in [the "

@@ -113,7 +113,7 @@ def plan(**other):
     """A table of sections for the small sources."""
     usual = dict(HEADLINE=("top/lib.rt", "keep"), LIMIT=100, SECTIONS=[("First", ["top"]), ("Then", ["base"])],
                  BOARD=("top/state.rt", "Seen"), GUARANTEES=[], STEPS=[], ASSUMPTIONS=["Trust this.", "And that."],
-                 SENTENCE="It keeps its promise.", PARTS=["*Promise*: `Promises`."],
+                 SENTENCE="It keeps its promise.", PARTS=["*Promise*: `Promises`."], NOT_PROMISED=["That it is fast."],
                  PROOFS_ONLY="Only proofs use this")
     return SimpleNamespace(**{**usual, **other})
 
@@ -133,16 +133,15 @@ def names_of(found):
     return [each.name for each in found]
 
 
-def tables(**other):
-    """The tables beside the small sources: nothing but the words of the library that they use."""
-    words = {"ℕ": "numbers", "◌+◌": "sums"}
-    return faults.Tables(**{**dict(beside={}, library=[("Words", words)], remarks={}), **other})
+def library(**other):
+    """The sentences on words of the library: on those that the small sources use, and others."""
+    return [("Words", {"ℕ": "numbers", **other})]
 
 
-def faults_of(sources, beside=None, **other):
-    """What is wrong with sources under a table of sections, and under tables beside them."""
+def faults_of(sources, told=None, **other):
+    """What is wrong with sources under a table of sections, and under sentences on words of the library."""
     made = plan(**other)
-    return faults.source_faults(sources, made, reach(Names(sources), made, []), beside or tables())
+    return faults.source_faults(sources, made, reach(Names(sources), made, []), told or library(**{"◌+◌": "sums"}))
 
 
 class Following(unittest.TestCase):
@@ -207,8 +206,10 @@ class Page(unittest.TestCase):
         self.assertIn("1. Trust this.\n2. And that.\n", self.made)
 
     def test_headline_before_the_contract(self):
-        first = self.made.index("**It keeps its promise.**")
-        self.assertLess(first, self.made.index("## The contract of `keep`"))
+        heads = ("**It keeps its promise.**", "## What is not promised\n\n- That it is fast.\n", "## Assumptions",
+                 "## The contract of `keep`")
+        places = [self.made.index(head) for head in heads]
+        self.assertEqual(places, sorted(places))
 
     def test_definitions_in_sections(self):
         self.assertIn("## 1. First\n\n3 definitions in 1 file, 8 lines.", self.made)
@@ -274,9 +275,9 @@ class Faults(unittest.TestCase):
     def test_no_comment(self):
         self.assertEqual(faults_of(small()), ["top/specs/Promise.antt:18: Holds has no comment"])
 
-    def test_comments_of_groups(self):
+    def test_comments_of_others(self):
         joined = TOP.replace("variable\n\npub record", "variable\npub record")
-        self.assertEqual(faults_of(small(joined)), [])
+        self.assertEqual(faults_of(small(joined)), ["top/specs/Promise.antt:17: Holds has no comment"])
 
     def test_heads_of_lone_definitions(self):
         lone = "-- One (a manual).\nuse Rattle.std.specs.Prelude.{ℕ}\n\nabbrev pub one : ℕ\none = 1\n"
@@ -284,32 +285,23 @@ class Faults(unittest.TestCase):
         bare = lone.replace("-- One (a manual).\n", "")
         self.assertFalse(read_spec("base", "One", bare).definitions["one"].is_explained)
 
-    def test_remarks(self):
-        remarks = {"top/Promise:Holds": "a number", "top/Promise:Way": "which way", "top/Promise:Gone": "it is gone"}
-        self.assertEqual(faults_of(small(), tables(remarks=remarks)),
-                         ["tools/believed/remarks.py: top/Promise:Way has a comment, or is not there",
-                          "tools/believed/remarks.py: top/Promise:Gone has a comment, or is not there"])
-
     def test_no_source(self):
-        none = ["base/Sums: neither its head comment nor tools/believed/standards.py names a standard with its section"]
+        none = ["base/Sums: its head comment names no standard with its section"]
         for source in ("", "a manual", "unprivileged manual", "TRD 104", "Tock's kernel", "Levy et al., SOSP 2017"):
             base = BASE.replace('RISC-V unprivileged manual, "Sums"', source)
             self.assertEqual(faults_of(small(self.sound(), base)), none)
-            self.assertEqual(faults_of(small(self.sound(), base), tables(beside={"base/Sums": "driver 0x1"})), [])
 
-    def test_needless_sources(self):
-        beside = {"base/Sums": "driver 0x1", "gone/File": "driver 0x1"}
-        self.assertEqual(faults_of(small(self.sound()), tables(beside=beside)),
-                         ["tools/believed/standards.py: the head of base/Sums names its source already",
-                          "tools/believed/standards.py: there is no gone/File"])
+    def test_other_sources(self):
+        for source in ('TRD 104, "Yield"', "driver 0x1", "this kernel's own", "Levy et al., SOSP 2017, section 4"):
+            base = BASE.replace('RISC-V unprivileged manual, "Sums"', source)
+            self.assertEqual(faults_of(small(self.sound(), base)), [])
 
     def test_proofs_only(self):
         base = BASE.replace("Sums and", "Only proofs use this: sums and")
         self.assertEqual(faults_of(small(self.sound(), base)), ["base/Sums is marked for proofs only, and is reached"])
 
     def test_words_without_a_sentence(self):
-        library = [("Words", {"ℕ": "numbers", "max": "the greater"})]
-        self.assertEqual(faults_of(small(self.sound()), tables(library=library)),
+        self.assertEqual(faults_of(small(self.sound()), library(max="the greater")),
                          ["tools/believed/library.py has no sentence on ◌+◌"])
 
     def test_parts_that_are_nowhere(self):

@@ -181,14 +181,13 @@ def read_line(spec, at, line, now):
 
 
 def explain(spec):
-    """Says of each definition whether a comment explains it, and keeps it as it is written, with that comment."""
-    top, explained = head_size(spec.raw), {}
+    """Says of each definition whether a comment of its own explains it, or the file's head where it is alone there; and
+    keeps it as it is written, with that comment."""
+    top = head_size(spec.raw)
     for found in spec.definitions.values():
         begin = max(comment_start(spec.raw, found.first), top)
-        has_group = begin == found.first and explained.get(found.first - 1, False)
-        found.is_explained = begin < found.first or has_group or len(spec.definitions) == 1 and bool(spec.head)
+        found.is_explained = begin < found.first or len(spec.definitions) == 1 and bool(spec.head)
         found.written = "\n".join(spec.raw[begin:found.last + 1]).rstrip()
-        explained[found.last] = found.is_explained
 
 
 def read_spec(crate, file, text):

@@ -19,39 +19,6 @@ SOURCES = [re.compile(source) for source in (
     r'TRD 104[,:][^"]{0,12}"', r'Tock Binary Format[^".]{0,30}"', r'privileged manual, [^".]{0,40}"',
     r"Levy et al\., SOSP 2017, section \d", r"this (?:board|tool|kernel)'s own", r"driver 0x[0-9A-F]+")]
 
-# Of files whose head names no section: the source, which the page tells beside the head.
-BESIDE = {
-    "app_placement/Placement": "Levy et al., SOSP 2017, section 4 (the grants at the block's end); the order and the "
-                               "roundings are this board's own",
-    "board_devices/Clock": "Tock's driver 0x0",
-    "board_opening/Alone": "that a process depends on what it sees alone is Levy et al., SOSP 2017, as a whole; the "
-                           "form is this board's own",
-    "board_opening/Certified": 'TRD 104, "Yield", "Subscribe", "Read-Only Allow"; Levy et al., SOSP 2017, section 4',
-    "board_report/OwnWords": "this tool's own",
-    "driver_model/Answers": "Tock's drivers, each in its own file: driver 0x0 to driver 0x50001",
-    "driver_model/Laws": "Tock's drivers, each in its own file: driver 0x0 to driver 0x50001",
-    "fault_policy/Policy": "the names are those of the fault policies of Tock's kernel; that one holds for all "
-                           "processes is this board's own",
-    "grant_model/Laws": "Levy et al., SOSP 2017, section 4; the form in words is this kernel's own",
-    "image_make/Edited": 'Tock Binary Format, "TBF Header Base"; the edits are this tool\'s own',
-    "image_make/Laws": 'Tock Binary Format, "TBF Header Base"; the edits are this tool\'s own',
-    "kernel_calls/Own": "Levy et al., SOSP 2017, section 4",
-    "kernel_laws/Tables": "the drivers are Tock's, driver 0x0 to driver 0x50001; the instructions unprivileged manual, "
-                          '"RV32/64G Instruction Set Listings"',
-    "kernel_model/Parts": 'as the definitions of which they are parts: TRD 104, "System Call API"',
-    "kernel_model/Record": 'TRD 104, "Yield", "Exit" (the state); Levy et al., SOSP 2017, section 4 (the memory); '
-                           "driver 0x50001 (the storage), driver 0x3 (the buttons)",
-    "kernel_model/Replay": "that a process depends on what it sees alone is Levy et al., SOSP 2017, as a whole; the "
-                           "form is this board's own",
-    "partition_turns/Laws": "this board's own",
-    "partition_turns/Turns": "this board's own",
-    "process_model/Instruction": 'unprivileged manual, "RV32I Base Integer Instruction Set"',
-    "process_model/Permission": 'TRD 104, "Memop" (which memory is a process\'s); RISC-V privileged manual, "Physical '
-                                'Memory Protection"',
-    "tk_base/Verbs": "the words `list`, `stop`, `start` and `terminate` are those of Tock's process console; `restart` "
-                     "is this board's own",
-}
-
 
 def has_source(text):
     """Whether a text names a source."""

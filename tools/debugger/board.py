@@ -42,14 +42,16 @@ class SlotState:
 
 
 class State:
-    """The answer to `state`: the report, and the slots that have a process."""
+    """The answer to `state`: the report, the slots that wait for each device, and those that have a process."""
 
     def __init__(self, lines):
         self.report = lines[:next((n + 1 for n, line in enumerate(lines) if line.startswith("end ")), 0)]
-        self.slots = {}
+        self.slots, self.waits = {}, {}
         for line in lines[len(self.report):]:
             words = line.split()
-            if words[0] == "at":
+            if words[0] == "waits":
+                self.waits[words[1]] = [int(word, 16) for word in words[2:]]
+            elif words[0] == "at":
                 self.of(words[3]).place = Place(line)
             elif words[0] == "pending":
                 self.of(words[1]).pending.append([int(word, 16) for word in words[2:]])

@@ -10,7 +10,7 @@ PAIRS = {0: (1, 0, 0, 1), 1: (3, 2, 2, 0), 2: (0, 0, 0, 0), 3: (1, 0, 0, 0), 0x4
 KINDS = ("upcall", "read-only", "read-write", "readable")
 STEPS_OF_EVENTS = 400
 HELP = """slots              the report: each slot with its process
-state              what the kernel keeps of each process: where it lies, what is pending, its grants
+state              what the kernel keeps of each process: where it lies, what is pending, its grants; who waits
 trace [N]          the last N system calls, denials, prints and acts (20)
 events [N]         the last N steps (400): calls, upcalls, denials, what came in, acts and restarts
 seek STEP, turn K, time T
@@ -66,6 +66,8 @@ class Monitor:
         lines = []
         for slot in sorted(state.slots):
             lines += self.state_lines(slot, state.slots[slot])
+        lines += ["slots that wait for %s, the longest first: %s" % (device, " ".join(map(str, slots)))
+                  for device, slots in state.waits.items() if slots]
         return "\n".join(lines) + "\n"
 
     def state_lines(self, slot, state):

@@ -10,8 +10,8 @@ KEPT_TURNS, KEPT_PAGES = 256, 12
 PAGE = 256
 # How many boards look for what was last, side by side.
 MOST_SEARCHES = 8
-# In how many steps before a place it first looks for what was last before it.
-WINDOW = 20000
+# In how many steps before a place it looks for what was last before it: in these first, and then in all.
+WINDOWS = (20000, 400000)
 
 
 class Kept:
@@ -87,12 +87,19 @@ class Past:
     def last(self, watched, addresses):
         """Goes back to the last place before this one at an address, or before a change of what is watched, and gives
         the words of why; to the start, and None, where there is none."""
-        near = max(0, self.steps - WINDOW)
-        found = self.searches[0].last(near, self.steps, watched, addresses) if watched or addresses else None
-        if found is None and near and (watched or addresses):
-            found = last_of(self.searches, near, watched, addresses)
+        found = self.last_found(watched, addresses) if watched or addresses else None
         self.seek(found[0] if found else 0)
         return found[1] if found else None
+
+    def last_found(self, watched, addresses):
+        """After how many steps that place is, and the words of why; or None. What was recently is found at once."""
+        high = self.steps
+        for window in WINDOWS + (self.steps,):
+            low = max(0, self.steps - window)
+            found = last_of(self.searches, low, high, watched, addresses)
+            if found or low == 0:
+                return found
+            high = low
 
     # Back, turn by turn.
 

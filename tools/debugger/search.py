@@ -2,6 +2,9 @@
 
 from debugger.board import Board, list_of
 
+# For how many steps another board is worth its way there.
+LEAST = 200000
+
 
 class Search:
     """A board that looks for places; it is made where it is first needed."""
@@ -30,14 +33,11 @@ class Search:
         lines = self.finish()
         return (int(lines[0].split()[1]), lines[1].split()[1:]) if lines[0] != "none" else None
 
-    def last(self, low, high, watched, addresses):
-        self.send(low, high, watched, addresses)
-        return self.found()
 
-
-def last_of(searches, high, watched, addresses):
-    """The last place of the first steps, each board looking at a part of them; the latest part decides."""
-    count = len(searches)
-    for n, search in enumerate(searches):
-        search.send(high * n // count, high * (n + 1) // count, watched, addresses)
-    return next((found for found in (search.found() for search in reversed(searches)) if found), None)
+def last_of(searches, low, high, watched, addresses):
+    """The last place from one step to another, each board looking at a part of them; the latest part decides."""
+    count = max(1, min(len(searches), (high - low) // LEAST))
+    ends = [low + (high - low) * n // count for n in range(count + 1)]
+    for search, begin, end in zip(searches, ends, ends[1:]):
+        search.send(begin, end, watched, addresses)
+    return next((found for found in (search.found() for search in reversed(searches[:count])) if found), None)

@@ -81,6 +81,16 @@ def classes(facts):
     return [(number, text.split()[0].strip("()")) for number, text in rows.items()]
 
 
+def told_class_rows(table, row):
+    """Each class once, with its call, by the words with which the rows of calls begin; of the whole table."""
+    if row is not table.rows[0]:
+        return []
+    begins = {**CALLS, "other numbers": "Yield"}
+    found = [(int(each[0]), next(call for word, call in begins.items() if each[1].startswith(word)))
+             for each in table.rows if each[1]]
+    return sorted(set(found))
+
+
 def memop_rows(table, row):
     """The operations of a row of two, each with whether it answers success alone."""
     return [(number_in(row[at]), "success" in row[at + 1]) for at in (0, 2)]
@@ -121,10 +131,9 @@ def replies(facts):
 # Drivers.
 
 def grant_rows(table, row):
-    """A driver's number, its counts of pairs, and the bytes of its grant; None where it has none."""
+    """A driver's number, its pairs by kind, and the bytes of its grant; None where it has none."""
     name, number = row[0].rsplit(" ", 1)
-    counts = [len(numbers_listed(cell)) for cell in row[1:5]]
-    return [(DRIVERS[name][0], int(number, 0), counts, number_in(row[5]) or None)]
+    return [(DRIVERS[name][0], int(number, 0), [numbers_listed(cell) for cell in row[1:5]], number_in(row[5]) or None)]
 
 
 def cost(facts, counts):
@@ -139,8 +148,8 @@ def grants(facts):
     numbers = facts.numbers("grant_values/Drivers", "number_of_driver")
     counts = {name: [int(word) for word in given.split()[1:]]
               for name, given in facts.clauses("grant_values/Drivers", "counts_by")}
-    return [(name, number, counts[name][:4], cost(facts, counts[name]) if any(counts[name]) else None)
-            for name, number in numbers.items()]
+    return [(name, number, [list(range(count)) for count in counts[name][:4]],
+             cost(facts, counts[name]) if any(counts[name]) else None) for name, number in numbers.items()]
 
 
 def command_rows(table, row):
@@ -345,6 +354,21 @@ def statuses(facts):
     return found + [("image " + word, status["Image"]) for word in faults.values()]
 
 
+def done_rows(table, row):
+    """The statuses of rows of lines that are no refusals, each once; of the whole table."""
+    if row is not table.rows[0]:
+        return []
+    return sorted({int(each[1]) for each in table.rows
+                   if each[1] and not status_rows(table, each) and "standard error" not in each[0]
+                   and not each[0].startswith("a part of the text")})
+
+
+def done(facts):
+    """The answer of a command that is done."""
+    return [int(re.search(r"done : answer ≡ (\d+)",
+                          "\n".join(facts.spec("tool_answers/Served").definitions["ProgramDoes"].lines))[1])]
+
+
 COMMANDS = {"boot": "Runs", "trace": "Runs", "list": "Lists", "soak": "Soaks", "pack": "Packs", "enable": "Edits",
             "disable": "Edits", "rename": "Edits"}
 
@@ -409,7 +433,9 @@ CHECKS = [
     Check(MANUAL, "Image formats", ("Type", "Element"), element_rows, elements),
     Check(MANUAL, "Rules in tables", ("Place", "Fetch"), place_rows, places),
     Check(MANUAL, "Every line and what to do", ("Line", "Status"), status_rows, statuses),
+    Check(MANUAL, "Every line and what to do", ("Line", "Status"), done_rows, done),
     Check(MANUAL, "Commands", ("Command", "Does"), answer_rows, answers),
+    Check(TOLD, "System calls", ("Class", "Call"), told_class_rows, classes),
     Check(TOLD, "Drivers", ("Driver", "Number"), there_rows, there),
     Check("README.md", "Exit statuses", ("Status", "Written"), answered_rows, answered),
     Check("docs/claims.md", "The answers of the tool", ("Answer", "Line"), answered_rows, answered),

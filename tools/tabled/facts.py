@@ -1,6 +1,7 @@
 """What definitions and constants say that documents tell again: numbers, words and rows, read from the sources."""
 
 import re
+from functools import cache
 
 from closure import Names, meanings
 from sources import Definition
@@ -19,6 +20,7 @@ class Facts:
         """A file of specs/, as crate/File."""
         return self.sources.specs[tuple(place.split("/"))]
 
+    @cache
     def clauses(self, place, name):
         """The cases of a definition: what each is for, and what it gives."""
         found, cases = self.spec(place).definitions[name], []
@@ -53,11 +55,13 @@ class Facts:
         ends = [found.start() for found in starts[1:]] + [len(text)]
         return {int(found[1]): text[found.end():end] for found, end in zip(starts, ends)}
 
+    @cache
     def constants(self):
         """The constants of all crates that are numbers, by name."""
         return {name: int(value.replace("_", ""), 0) for module in self.sources.modules.values()
                 for name, value in CONSTANT.findall(module.text)}
 
+    @cache
     def below(self, place, text):
         """A piece of a definition, with all definitions of its crate that it rests on, as one text."""
         crate, seen, texts = place.split("/")[0], set(), []

@@ -3,8 +3,9 @@
 import re
 
 from checks import CHECKS
-from documents import table_of
-from sentences import SENTENCES, filled, values
+from documents import table_of, tables
+from sentences import SENTENCES, filled
+from values import values
 
 # Sentences of other faults, each with what stands in place of what in a page.
 EDITS = [
@@ -47,6 +48,24 @@ def of_tables(pages, facts, faults):
             if edits and not seen:
                 wrong.append("%s:%d: no change of this row is noticed" % (check.page, line + 1))
     return wrong
+
+
+def others(line):
+    """A line with each of its numbers another one, with that number."""
+    for number in re.finditer(r"(?<![\w.])\d+(?![\w.])", line):
+        yield number[0], line[:number.start()] + str(int(number[0]) + 1) + line[number.end():]
+
+
+def cells_left(pages, facts, faults, names):
+    """Rows of tables with numbers that can be others, and nothing notices it; with these numbers."""
+    rows = []
+    for name, line in ((name, line) for name in names for table in tables(pages[name])
+                       for line in range(table.first + 1, table.first + 1 + len(table.rows))):
+        lines = pages[name].split("\n")
+        left = [number for number, edited in others(lines[line])
+                if not faults({**pages, name: "\n".join(lines[:line] + [edited] + lines[line + 1:])}, facts)]
+        rows += ["%s:%d: %s in the row %s" % (name, line + 1, ", ".join(left), lines[line])] if left else []
+    return rows
 
 
 def unnoticed(pages, facts, faults):

@@ -15,6 +15,12 @@ def found(pattern, text):
     return [int(number) for number in re.search(pattern, text, re.M).groups()]
 
 
+def of_first_run(pages):
+    """How many minutes the manual says that the first run takes."""
+    least, most = found(r"this takes (\d+) to (\d+) minutes", pages["docs/manual.md"])
+    return dict(LEAST_MINUTES=least, MOST_MINUTES=most)
+
+
 def of_runs(pages, uart):
     """The runs of `greet`, and of three applications in windows."""
     report = shown(pages["docs/manual.md"], "boot examples/images/greet.bin")
@@ -25,4 +31,5 @@ def of_runs(pages, uart):
     printed = len(re.search(r"@\d+ 0 out ([0-9a-f]+)", trace)[1]) // 2
     return dict(GREET_TURNS=turns, GREET_STEPS=steps, GREET_TIME=time, GREET_PASSED=time - turns, GREET_OUT=out,
                 GREET_BYTES=printed, GREET_DONE=out + printed * uart, GREET_WAITS=waits + 1,
-                HELLO_LAST=found(r"@(\d+) 0 call 6", windows)[0], STRAY_LAST=found(r"@(\d+) 1 denied", windows)[0])
+                HELLO_LAST=found(r"@(\d+) 0 call 6", windows)[0], STRAY_LAST=found(r"@(\d+) 1 denied", windows)[0],
+                WINDOWED=len(re.findall(r"^    slot ", windows, re.M)))

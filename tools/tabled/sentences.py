@@ -3,13 +3,7 @@ sources give. `{NAME:,}` is a number with commas, `{NAME:w}` in words, `{NAME:x}
 
 import re
 
-from checks import cost
-from facts import computed
-from runs import of_runs
-
-IN_WORDS = {1: "one", 2: "two", 3: "three", 4: "four", 5: "five", 6: "six", 7: "seven", 8: "eight", 10: "ten",
-            12: "twelve", 13: "thirteen", 16: "sixteen", 20: "twenty", 32: "thirty-two", 64: "sixty-four"}
-ZEROS = {"Alarm": 3, "Console": 5, "Buttons": 1, "Random": 3, "Storage": 3}
+from tools import REPEATED
 
 DRIVERS = [
     "{DRIVERS:W} drivers: ", "(`{NoDriver}`)", "A grant is words of {WORD} bytes, the lowest byte first",
@@ -30,16 +24,55 @@ DRIVERS = [
     "armed, reference, delta, {ALARM:w} zeros", "a read waits, its length, {CONSOLE:w} zeros",
     "(bit n for button n), {BUTTONS:w} zeros", "bytes so far, {RANDOM:w} zeros", "offset, length, {STORAGE:w} zeros",
     "subscribe and the allows are refused (`{NoNumber}`)", "(exit {EXIT_AGAIN}, a fault under the policy",
+    "| address of the flag (no-wait), or the upcall's driver ({YIELD_FOR}) | the upcall's number ({YIELD_FOR}) |",
+    "| function, {NULL} for none |", "`now + delta` mod 2^{CLOCK_BITS} |", "`reference + delta` mod 2^{CLOCK_BITS} |",
+    "`(now - reference) mod 2^{CLOCK_BITS}` is at least delta", "| readable 0 | command {CLOCK_COMMAND}, and an alarm",
+    "into the first {WORD} bytes, or as many", "`{Empty}` ({NO_BYTES} bytes)", "upcall {CANCEL_UPCALL} says CANCEL",
+    "| {CANCEL_UPCALL} | where command {CANCEL_COMMAND} dropped the read | {CANCEL} (CANCEL) | 0 | 0 |",
+    "| {FIRED_UPCALL} | where `(now", "There is no command {NO_ALARM}.", "| button | {PRESSED}, or {RELEASED} |",
+    "| {PRESSED} pressed, {RELEASED} released |",
+    "| {READ_UPCALL} or {WRITE_UPCALL} | where the script has it fail | 0 | {FAIL} (FAIL) | 0 |",
 ]
 
 MANUAL = [
     "N, NUMBER and OFFSET have 1 to {DIGITS} decimal digits", "N is at most {MOST_TURNS:,}, NUMBER and OFFSET at most "
     "{MOST_NUMBER:,}.", "the objects of 1 to {MOST_FILES} files", "Statuses 0 and 2 to {LAST_STATUS} are the program's",
-    "(0 to {threshold}; restarts by exit count too)", "K rises, up to {storage-fault}; at most {FAULT_LIMIT} lines",
+    "of the same length rounded up to {WORD} |", "in ticks, 0 to {event} |",
+    "ends it with code {TERMINATE_CODE}, as exit", "as exit {EXIT_AGAIN} does; it counts",
+    "is not 1 to {DIGITS} decimal digits |", "of `random`, not {WORD_DIGITS} |",
+    "| a turn | {TURN_TICKS} tick |", "| a read of {NO_BYTES} bytes |",
+    "ask command {LED_COUNT} (LEDs, buttons) or {SIZE_COMMAND} (storage) |", "ask memop {COUNT_MEMOP} how many |",
+    "ask memop {START_MEMOP} and {BREAK_MEMOP};", "(D has {WAIT_DIGITS:w} digits of base 16",
+    "with {TERMINATE_CODE} where an operator ended it |", "ADDRESS has {ADDRESS_DIGITS:w} digits of base 16 |",
+    "loads or stores {HALF} or {WORD} bytes at no multiple of {HALF} or {WORD}.",
+    "| init offset, protected size, minimum RAM ({FIELD} each) |",
+    "| pairs of offset and size ({FIELD} each); memop {COUNT_MEMOP} to {END_MEMOP} tell them |",
+    "| RAM start, flash start ({FIELD} each);",
+    "| as Main, then the binary's end offset and a version ({FIELD} each) |",
+    "a count ({COUNT_SIZE}), then for each entry a driver ({DRIVER_SIZE}), an offset ({OFFSET_SIZE}), the permitted "
+    "commands ({MASK_SIZE}): bit n is command `{MASK_BITS} * offset + n` |",
+    "| a part of the text | {OUTPUT} |", "another number of {WORD}-byte words", "(standard error) | {NO_PROGRAM} | put",
+    "where a {WORD_BITS}-bit instruction begins", "at ADDRESS + {HALF}, `{NoRegion}` |",
+    "command {CLOCK_COMMAND} to the alarm, inside", "| read-write {READ_BUFFER} of b bytes |",
+    "| read-only {WRITE_BUFFER} of b bytes |", "| status {USAGE} | the first word", "| {FAULT}, {TOO_LONG} | the path",
+    "| {SCRIPT_STATUS} | the line itself", "| {OUTPUT} | that the output failed |", "| {IMAGE} | at which offsets",
+    "(0 to {threshold}; restarts by exit and by an operator count too)",
+    "K rises, up to {storage-fault}; at most {FAULT_LIMIT} lines",
     "each of {WORD_DIGITS} hex digits, the highest first; at most {WORD_LIMIT} in all",
     "that 1 to {INPUT_LIMIT} bytes, in hex, come in on the serial line at time T, in ticks (0 to {event})",
     "there are at most {EVENT_LIMIT} of them", "A number has 1 to {DIGITS} decimal digits.",
-    "A directory cannot be read ({FAULT}).", "is no command ({USAGE}).",
+    "A directory cannot be read ({FAULT}).", "is no command ({USAGE}).", "before the program is built ({NO_PROGRAM}).",
+    "{NO_PROGRAM} is that of the script `./tock`", "and the answer is {NO_PROGRAM}.",
+    "its first bad line, counted from {FIRST_LINE}, and", "and a release {TAP} ticks later",
+    "a delay of 1 ms is {TICKS_OF_MS:w} instruction.", "says `partition {WINDOW}`.",
+    "in windows of {WINDOW:w} ticks](#time-partitions)",
+    "`hello` has the times 0 to {WINDOW_LAST}, and", " its next window begins; {IDLE_SLOTS:w} windows in which "
+    "nobody has anything to do are {IDLE_SLOTS:w} steps between.", "all other registers are {START_REGISTER}.",
+    "registers have {REGISTER_DIGITS:w} digits of base 16.", "bytes that were printed, {BYTE_DIGITS:w} digits each",
+    "and protected size added, rounded up to {WORD}.", "Each {PARCEL_BITS}-bit parcel of an instruction",
+    "up to {MOST_WINDOWS} of them", "where one of {MOST_ROWS:w} rows has room", "({PROOF_MEMORY} GB for each)",
+    "On four processors this takes {LEAST_MINUTES} to {MOST_MINUTES} minutes",
+    "the start with {BENCH_MIB} MiB of flash", "Each run answers {MEMORY_STATUS} and writes `memory` alone",
     "shows it: {GREET_TURNS} turns, two steps of the UART (it takes {GREET_BYTES} bytes at time {GREET_OUT}, and "
     "completes the write at {GREET_DONE}) and one pass from {GREET_WAITS} to {GREET_DONE} make {GREET_STEPS} steps, "
     "and {GREET_TURNS} turns and {GREET_PASSED} ticks passed make the time {GREET_TIME}.",
@@ -57,7 +90,12 @@ MANUAL = [
     "{BLOCK_MORE} are enough", "memop has 0 to {LAST_MEMOP}, exit 0 and 1", "NAME is the first {NAME_LIMIT} bytes",
     "because {PENDING_LIMIT:w} waited already", "with a class above {LAST_CLASS} in a4", "{SLOT_COUNT:w} were placed",
     "no multiple of {FIXED_UNIT}, or lies below RAM", "a larger `ram` line, up to {RAM_LIMIT}",
-    "its header size is below {HEADER}, above", "The header, in {HEADER} bytes: version (2 bytes, {VERSION})",
+    "its header size is below {HEADER}, above",
+    "The header, in {HEADER} bytes: version ({VERSION_SIZE} bytes, {VERSION}), header size ({header_size}), "
+    "total size ({total_size}), flags ({flags}; bit 0 is 'enabled', no other counts), "
+    "checksum ({CHECKSUM_SIZE}), the exclusive or of all other {CHECKSUM_SIZE}-byte words of the header.",
+    "type ({TYPE_SIZE}), length ({LENGTH_SIZE}; without these {TLV_HEAD:w} bytes and the padding), content, padded to "
+    "{WORD}.",
     "fewer than {HEADER} bytes are left, the version is not {VERSION}, the total size is below {HEADER}, no multiple "
     "of {WORD}, or beyond the rest; and after {OBJECT_LIMIT} objects",
     "| 2 and {ENTRY} for each entry |", "0x{NO_PLACE:x} for none",
@@ -86,6 +124,9 @@ COMPATIBILITY = [
     "flash from 0x{FLASH_START:x}, up to {FLASH_MIB} MiB; RAM from 0x{RAM_START:x}, up to {RAM_KIB} KiB",
     "| Time | {FREQUENCY:,} ticks a second", "atomics are `{Illegal}`", "denied, `{Misaligned}`",
     "{NoDriver_error} is what it expects", "{NoRoom}`) |",
+    "the function's first {FUNCTION_BYTES} bytes", "this kernel's own | command {NO_ALARM} |",
+    "| header, version {VERSION} |",
+    "| told by memop {COUNT_MEMOP} to {END_MEMOP} |", "for the {DRIVERS:w} drivers; their bodies",
 ]
 CLAIMS = [
     "`pack FILE ..` with 1 to {MOST_FILES} files", "of 1 to {DIGITS} decimal digits, N at most {MOST_TURNS:,}, "
@@ -94,105 +135,22 @@ CLAIMS = [
     "more than {FLASH_LIMIT:,} bytes |", "a turn of any of up to {SLOT_COUNT:w} processes",
     "exactly where {PENDING_LIMIT:w} wait (`PENDING_LIMIT`", "while {PENDING_LIMIT:w} waited;",
     "At most {PENDING_LIMIT:w} upcalls wait.", "up to {FLASH_LIMIT:,} bytes and every RAM of up to {RAM_KIB} KiB",
-    "at most {SLOT_COUNT:w} are placed", "the queue of {PENDING_LIMIT:w} upcalls", "a class above {LAST_CLASS}"]
-README = ["runs up to {SLOT_COUNT:w} applications"]
+    "at most {SLOT_COUNT:w} are placed", "the queue of {PENDING_LIMIT:w} upcalls", "a class above {LAST_CLASS}",
+    "[a list of {ASSUMPTIONS:w} points](headline.md#assumptions)"]
+README = ["runs up to {SLOT_COUNT:w} applications",
+          "[{ASSUMPTIONS:w} assumptions](docs/headline.md#assumptions)", "the statements of {PORTED:w} ported crates",
+          "`./tock` itself answers {NO_PROGRAM} where it has no program.",
+          "it first proves and builds ({LEAST_MINUTES} to {MOST_MINUTES} minutes on four processors)"]
 
-# Numbers of drivers.md that no sentence needs: those of calls, which are compared by name, sizes of nothing, 32 bits.
-PLAIN = [r"command 1, 2 or 3", r"[Cc]ommand \d+", r"class 7", r"size 0\b", r"\b0 bytes", r"\b0, 0 ",
+# Numbers that no sentence needs: those of calls, which are compared by name, sizes of nothing, 32 bits; names, and
+# examples of lines.
+PLAIN = [r"UTF-8", r"Python 3", r"TRD 104", r"`(?:TOCK_\w+|FIXED)=1`", r"`(?:\d+s?|\+50) [^`]*` \([^)0-9]*",
+         r"`release 0`", r"50 ticks after the line before", r"with status 0\b", r"status is not 0\b",
+         r"command 1, 2 or 3", r"[Cc]ommand \d+", r"class 7", r"size 0\b", r"\b0 bytes", r"\b0, 0 ",
          r"(?:subscribe|upcall|read-only|read-write|readable|memop) \d+", r"2\^32", r"Delta 0",
          r"0 none, 1 a read, 2 a write"]
 SENTENCES = {"docs/drivers.md": DRIVERS, "docs/manual.md": MANUAL, "docs/compatibility.md": COMPATIBILITY,
-             "docs/claims.md": CLAIMS, "README.md": README}
-
-
-class Number(int):
-    """A number that is also written in words (`w`, `W` with a capital), and in base 16 as addresses are."""
-
-    def __format__(self, form):
-        if form in ("w", "W"):
-            word = IN_WORDS[int(self)]
-            return word if form == "w" else word.capitalize()
-        return "%X" % self if form == "x" else format(int(self), form)
-
-
-def of_commands(facts):
-    """Numbers of the command line, its statuses, and the words of what may be refused."""
-    status = facts.numbers("tool_words/Refusals", "status_of")
-    faults = facts.words("tool_words/Refusals", "image_fault_text")
-    digits = int(re.search(r"length word\) (\d+)", facts.text("decimal_number/Number", "is_number"))[1])
-    return dict(DIGITS=digits, LAST_STATUS=max(status.values()), SCRIPT_STATUS=status["Script"],
-                FAULT=status["Fault"], TOO_LONG=status["TooLong"], IMAGE=status["Image"], USAGE=status["Usage"],
-                **faults)
-
-
-def of_scripts(facts):
-    """Numbers of the table of lines."""
-    rows, found = dict(facts.clauses("script_text/Table", "row")), {}
-    for name in ("Ram", "Storage", "Uart"):
-        found[name.lower()] = int(rows[name].split()[-1])
-    found["threshold"] = int(re.search(r"from_to 0 (\d+)", rows["Threshold"])[1])
-    found["storage-fault"] = int(re.search(r"from_to 1 (\d+)", rows["StorageFault"])[1])
-    found["WORD_DIGITS"] = int(re.search(r"digits = Some (\d+)", rows["Random"])[1])
-    found["event"] = int(re.search(r"from_to 0 (\d+)", facts.text("script_text/Table", "timed"))[1])
-    found["VERBS"] = len(facts.words("tk_base/Verbs", "verb_text"))
-    return {**found, **facts.words("script_text/Rules", "name_of_rule")}
-
-
-def of_drivers(facts):
-    """Numbers of drivers and grants."""
-    numbers = facts.numbers("grant_values/Drivers", "number_of_driver")
-    counts = {name: [int(word) for word in given.split()[1:]]
-              for name, given in facts.clauses("grant_values/Drivers", "counts_by")}
-    commands = facts.rows("driver_model/Alarm", "commands")
-    found = {name.upper(): counts[name][4] // 4 - kept for name, kept in ZEROS.items()}
-    return dict(found, DRIVERS=len(numbers), FREQUENCY=int(re.search(r"SuccessU32 (\d+)", commands[1])[1]),
-                COST_UNIT=int(re.search(r"\* (\d+)$", facts.text("grant_values/Drivers", "cost_of"))[1]),
-                ALL_GRANTS=sum(cost(facts, each) for each in counts.values() if any(each)),
-                CLOCK_BITS=int(re.search(r"2 \^ (\d+)", facts.text("board_devices/Clock", "clock_at"))[1]), SIZE_0=0)
-
-
-def of_calls(facts):
-    """Numbers and words of system calls."""
-    codes = facts.numbers("tk_base/Call", "code_of")
-    errors = {rule + "_error": given.split(".")[-1] for rule, given in facts.clauses("tk_base/Call", "error_of")}
-    classes, memops = facts.rows("syscall_abi/Call", "class_table"), facts.rows("kernel_model/Calls", "memops")
-    words = {**facts.words("board_report/Words", "rule_text"), **facts.words("board_report/Words", "fault_text"),
-             **facts.words("board_report/Words", "call_rule_text")}
-    yields, exits = (facts.text("kernel_model/Calls", name) for name in ("yielding", "exit"))
-    forms = {name: int(re.search(r"== (\d+) then " + then, text)[1]) for name, then, text in (
-        ("YIELD_NOW", "yield_now", yields), ("YIELD_WAIT", "comes_to", yields), ("YIELD_FOR", "yield_for", yields),
-        ("EXIT_END", r"ended \(record", exits), ("EXIT_AGAIN", r"ended \(restart", exits))}
-    upcalls = facts.numbers("driver_model/Storage", "upcall_for")
-    forms["MEMOP"] = next(number for number, text in classes.items() if text.startswith("Memop"))
-    return dict(codes, **errors, **words, **forms, range=words["Range"], CLASSES=len(classes), LAST_CLASS=max(classes),
-                LAST_MEMOP=max(memops), READ_UPCALL=upcalls["Read"], WRITE_UPCALL=upcalls["Write"])
-
-
-def of_memory(facts, constants):
-    """Numbers of images, blocks and shares."""
-    block = re.search(r"\+ (\d+) .*\* (\d+)$", facts.text("app_placement/Placement", "block_length"))
-    share = re.search(r"slot \* (\(.*\))$", facts.text("app_placement/Placement", "share_start"))[1]
-    ram = of_scripts(facts)["ram"]
-    limits = {name: constants[name] for name in ("SLOT_COUNT", "RAM_UNIT")}
-    ends = facts.text("flash_walk/Image", "ends_at")
-    return dict(BLOCK_MORE=int(block[1]), BLOCK_UNIT=int(block[2]), SHARE=computed(share, ram=ram, **limits),
-                LEAST_SHARED=limits["SLOT_COUNT"] * limits["RAM_UNIT"], LAST_SLOT=limits["SLOT_COUNT"] - 1,
-                WORD=int(re.search(r"\* (\d+)$", facts.text("tk_base/Numbers", "rounded_up"))[1]),
-                HEADER=int(re.search(r"length flash - at\) (\d+)", ends)[1]),
-                VERSION=int(re.search(r"half flash at == (\d+)", ends)[1]),
-                FIXED_UNIT=int(re.search(r"fixed % (\d+)", facts.text("app_placement/Placement", "is_start_taken"))[1]),
-                ENTRY=int(re.search(r"2 \+ (\d+) \*", facts.text("tbf_headers/Tlv", "is_bad"))[1]),
-                NO_PLACE=int(re.search(r"fixed\.1 == (\d+)", facts.text("flash_walk/Image", "app_verdict"))[1]),
-                FLASH_MIB=constants["FLASH_LIMIT"] // 2 ** 20, RAM_KIB=constants["RAM_LIMIT"] // 2 ** 10)
-
-
-def values(facts, pages):
-    """All numbers and words, by the names that sentences have for them; those of runs as pages show them."""
-    constants = facts.constants()
-    found = {**constants, **of_calls(facts), **of_scripts(facts), **of_commands(facts), **of_drivers(facts),
-             **of_memory(facts, constants)}
-    found.update(of_runs(pages, found["uart"]))
-    return {name: Number(value) if isinstance(value, int) else value for name, value in found.items()}
+             "docs/claims.md": CLAIMS, "README.md": README, **REPEATED}
 
 
 def filled(sentence, known):

@@ -1,5 +1,6 @@
 -- A slot below which each kept time lies behind the nearest.
-use Rattle.std.proofs.Common.{◌≡◌, ◌≢◌, ℕ, zero, suc, ◌+◌, ◌-◌, ◌<◌, ◌≤◌, ◌==◌, Bool, true, false, List, find, fold, length}
+use Rattle.std.proofs.Common.{◌≡◌, ◌≢◌, ℕ, zero, suc, ◌+◌, ◌-◌, ◌<◌, ◌≤◌, ◌==◌, Bool, true, false, List, find, fold}
+use Rattle.std.proofs.Common.{length}
 use Rattle.std.proofs.Common.{slice_index_or, slice_set, nat_lt, Option, None, Some, refl, sym, ap, subst, ◌∙◌}
 use Rattle.std.proofs.Common.{arith, eqb-true, eq-eqb}
 use Rattle.std.specs.Prelude.{IfSome, min, nat_eq}
@@ -114,7 +115,8 @@ one_more_before times nearest slot so_far other h = by_slot (other == slot) refl
         → IfSome (slice_index_or times other None) (NotBefore (nearer nearest (slice_index_or times slot None)))
     by_slot true e =
         let same : slot ≡ other = sym (eqb-true other slot e) in
-        subst (λ (n : ℕ). IfSome (slice_index_or times n None) (NotBefore (nearer nearest (slice_index_or times slot None))))
+        subst (λ (n : ℕ). IfSome (slice_index_or times n None) (NotBefore (nearer nearest (slice_index_or times slot
+        None))))
         same (if_kept nearest (slice_index_or times slot None))
     by_slot false e =
         let apart : other ≢ slot = λ same. false≢true (sym e ∙ eq-eqb other slot same) in
@@ -191,7 +193,8 @@ still_behind times slot first (Some n) due within another behind =
         → IfSome (slice_index_or times other None) (λ k. at < k)
         → IfSome (slice_index_or (slice_set times slot o) other None) (λ k. at < k)
     by_slot o at other here true e there =
-        subst (λ (i : ℕ). IfSome (slice_index_or (slice_set times slot o) i None) (λ k. at < k)) (sym (eqb-true other slot e))
+        subst (λ (i : ℕ). IfSome (slice_index_or (slice_set times slot o) i None) (λ k. at < k)) (sym (eqb-true other
+        slot e))
         (subst (λ (x : Option ℕ). IfSome x (λ k. at < k)) (sym (get_or-set_same times slot o None within)) here)
     by_slot o at other here false e there =
         subst (λ (x : Option ℕ). IfSome x (λ k. at < k))
@@ -239,7 +242,8 @@ all_passed p (suc from) none =
     no_more slot n e = rw (e) refl
 
     step : (b : Bool) → nat_lt from SLOT_COUNT ≡ b
-        → find p (range_with_len (from + 1) (SLOT_COUNT - (from + 1))) ≡ find p (range_with_len from (SLOT_COUNT - from))
+        → find p (range_with_len (from + 1) (SLOT_COUNT - (from + 1))) ≡ find p (range_with_len from (SLOT_COUNT -
+        from))
     step true e = passed p from SLOT_COUNT (is_below from SLOT_COUNT e) (none from (omega arith))
     step false e =
         let past : SLOT_COUNT ≤ from = is_not_below from SLOT_COUNT e in

@@ -1,7 +1,8 @@
 -- Kept times, as they are looked for, as time passes, and as processes change.
 use Rattle.std.proofs.Common.{◌≡◌, ◌≢◌, ℕ, zero, suc, ◌+◌, ◌-◌, ◌%◌, ◌^◌, ◌<◌, ◌≤◌, ◌==◌, Bool, true, false, cond, List}
 use Rattle.std.proofs.Common.{[], ◌∷◌}
-use Rattle.std.proofs.Common.{length, replicate, slice_get, slice_set, slice_index_or, option_and_then, option_map, Option, None}
+use Rattle.std.proofs.Common.{length, replicate, slice_get, slice_set, slice_index_or, option_and_then, option_map}
+use Rattle.std.proofs.Common.{Option, None}
 use Rattle.std.proofs.Common.{Some, refl, sym, ap, ap₂, subst, ◌∙◌, arith, eqb-true, eq-eqb}
 use Rattle.std.proofs.lemmas.Bool.{false≢true}
 use Rattle.std.proofs.lemmas.List.{get_or-set_same, get_or-set_other}
@@ -25,14 +26,16 @@ pub nobody_tells : (now slot : ℕ) (o : Option Own) → living slot o ≡ None 
 nobody_tells now slot None e = refl
 nobody_tells now slot (Some own) e = by_lives own.lives e
   where
-    by_lives : (b : Bool) → ◌≡◌ {A = Option ProcessId} (cond b (Some (record { slot = slot; life = own.life })) None) None
+    by_lives : (b : Bool) → ◌≡◌ {A = Option ProcessId} (cond b (Some (record { slot = slot; life = own.life }))
+        None) None
         → cond b (option_map (ticks_left now) (alarm_in own)) None ≡ None
     by_lives true e = cc
     by_lives false e = refl
 
 -- and of one that has none armed
 pub unarmed_tells : (now : ℕ) (own : Own) → alarm_in own ≡ None → ticks_left_of now own ≡ None
-unarmed_tells now own e = ap (λ (a : Option Armed). cond own.lives (option_map (ticks_left now) a) None) e ∙ both own.lives
+unarmed_tells now own e = ap (λ (a : Option Armed). cond own.lives (option_map (ticks_left now) a)
+    None) e ∙ both own.lives
   where
     both : (b : Bool) → ◌≡◌ {A = Option ℕ} (cond b None None) None
     both true = refl
@@ -73,7 +76,8 @@ left_ahead now time at o due =
 
 -- fewer than 2^32 ticks are left
 pub soon : (now time at : ℕ) (o : Option Own) → BecomesDue now time at o → at - time < 2 ^ 32
-soon now time at o due = few due.alarm.delta ((now + (2 ^ 32 - due.alarm.reference)) % 2 ^ 32) (at - time) due.left due.delta
+soon now time at o due = few due.alarm.delta ((now + (2 ^ 32 - due.alarm.reference)) % 2 ^ 32) (at -
+    time) due.left due.delta
   where
     few : (d e left : ℕ) → d - e ≡ left → d < 2 ^ 32 → left < 2 ^ 32
     few d e left is small = omega (arith, is, small)
@@ -145,7 +149,8 @@ same_tells now time (Some at) own o grants lives tells = λ ahead.
     the_one x y e = cc
 
 -- a slot that is set has what it is set to, and every other has what it had
-set_same : {X : Type 0} (xs : List X) (i : ℕ) (x y : X) → slice_get xs i ≡ Some x → slice_get (slice_set xs i y) i ≡ Some y
+set_same : {X : Type 0} (xs : List X) (i : ℕ) (x y : X) → slice_get xs i ≡ Some x → slice_get (slice_set xs i
+    y) i ≡ Some y
 set_same [] i x y e = cc
 set_same (z ∷ zs) zero x y e = refl
 set_same (z ∷ zs) (suc i) x y e = set_same zs i x y e

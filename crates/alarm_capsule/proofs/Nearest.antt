@@ -58,7 +58,8 @@ not_after_kept : (times : List (Option ℕ)) (slots : List ℕ) (least : Option 
 not_after_kept times slots None x at e = not_after times slots x at e
 not_after_kept times slots (Some least) x at e = omega (arith, not_after times slots (min least x) at e)
 
-nearer_until : (time : ℕ) (least kept : Option ℕ) → nearer (until time least) (until time kept) ≡ until time (nearer least kept)
+nearer_until : (time : ℕ) (least kept : Option ℕ) → nearer (until time least) (until time kept) ≡ until time (nearer
+    least kept)
 nearer_until time None kept = refl
 nearer_until time (Some x) None = refl
 nearer_until time (Some x) (Some y) = ap Some (earlier x y time)
@@ -215,8 +216,10 @@ module _ (times : List (Option ℕ)) (slot : ℕ) (due : Option ℕ) (within : s
       (omega (arith, low, apart)) (omega (arith, high)))
     where
       by_slot : (b : Bool) → (from == slot) ≡ b
-          → (from ≢ slot → fold (nearer_kept after) (nearer so_far (slice_index_or times from None)) (range_with_len (from + 1) n)
-          ≡ nearer (fold (nearer_kept times) (nearer so_far (slice_index_or times from None)) (range_with_len (from + 1) n)) due)
+          → (from ≢ slot → fold (nearer_kept after) (nearer so_far (slice_index_or times from None)) (range_with_len
+          (from + 1) n)
+          ≡ nearer (fold (nearer_kept times) (nearer so_far (slice_index_or times from None)) (range_with_len (from +
+          1) n)) due)
           → fold (nearer_kept after) so_far (range_with_len from (suc n))
           ≡ nearer (fold (nearer_kept times) so_far (range_with_len from (suc n))) due
       by_slot true e further =

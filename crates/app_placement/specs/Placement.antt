@@ -1,5 +1,5 @@
--- Where applications are placed in RAM (Levy et al., SOSP 2017: the memory of a process is one block, with its
--- grants at the end).
+-- Where applications are placed in RAM: the memory of a process is one block, with its grants at the end (Levy et al.,
+-- SOSP 2017, section 4). The order of blocks and the roundings are this board's own.
 use Rattle.std.specs.Prelude.{◌≡◌, ◌≤◌, ◌<◌, ℕ, ◌+◌, ◌*◌, ◌/◌, ◌%◌, ◌==◌, Bool, true, false, not, ◌||◌, nat_lt}
 use Rattle.std.specs.Prelude.{nat_le, if◌then◌else◌, List, [], ◌∷◌, length, take, count_by, slice_index_or, Option}
 use Rattle.std.specs.Prelude.{Some, None, option_map, unwrap_or, Result, Ok, Err, is_ok, IfOk}

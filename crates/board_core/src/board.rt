@@ -277,16 +277,17 @@ impl Board {
     /// abstract kernel's step. `NotReady` comes exactly where the choice may not be made: its slot
     /// holds no process that can have a turn, its device has nothing to do (the alarm, where none
     /// is due), a pass takes no ticks, or 4,000,000,000 steps were made; nothing has changed then.
-    /// Each byte of a process that the step changes, of its block and of its storage, has its cause
-    /// among the labels; each access of a turn was permitted, and each denial was due, and is shown
-    /// with its address and its rule; a call that was refused changes the process's reply and
-    /// counts alone; what is printed was in the read-only buffer that its process then held, or is
-    /// the line of a process that an operator lists; an edge of a button schedules one upcall for
-    /// each process that is told of it, and nothing else schedules any of the buttons; an
-    /// operator's act changes the record of the process that it names, that process's requests in
-    /// the waiting lists, what is still to come in and the count of steps, and nothing else of the
-    /// board. The record of each process is the replay of its own turn, of what the device tells it
-    /// or of an operator's act on it, and as it was where the step is none of these.
+    /// Each byte of a process that the step changes, of its block below its kernel break and of its
+    /// storage, has its cause among the labels; each access of a turn was permitted, and each
+    /// denial was due, and is shown with its address and its rule; a call that was refused changes
+    /// of the process its reply registers, pc, count of turns and recorded refusal alone; what is
+    /// printed was in the read-only buffer that its process then held, or is the line of a process
+    /// that an operator lists; an edge of a button schedules one upcall for each process that is
+    /// told of it, and nothing else schedules any of the buttons; an operator's act changes the
+    /// record of the process that it names, that process's requests in the waiting lists, what is
+    /// still to come in and the count of steps, and nothing else of the board. The record of each
+    /// process is the replay of its own turn, of what the device tells it or of an operator's act
+    /// on it, and as it was where the step is none of these.
     #[inline(always)]
     pub fn step(&mut self, choice: Choice, emit: &mut Emit) -> Result<(), NotReady>
         ensures ready { IsOk result ↔ IsTrue (is_ready self.old choice) }

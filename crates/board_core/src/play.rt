@@ -29,9 +29,9 @@ impl Board {
     /// written is a front of what the choices made print, and they are as few as print more than
     /// that. No memory is taken.
     ///
-    /// With time partitions, and where the choices are the board's own, what a slot's process does,
-    /// and when, is the same in a run of any other world that is alike in that slot, up to each
-    /// time that both have reached ([`a_partition_sees_itself_alone`]).
+    /// With time partitions and no operator who is to act, and where the choices are the board's own,
+    /// what a slot's process does, and when, is the same in a run of any other world that is alike in
+    /// that slot, up to each time that both have reached ([`a_partition_sees_itself_alone`]).
     pub fn play<K: Sink>(&mut self, choices: &[Choice], out: &mut K) -> Result<(), PlayEnd>
         ensures { Plays K.tells self.old self.new choices.now out.old out.new result }
     {

@@ -116,11 +116,10 @@ impl Board {
 
     /// Makes as many of the round robin's next steps as are turns that only execute an instruction,
     /// one after another, at most `most`, and answers how many, which step is next then, and, where
-    /// that is a turn whose instruction does not go, how it ends, if that is known. None
-    /// of these steps makes a system call, is denied or prints, and each byte of a process that one
-    /// of them changes has its cause among its labels: a store that the process may make. Where
-    /// fewer than `most` were made, the next step is not such a turn. It may be made while fewer
-    /// than 4,000,000,000 steps were made.
+    /// that is a turn whose instruction does not go, how it ends, if that is known. None of these
+    /// steps makes a system call, is denied or prints, and each byte of a process that one of them
+    /// changes has its cause among its labels: a store that the process may make. Where fewer than
+    /// `most` were made, the next step is not such a turn, or 4,000,000,000 steps were made.
     pub fn run_quietly(&mut self, most: u32) -> QuietTurns
         ensures most { result.made ≤ most }
         ensures stretch { IsStretch result.made self.old self.new }

@@ -1,5 +1,6 @@
 -- Copies of one value.
-use Rattle.std.proofs.Common.{◌≡◌, ℕ, zero, suc, ◌+◌, List, [], ◌∷◌, ◌++◌, drop, map, replicate, slice_index_or, slice_set, take}
+use Rattle.std.proofs.Common.{◌≡◌, ℕ, zero, suc, ◌+◌, List, [], ◌∷◌, ◌++◌, drop, map, replicate, slice_index_or}
+use Rattle.std.proofs.Common.{slice_set, take}
 use Rattle.std.proofs.Common.{◌<◌, length, ap, refl, ◌∙◌, arith}
 
 -- one copy more

@@ -5,7 +5,8 @@ ghost use Rattle.script_text.specs.Settings.{IsKind};
 ghost use Rattle.tk_base.specs.declared.limits.TheConstants.{BUTTON_LIMIT};
 ghost use Rattle.board_devices.specs.Arriving.{first_arrival_time, is_time, change_by, with_edge};
 ghost use Rattle.board_devices.specs.Parts.{if_differs};
-ghost use Rattle.board_devices.specs.Arriving.{lines_after, pressed_after, with_first_arrived, pressed_after_first, change_by_first};
+ghost use Rattle.board_devices.specs.Arriving.{lines_after, pressed_after, with_first_arrived, pressed_after_first};
+ghost use Rattle.board_devices.specs.Arriving.{change_by_first};
 ghost use Rattle.board_devices.specs.Arriving.{first_act, act_of, act_told};
 ghost use Rattle.board_devices.specs.Buttons.{told_by};
 

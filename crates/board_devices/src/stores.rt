@@ -110,7 +110,8 @@ fn none_served(alloc: Global, lanes: usize) -> Result<Vec<u64>, AllocError>
 
 impl Stores {
     ghost use Rattle.tk_outside.specs.Count.{counted};
-    ghost use Rattle.board_devices.specs.Storage.{AreSized, fresh_storage, bytes_from, slot_bytes, with_slot_bytes, is_fault};
+    ghost use Rattle.board_devices.specs.Storage.{AreSized, fresh_storage, bytes_from, slot_bytes, with_slot_bytes};
+    ghost use Rattle.board_devices.specs.Storage.{is_fault};
     ghost use Rattle.board_devices.specs.Storage.{lane_of, served_at, with_served};
 
     /// The storage of all slots with so many bytes each, which are 0xFF, before the first request in

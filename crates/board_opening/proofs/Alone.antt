@@ -147,7 +147,11 @@ module _ (flash : List ℕ) where
 pub openings_are_alone : OpeningsAreAlone
 unfolding opening
 openings_are_alone script flash slot =
-    all_alone flash (is_partitioned script) script.storage script.ram (applications flash) (record { last_end = RAM_START; count = 0 })
+    all_alone flash (is_partitioned script) script.storage script.ram (applications flash) (record {
+      last_end =
+          RAM_START;
+      count = 0;
+    })
     (asked_from flash OBJECT_LIMIT 0) slot
 
 pub same_view_same_record : SameHistorySameRecord → SameViewSameRecord

@@ -220,7 +220,8 @@ module _ (partition : Bool) (storage ram : ℕ) (flash : List ℕ) where
       by_header (Ok h) read e = by_main h h.main read refl e
 
   all_opened : (apps : List Application) (filled : Filled) → HasRoom partition ram filled → Each (IsAsked flash) apps
-      → AreOpened storage flash filled.last_end (filter_map (record_placed storage flash) (places_from partition ram filled apps))
+      → AreOpened storage flash filled.last_end (filter_map (record_placed storage flash) (places_from partition ram
+      filled apps))
   unfolding AreOpened Each places_from
   all_opened [] filled has asked = tt
   all_opened (app ∷ apps) filled has asked =
@@ -228,7 +229,8 @@ module _ (partition : Bool) (storage ram : ℕ) (flash : List ℕ) where
     where
       by_place : (r : Result Place PlaceFault) → place_of partition ram filled app ≡ r
           → ((f : Filled) → HasRoom partition ram f
-          → AreOpened storage flash f.last_end (filter_map (record_placed storage flash) (places_from partition ram f apps)))
+          → AreOpened storage flash f.last_end (filter_map (record_placed storage flash) (places_from partition ram f
+          apps)))
           → AreOpened storage flash filled.last_end
           (cons_option (record_with_place storage flash app.offset r)
           (filter_map (record_placed storage flash) (places_from partition ram (filled_after filled r) apps)))

@@ -579,4 +579,5 @@ module _ (script : Script) (flash : List ℕ) where
       ap₂ (λ (rs : List Record) (us : List Unplaced). world_with rs us visible (devices_of d)) records u
       ∙ ap₂ (λ (s : Settings) (ds : Devices). world_with
       (filter_map (record_placed script.storage flash) (placed_applications (is_partitioned script) script.ram flash))
-      (filter_map unplaced_at (placed_applications (is_partitioned script) script.ram flash)) s ds) v (devices_fresh script d fresh)
+      (filter_map unplaced_at (placed_applications (is_partitioned script) script.ram
+      flash)) s ds) v (devices_fresh script d fresh)

@@ -19,7 +19,8 @@ use Rattle.kernel_model.specs.Record.{Record}
 use Rattle.kernel_model.specs.World.{lane_count}
 use Rattle.board_drivers.specs.declared.drivers.Drivers.{Drivers}
 use Rattle.board_opening.specs.Boot.{fresh_record}
-use Rattle.board_drivers.specs.Driven.{AreDriven, AreFresh, HasLanes, IsQueueOf, devices_of, ids_waiting_in, slots_of, waiting_by}
+use Rattle.board_drivers.specs.Driven.{AreDriven, AreFresh, HasLanes, IsQueueOf, devices_of, ids_waiting_in, slots_of}
+use Rattle.board_drivers.specs.Driven.{waiting_by}
 use Rattle.board_drivers.proofs.Routing.{devices_same, slots_by}
 use Rattle.board_drivers.specs.Residents.{Resident, record_of}
 use Rattle.board_opening.specs.Settings.{visible_settings}

@@ -89,7 +89,8 @@ module _ (partition : Bool) (storage ram : ℕ) (flash : List ℕ) where
       by_count false rest e f = grind (arith, nat_tests)
 
   few_placed : (apps : List Application) (filled : Filled) → filled.count ≤ SLOT_COUNT
-      → length (filter_map (record_placed storage flash) (places_from partition ram filled apps)) + filled.count ≤ SLOT_COUNT
+      → length (filter_map (record_placed storage flash) (places_from partition ram filled
+      apps)) + filled.count ≤ SLOT_COUNT
   unfolding places_from
   few_placed [] filled few = omega (arith, few)
   few_placed (app ∷ apps) filled few = by_place (place_of partition ram filled app) refl (few_placed apps)
@@ -106,7 +107,8 @@ module _ (partition : Bool) (storage ram : ℕ) (flash : List ℕ) where
           let left = slot_left filled app place is in
           let rest = later (filled_after filled (Ok place)) (omega (arith, left)) in
           let more = one_more (record_with_place storage flash app.offset (Ok place))
-          (filter_map (record_placed storage flash) (places_from partition ram (filled_after filled (Ok place)) apps)) in
+          (filter_map (record_placed storage flash) (places_from partition ram (filled_after filled (Ok place))
+          apps)) in
           omega (arith, rest, more)
 
 pub opens_no_more_than_slots : (script : Script) (flash : List ℕ) → length (opening script flash).records ≤ SLOT_COUNT

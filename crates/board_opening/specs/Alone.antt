@@ -1,5 +1,6 @@
 -- A process alone: its first record by what it can see, and what becomes of it by what happens to it. No other process,
--- no slot and no flash but its object occurs here. Processes are isolated as in Levy et al., SOSP 2017.
+-- no slot and no flash but its object occurs here. Processes are isolated as in Levy et al., SOSP 2017, as a whole; the
+-- form is this board's own.
 use Rattle.std.specs.Prelude.{◌≡◌, ℕ, ◌+◌, List, slice_get, Option, Some, option_map, IfSome}
 use Rattle.tk_base.specs.declared.process.Choice.{Choice}
 use Rattle.tbf_headers.specs.declared.program.Main.{Main}

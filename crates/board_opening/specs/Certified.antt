@@ -1,5 +1,5 @@
--- Laws of each run from a boot, by any choices. They speak of processes as Levy et al., SOSP 2017, and of buffers as
--- TRD 104.
+-- Laws of each run from a boot, by any choices. They speak of a process and its grants (Levy et al., SOSP 2017, section
+-- 4), of its calls, upcalls and buffers (TRD 104, "Yield", "Subscribe", "Read-Only Allow").
 use Rattle.std.specs.Prelude.{◌≡◌, ◌≢◌, ◌↔◌, ◌≤◌, ◌<◌, ℕ, ◌+◌, true, false, replicate, List, [], ◌∷◌, ◌++◌, length}
 use Rattle.std.specs.Prelude.{slice_get, All, Some, None, IfSome}
 use Rattle.std.specs.List.{list_any}
@@ -103,8 +103,8 @@ InputFromBootIsKept = (script : Script) (flash : List ℕ) (choices : List Choic
     (inputs_told (of_lane script.partition lane (labels_of_all w choices)))
     (ring_in lane (after_all w choices).devices) (Throughout (HasRoom lane) w choices)
 
--- a write that begins to wait in a step after any choices from a boot, and waits after each of the next ones, prints the
--- first bytes of its buffer, and completes truly
+-- a write that begins to wait in a step after any choices from a boot, and waits after each of the next ones, prints
+-- the first bytes of its buffer, and completes truly
 abbrev pub WritesFromBootCompleteTruly : Type 0
 WritesFromBootCompleteTruly =
     (script : Script) (flash : List ℕ) (before : List Choice) (begin : Choice) (choices : List Choice) (slot : ℕ)

@@ -89,8 +89,9 @@ pub fn lists_from_boot_are_of_requests()
     lists_are_of_requests();
 }
 
-/// Whatever choices are made after a boot, the random words that processes were told, in that
-/// order, and then those that are left are the script's.
+/// Whatever choices are made after a boot, in each lane the random words that processes were told,
+/// in that order, and then those that are left are the script's: with time partitions each slot
+/// gets all of them.
 pub fn words_from_boot_are_the_scripts()
     ensures { WordsFromBootAreTheScripts }
 {
@@ -110,8 +111,8 @@ pub fn input_from_boot_is_kept()
 /// Whatever choices are made after a boot, a write to the console that begins to wait prints the
 /// first bytes of the buffer that its process has allowed, in order, as long as that stays as it
 /// is; and where it completes, its upcall's first argument is how many bytes were printed of it,
-/// which are as many as it asked for, or as the buffer has that is held then (TRD 104, "Read-Only
-/// Allow").
+/// which are no more than it asked for, and at least the lesser of that and of what the buffer has
+/// that is held then (TRD 104, "Read-Only Allow").
 pub fn writes_from_boot_complete_truly()
     ensures { WritesFromBootCompleteTruly }
 {
@@ -121,11 +122,11 @@ pub fn writes_from_boot_complete_truly()
 }
 
 /// Whatever choices are made after a boot: a process's own bytes end at its kernel break, where its
-/// grants begin, and each buffer that it has allowed lies in accessible flash, or in its RAM below
-/// the mark; so each byte of a buffer lies in accessible RAM below the kernel break, and so off its
-/// grants, or, of a read-only one, in accessible flash. No step changes a byte of a process without
-/// a cause among the step's labels (Levy et al., SOSP 2017; TRD 104, "Read-Only Allow", "Read-Write
-/// Allow").
+/// grants begin, and each buffer with bytes that it has allowed lies in its RAM below the mark, or,
+/// a read-only one, there or in accessible flash; so each byte of a buffer lies in accessible RAM
+/// below the kernel break, and so off its grants, or, of a read-only one, in accessible flash. No
+/// step changes a byte of a process without a cause among the step's labels (Levy et al., SOSP
+/// 2017; TRD 104, "Read-Only Allow", "Read-Write Allow").
 pub fn changes_from_boot_have_causes()
     ensures whole { EachFromBoot HasWholeOwn }
     ensures buffers { EachFromBoot BuffersAreItsOwn }
@@ -138,13 +139,13 @@ pub fn changes_from_boot_have_causes()
 /// In each run by round robin from a boot, each byte of a process that changes has its cause. One
 /// below its kernel break is changed by an own permitted act, also by the command that has it shown
 /// the clock, lies in a buffer that the process then allowed to the driver which answers it, or is
-/// zeroed where an operator starts the process again; one of its grants, above, is changed in its
-/// own turn or by an answer to it (of a device, by an edge of a button, or by an operator's act);
-/// one of its storage by a served write of its own. Each access was permitted, each denial was due
-/// and is shown with its address and rule, and a refused call changed little. Each edge of a button
-/// scheduled one upcall for each process that was told of it, and nothing else scheduled any of the
-/// buttons. The record of each process is what becomes of it alone, by its own turns and answers
-/// (Levy et al., SOSP 2017).
+/// zeroed where the process starts again, by an operator, by its exit or by the policy after a
+/// denial; one of its grants, above, is changed in its own turn or by an answer to it (of a device,
+/// by an edge of a button, or by an operator's act); one of its storage by a served write of its
+/// own. Each access was permitted, each denial was due and is shown with its address and rule, and
+/// a refused call changed little. Each edge of a button scheduled one upcall for each process that
+/// was told of it, and nothing else scheduled any of the buttons. The record of each process is
+/// what becomes of it alone, by its own turns and answers (Levy et al., SOSP 2017).
 pub fn runs_from_boot_are_accounted_for()
     ensures { RunsFromBootAreAccountedFor }
 {

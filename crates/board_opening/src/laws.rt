@@ -23,11 +23,11 @@ pub fn swaps_from_boot_give_back_the_last()
     swaps_give_back_the_last();
 }
 
-/// Whatever choices are made after a boot, each delivery to a process is of the upcall that it has
-/// subscribed at that moment, and was scheduled since it subscribed it, in the process's present
-/// life. One that asks for the upcall of a driver and a number alone gets the arguments of the first
-/// that waits then; where none waits, of the first that is scheduled from then on, if no operator
-/// ends its life before (TRD 104, "Subscribe", "Yield", "Exit").
+/// Whatever choices are made after a boot, each delivery of a pending upcall is of the one that it
+/// has subscribed at that moment, and was scheduled since it subscribed it, in the process's
+/// present life. One that asks for the upcall of a driver and a number alone gets the arguments of
+/// the first that waits then; where none waits, of the first that is scheduled from then on, if no
+/// operator ends its life before (TRD 104, "Subscribe", "Yield", "Exit").
 pub fn deliveries_from_boot_are_of_the_last()
     ensures last { DeliveriesFromBootAreOfTheLast }
     ensures waits { WaitsFromBootGetTheFirst }
@@ -47,9 +47,9 @@ pub fn edges_from_boot_come_once()
     each_edge_comes_once();
 }
 
-/// No process that is ready waits for good after a boot without time partitions: in the run by
-/// round robin, every window of as many turns of processes as all slots have in a slice each, in
-/// which a process is ready throughout, has a turn of that process.
+/// No process that is ready waits for good after a boot without time partitions, where a slice has
+/// some turns: in the run by round robin, every window of as many turns of processes as all slots
+/// have in a slice each, in which a process is ready throughout, has a turn of that process.
 pub fn runs_from_boot_are_fair()
     ensures { RunsFromBootAreFair }
 {
@@ -57,11 +57,11 @@ pub fn runs_from_boot_are_fair()
 }
 
 /// What becomes of a process depends on nothing but its object, where that and its block lie, the
-/// settings that it can see, and its own turns and answers. On any two boards, whatever their other
-/// objects and scripts are, and after any two lists of choices, two processes that agree in these
-/// have equal records: registers, state and counts, the whole block with its grants, layout,
-/// pending upcalls, life and storage, byte by byte. The slots may differ. So it is in each world of
-/// a run by round robin (Levy et al., SOSP 2017).
+/// settings that it can see, its own turns with their times, and its answers. On any two boards,
+/// whatever their other objects and scripts are, and after any two lists of choices, two processes
+/// that agree in these have equal records: registers, state and counts, the whole block with its
+/// grants, layout, pending upcalls, life and storage, byte by byte. The slots may differ. So it is
+/// in each world of a run by round robin (Levy et al., SOSP 2017).
 pub fn a_process_depends_on_its_own_view_alone()
     ensures opens { OpeningsAreAlone }
     ensures same { SameViewSameRecord }

@@ -1,6 +1,6 @@
 -- A worked case, computed from the definitions alone: two images, under one script with time partitions, with the same
--- object in slot 0 and other ones in slot 1, so that the laws of what a slot sees do not hold for want of two. The bytes
--- were put together by hand from the Tock Binary Format, "TBF Header Base" and "Main".
+-- object in slot 0 and other ones in slot 1, so that the laws of what a slot sees do not hold for want of two. The
+-- bytes were put together by hand from the Tock Binary Format, "TBF Header Base" and "Main".
 use Rattle.std.proofs.Common.{◌≡◌, ℕ, List, [], ◌∷◌, ◌++◌, true, false, slice_get, unwrap_or, refl, sym, ◌∙◌, arith}
 use Rattle.std.proofs.Common.{Option, None, Some, is_some}
 use Rattle.tk_base.specs.declared.access.TheConstants.{FLASH_START}
@@ -89,6 +89,7 @@ two_images = record {
 }
 
 -- and the processes in slot 1 have other ones
-others : ((opened_in (opening divides flash) 1).object ≡ calls) × ((opened_in (opening divides image) 1).object ≡ breaks)
+others : ((opened_in (opening divides flash) 1).object ≡ calls) × ((opened_in (opening divides image) 1).object ≡
+    breaks)
 unfolding opening opening_record header_reading meaning_of tlv_places_from found_at objects_from place_of places_from
 others = (refl, refl)

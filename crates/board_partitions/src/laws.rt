@@ -12,12 +12,12 @@ pub fn scripts_with_partitions_have_no_acts()
     ensures { ScriptsWithPartitionsHaveNoActs }
 {}
 
-/// Under a script with time partitions what a process does, and when, is a matter of its own slot
-/// alone. On two boards of one script and any two flash images that have the same object in the
-/// same place of a slot: up to each time that both runs have reached, the slot's process has the
-/// same turns at the same times, the same answers at the same times, and the same is printed for
-/// it; and where the runs first reach that time it has the same record. Where its block starts is
-/// decided by its slot (Levy et al., SOSP 2017).
+/// Under a script with time partitions, in which no operator acts, what a process does, and when,
+/// is a matter of its own slot alone. On two boards of one script and any two flash images that
+/// have the same object in the same place of a slot: up to each time that both runs have reached,
+/// the slot's process has the same turns at the same times, the same answers at the same times, and
+/// the same is printed for it; and where the runs first reach that time it has the same record.
+/// Where its block starts is decided by its slot (Levy et al., SOSP 2017).
 pub fn partitions_from_boot_see_themselves_alone()
     ensures starts { BlocksStartWithTheirShares }
     ensures told { SameObjectSameTimes }

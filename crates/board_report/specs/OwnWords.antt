@@ -1,4 +1,4 @@
--- That no two rules share a word, so that a trace tells which one was broken.
+-- That no two rules share a word, so that a trace tells which one was broken. The words are this tool's own.
 use Rattle.std.specs.Prelude.{◌≡◌}
 use Rattle.tk_base.specs.declared.access.Rule.{Rule}
 use Rattle.tk_base.specs.declared.call.CallRule.{CallRule}

@@ -90,14 +90,16 @@ trace_text-carried_out law time w (Device device) = by_case _ (law.each w device
 
         by_shown : (act : Option (ℕ × Verb)) (turn acts none : Bool) → (length a.printed == 0) ≡ none
             → (acts ≡ false → act ≡ None)
-            → trace_text time (cond (turn || (acts || not none)) (shows act (a.printed ++ [])) nothing) ≡ lines act ++ []
+            → trace_text time (cond (turn || (acts || not none)) (shows act (a.printed ++ []))
+            nothing) ≡ lines act ++ []
         by_shown act true acts none e no_act = both act
         by_shown act false true none e no_act = both act
         by_shown act false false false e no_act = both act
         by_shown act false false true e no_act =
             sym (ap₂ (λ (o : Option (ℕ × Verb)) (b : Bool).
             (act_text time o ++ cond b []
-            (line_head time slot (codes " out ") ++ (flat_map (hex_digits 2) a.printed ++ newline))) ++ []) (no_act refl) e)
+            (line_head time slot (codes " out ") ++ (flat_map (hex_digits 2) a.printed ++
+            newline))) ++ []) (no_act refl) e)
 
         no_acts : (event : Event) → is_act event ≡ false → act_shown slot event ≡ None
         no_acts (Turn t) is = refl

@@ -56,6 +56,20 @@ impl ActivePmp {
         }
     }
 
+    /// The same for a process that is to execute instructions, which are decoded where they were not yet.
+    #[inline(always)]
+    pub fn bring_in(&mut self, home: &mut Home, slot: Slot)
+        requires slot { slot < length home.old.owns }
+        requires guards { GuardsOnly self.old home.old }
+        ensures home { home.new ≡ home.old }
+        ensures set { IsSetFor slot self.new home.new }
+    {
+        if self.slot != Some(slot) {
+            home.decode(slot);
+        }
+        self.switch_to(home, slot);
+    }
+
     /// Sets the registers again where they are set for the process in a slot, whose layout may have
     /// moved.
     pub fn follow(&mut self, home: &Home, slot: Slot)

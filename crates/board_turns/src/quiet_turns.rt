@@ -21,7 +21,7 @@ impl Machine {
         ensures leaves { LeavesOn result.went slot self.old self.new process.new }
         ensures drivers { self.new.drivers ≡ self.old.drivers }
     {
-        self.guard.switch_to(&self.home, slot);
+        self.guard.bring_in(&mut self.home, slot);
         let made = self
             .home
             .instruct_quietly(slot, &self.guard.pmp, &mut process.regs, most);

@@ -181,7 +181,7 @@ fn make_instruction(
     ensures rest { ChangesOnly slot home.old home.new }
     ensures guard { IsSetFor slot guard.new home.new }
 {
-    guard.switch_to(home, slot);
+    guard.bring_in(home, slot);
     process.count_turn();
     home.instruct(slot, &guard.pmp, &mut process.regs)
 }

@@ -1,7 +1,11 @@
 -- Texts in parts, as loops write them.
-use Rattle.std.proofs.Common.{◌≡◌, ℕ, zero, suc, ◌+◌, ◌-◌, ◌<◌, List, ◌++◌}
+use Rattle.std.proofs.Common.{◌≡◌, ℕ, zero, suc, ◌+◌, ◌-◌, ◌<◌, List, ◌++◌, map, length, take, drop, get_or}
 use Rattle.std.proofs.Common.{sym, ap, ◌∙◌, arith, append_assoc, append-nil}
+use Rattle.std.proofs.lemmas.List.Folds.{flat_map-map}
 use Rattle.std.specs.List.{flat_map, range_with_len}
+use Rattle.tk_base.specs.declared.process.ProcessId.{ProcessId}
+use Rattle.board_report.proofs.Parts.{texts_around}
+use Rattle.board_views.specs.Places.{word_text}
 
 -- the texts of a range in two parts
 range_texts-add : (f : ℕ → List ℕ) (from n m : ℕ) → flat_map f (range_with_len from (n + m))
@@ -52,3 +56,15 @@ range_around f i n h =
 
     zero_left : (n : ℕ) → 0 + n ≡ n
     zero_left n = omega arith
+
+-- the slots of processes as words, by their ids
+pub slots_text : (ids : List ProcessId) → flat_map (λ (id : ProcessId). word_text id.slot) ids
+    ≡ flat_map word_text (map (λ (id : ProcessId). id.slot) ids)
+slots_text ids = sym (flat_map-map word_text (λ (id : ProcessId). id.slot) ids)
+
+-- the texts of a list around an element
+pub element_around : {X : Type 0} (text : X → List ℕ) (xs : List X) (i : ℕ) (x : X) → i < length xs → x ≡ get_or xs i x
+    → flat_map text xs ≡ flat_map text (take i xs) ++ (text x ++ flat_map text (drop (i + 1) xs))
+element_around {X} text xs i x h e =
+    texts_around text xs i x h
+    ∙ ap (λ (y : X). flat_map text (take i xs) ++ (text y ++ flat_map text (drop (i + 1) xs))) (sym e)

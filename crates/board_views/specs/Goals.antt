@@ -17,23 +17,27 @@ use Rattle.kernel_model.specs.Shown.{shown_by}
 use Rattle.kernel_model.specs.World.{World, after, labels}
 use Rattle.board_views.specs.Memories.{bytes_at}
 use Rattle.board_views.specs.declared.goal.Goal.{Goal}
+use Rattle.board_views.specs.declared.goal.Watched.{Watched}
 use Rattle.board_views.specs.declared.going.Stop.{Stop}
 use Rattle.board_views.specs.declared.going.Stop.TheVariants.{Address, Range, Changed, Denied, Exit, Act}
 
--- The bytes of watched places, one place after another. Each has three numbers: the slot in whose block it is (its last
--- four bits), its address, and how many bytes it has.
-abbrev pub watched_bytes : World → List ℕ → List ℕ
-watched_bytes w (slot ∷ at ∷ count ∷ places) = bytes_at w (slot % SLOT_COUNT) at count ++ watched_bytes w places
-watched_bytes w other = []
+-- the bytes of a watched place; of its slot the last four bits count
+abbrev pub watched_at : World → Watched → List ℕ
+watched_at w place = bytes_at w (place.slot % SLOT_COUNT) place.at place.count
+
+-- those of watched places, one place after another
+abbrev pub watched_bytes : World → List Watched → List ℕ
+watched_bytes w [] = []
+watched_bytes w (place ∷ places) = watched_at w place ++ watched_bytes w places
 
 -- the address of the first of these places whose bytes are not those that were kept
-abbrev pub changed_at : World → List ℕ → List ℕ → Option ℕ
-changed_at w kept (slot ∷ at ∷ count ∷ places) =
-    let bytes = bytes_at w (slot % SLOT_COUNT) at count in
-    if nat_lt (length kept) (length bytes) then Some at
+abbrev pub changed_at : World → List ℕ → List Watched → Option ℕ
+changed_at w kept [] = None
+changed_at w kept (place ∷ places) =
+    let bytes = watched_at w place in
+    if nat_lt (length kept) (length bytes) then Some place.at
     else (if bytes_eq (take (length bytes) kept) bytes then changed_at w (drop (length bytes) kept) places
-    else Some at)
-changed_at w kept other = None
+    else Some place.at)
 
 -- it is at an instruction, and no upcall is delivered first
 abbrev pub is_running : State → Bool

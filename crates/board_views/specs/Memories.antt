@@ -21,9 +21,13 @@ bytes_in (Some r) at count = cut_at r.own.layout.start (block_of r.own) at count
 unfoldable pub bytes_at : World → ℕ → ℕ → ℕ → List ℕ
 bytes_at w slot at count = bytes_in (slice_get w.records slot) at count
 
--- their line
+-- a line: what it tells, and bytes
+unfoldable pub line_text : List ℕ → List ℕ → List ℕ
+line_text name bytes = name ++ (flat_map (hex_digits 2) bytes ++ newline)
+
+-- that of a block
 unfoldable pub memory_text : World → ℕ → ℕ → ℕ → List ℕ
-memory_text w slot at count = codes "memory " ++ (flat_map (hex_digits 2) (bytes_at w slot at count) ++ newline)
+memory_text w slot at count = line_text (codes "memory ") (bytes_at w slot at count)
 
 -- and those of its storage, which begin with number 0
 abbrev pub stored_in : Option Record → ℕ → ℕ → List ℕ
@@ -34,4 +38,4 @@ unfoldable pub stored_at : World → ℕ → ℕ → ℕ → List ℕ
 stored_at w slot at count = stored_in (slice_get w.records slot) at count
 
 unfoldable pub storage_text : World → ℕ → ℕ → ℕ → List ℕ
-storage_text w slot at count = codes "storage " ++ (flat_map (hex_digits 2) (stored_at w slot at count) ++ newline)
+storage_text w slot at count = line_text (codes "storage ") (stored_at w slot at count)

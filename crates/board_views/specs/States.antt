@@ -1,5 +1,5 @@
--- All that there is to see of a board: the report, and for each slot lines of what the kernel keeps of its process.
--- Their form is this tool's own.
+-- All that there is to see of a board: the report, who waits for devices, and for each slot lines of what the kernel
+-- keeps of its process. Their form is this tool's own.
 use Rattle.std.specs.Prelude.{ℕ, List, [], ◌∷◌, ◌++◌, codes, decimal, slice_get, Option, None, Some}
 use Rattle.std.specs.List.{flat_map, range_with_len}
 use Rattle.tk_base.specs.Access.{cause_of}
@@ -72,6 +72,19 @@ slot_state w slot = slot_in w slot (slice_get w.records slot)
 abbrev pub slots_state : World → List ℕ
 slots_state w = flat_map (slot_state w) (range_with_len 0 SLOT_COUNT)
 
--- the report, and then the lines of the slots
+-- a line of those that wait: for what, and their slots in base 16
+unfoldable pub waits_text : List ℕ → List ℕ → List ℕ
+waits_text name slots = name ++ (flat_map word_text slots ++ newline)
+
+-- those that wait for each device, the one that waits longest first
+unfoldable pub queues_text : World → List ℕ
+queues_text w =
+    let waiting = w.devices.waiting in
+    waits_text (codes "waits uart") waiting.writes
+    ++ (waits_text (codes "waits receive") waiting.reads
+    ++ (waits_text (codes "waits random") waiting.randoms
+    ++ waits_text (codes "waits store") waiting.stores))
+
+-- the report, the lines of those that wait, and then those of the slots
 unfoldable pub state_text : World → List ℕ
-state_text w = report_text (summary_of w) (run_end_of w) ++ slots_state w
+state_text w = report_text (summary_of w) (run_end_of w) ++ (queues_text w ++ slots_state w)

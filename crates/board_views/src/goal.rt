@@ -1,10 +1,10 @@
 //! What a board looks for while it goes on.
-ghost use Rattle.std.specs.Prelude.{◌≡◌, ◌%◌, ◌++◌, OnOk};
-ghost use Rattle.tk_base.specs.declared.limits.TheConstants.{SLOT_COUNT};
-ghost use Rattle.board_views.specs.Memories.{bytes_at};
+ghost use Rattle.std.specs.Prelude.{◌≡◌, ◌==◌, ◌++◌, OnOk};
+ghost use Rattle.std.specs.List.{list_any};
+ghost use Rattle.std.specs.Str.{bytes_eq};
 ghost use Rattle.board_views.specs.Goals.{before_stop, changed_at, end_stop, exit_stop, is_among, is_exit};
 ghost use Rattle.board_views.specs.Goals.{is_outside, is_past, is_running, range_stop, shown_stop, stop_after};
-ghost use Rattle.board_views.specs.Goals.{watched_bytes};
+ghost use Rattle.board_views.specs.Goals.{watched_at, watched_bytes};
 
 use crate::going::Stop;
 use crate::memory::bytes_at;
@@ -13,11 +13,23 @@ use board_core::Board;
 use process_record::{CallMade, Emit, Process, State};
 use tk_base::{Choice, Denial, NoMemory, SLOT_COUNT, Slot};
 
-/// How many numbers there may be in each list of a goal.
-pub const GOAL_NUMBERS: usize = 64;
+/// How many addresses there may be in a goal.
+pub const GOAL_ADDRESSES: usize = 64;
+
+/// How many places a goal may watch.
+pub const GOAL_PLACES: usize = 21;
 
 /// The class of the system call Exit.
 const EXIT_CLASS: u32 = 6;
+
+/// A place that is watched: in the block of a slot, of whose number the last four bits count, from an
+/// address on so many bytes.
+#[derive(Clone, Copy, Debug, PartialEq, Eq, Default)]
+pub struct Watched {
+    pub slot: u32,
+    pub at: u32,
+    pub count: u32,
+}
 
 /// What stops a board that goes on: before a turn of any process an address, which its pc is; after
 /// a step a watched byte that changed, a denial, an exit, and an operator's act; and after a turn of
@@ -30,54 +42,63 @@ pub struct Goal {
     pub low: u32,
     /// Where it ends, exclusively; 0 where there is none.
     pub high: u32,
-    /// The watched places: of each the slot in whose block it is, its address, and how many bytes it
-    /// has.
-    pub watched: ArrayVec<u32, GOAL_NUMBERS>,
-    pub addresses: ArrayVec<u32, GOAL_NUMBERS>,
+    pub watched: ArrayVec<Watched, GOAL_PLACES>,
+    pub addresses: ArrayVec<u32, GOAL_ADDRESSES>,
 }
 
-/// The bytes of a watched place. Of the slot's number the last four bits count.
-fn watched_at(board: &Board, slot: u32, at: u32, count: u32) -> &[u8]
-    ensures { result.now ≡ bytes_at board.now (slot % SLOT_COUNT) at count }
+/// The bytes of a watched place.
+fn watched_at(board: &Board, place: Watched) -> &[u8]
+    ensures { result.now ≡ watched_at board.now place }
 {
-    bytes_at(board, Slot::new(slot as usize % SLOT_COUNT), at, count)
+    let slot = Slot::new(place.slot as usize % SLOT_COUNT);
+    bytes_at(board, slot, place.at, place.count)
 }
 
-/// Adds the bytes of watched places. Each of them has three numbers, and fewer at the end are none.
-pub fn keep_watched(board: &Board, places: &[u32], kept: &mut Vec<u8>) -> Result<(), NoMemory>
+/// Adds the bytes of watched places.
+pub fn keep_watched(board: &Board, places: &[Watched], kept: &mut Vec<u8>) -> Result<(), NoMemory>
     ensures { OnOk result (kept.new.items ≡ kept.old.items ++ watched_bytes board.now places.now) }
 {
     match places {
-        [slot, at, count, others @ ..] => {
-            if kept
-                .extend_from_slice(watched_at(board, *slot, *at, *count))
-                .is_err()
-            {
+        [] => Ok(()),
+        [place, others @ ..] => {
+            if kept.extend_from_slice(watched_at(board, *place)).is_err() {
                 return Err(NoMemory);
             }
             keep_watched(board, others, kept)
         }
-        _ => Ok(()),
+    }
+}
+
+/// Whether bytes are the same. They are few, and compared after each step.
+fn are_same(first: &[u8], second: &[u8]) -> bool
+    ensures { result ≡ bytes_eq first.now second.now }
+{
+    match first {
+        [] => second.is_empty(),
+        [a, later @ ..] => match second {
+            [] => false,
+            [b, others @ ..] => *a == *b && are_same(later, others),
+        },
     }
 }
 
 /// The address of the first watched place whose bytes are not those that were kept.
-fn changed_at(board: &Board, kept: &[u8], places: &[u32]) -> Option<u32>
+fn changed_at(board: &Board, kept: &[u8], places: &[Watched]) -> Option<u32>
     ensures { result ≡ changed_at board.now kept.now places.now }
 {
     match places {
-        [slot, at, count, others @ ..] => {
-            let bytes = watched_at(board, *slot, *at, *count);
+        [] => None,
+        [place, others @ ..] => {
+            let bytes = watched_at(board, *place);
             if kept.len() < bytes.len() {
-                return Some(*at);
+                return Some(place.at);
             }
             let (was, later) = kept.split_at(bytes.len());
-            if was != bytes {
-                return Some(*at);
+            if are_same(was, bytes) {
+                return changed_at(board, later, others);
             }
-            changed_at(board, later, others)
+            Some(place.at)
         }
-        _ => None,
     }
 }
 
@@ -98,12 +119,22 @@ fn is_running(state: State) -> bool
     }
 }
 
+/// Whether an address is one of some. They are few, and looked through before each step.
+fn has(addresses: &[u32], pc: u32) -> bool
+    ensures { result ≡ list_any (λ a. a == pc) addresses.now }
+{
+    match addresses {
+        [] => false,
+        [first, rest @ ..] => *first == pc || has(rest, pc),
+    }
+}
+
 /// Whether a process is at an instruction that has one of some addresses.
 fn is_among(addresses: &[u32], process: &Option<Process>) -> bool
     ensures { result ≡ is_among addresses.now process.now }
 {
     match process {
-        Some(process) => is_running(process.state) && addresses.contains(&process.regs.pc()),
+        Some(process) => is_running(process.state) && has(addresses, process.regs.pc()),
         None => false,
     }
 }

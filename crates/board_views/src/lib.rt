@@ -8,8 +8,9 @@ mod place;
 mod searches;
 mod state;
 mod stop;
+mod waits;
 
-pub use goal::{GOAL_NUMBERS, Goal};
+pub use goal::{GOAL_ADDRESSES, GOAL_PLACES, Goal, Watched};
 pub use going::{Stop, go_steps, go_traced, go_turns};
 pub use memory::{write_memory, write_storage};
 pub use place::write_at;

@@ -2,7 +2,8 @@
 ghost use Rattle.std.specs.Prelude.{◌≡◌};
 ghost use Rattle.tk_outside.specs.Writes.{Writes};
 ghost use Rattle.board_report.specs.Parts.{bytes_text};
-ghost use Rattle.board_views.specs.Memories.{bytes_at, cut_at, memory_text, storage_text, stored_at};
+ghost use Rattle.board_views.specs.Memories.{bytes_at, cut_at, line_text, memory_text, storage_text};
+ghost use Rattle.board_views.specs.Memories.{stored_at};
 
 use board_core::Board;
 use tk_base::Slot;
@@ -50,6 +51,17 @@ fn write_bytes<K: Sink>(out: &mut K, bytes: &[u8]) -> Result<(), Failed>
     Ok(())
 }
 
+/// Writes a line: what it tells, and bytes, each in two digits of base 16.
+#[tactic(auto, unfolding(crate::specs::Memories::line_text))]
+fn write_line<K: Sink>(out: &mut K, name: &[u8], bytes: &[u8]) -> Result<(), Failed>
+    ensures { Writes K.tells out.old out.new (line_text name.now bytes.now) result }
+{
+    writes_compose::<K>();
+    put_all(out, name)?;
+    write_bytes(out, bytes)?;
+    put_all(out, b"\n")
+}
+
 /// Writes the line of so many bytes of the block of a slot, from an address on, each in two digits
 /// of base 16: of none where they do not all lie in the block, or there is no process. The block has
 /// the process's own bytes, and above its kernel break those of its grants. It fails where the sink
@@ -64,10 +76,7 @@ pub fn write_memory<K: Sink>(
 ) -> Result<(), Failed>
     ensures { Writes K.tells out.old out.new (memory_text board.now slot at count) result }
 {
-    writes_compose::<K>();
-    put_all(out, b"memory ")?;
-    write_bytes(out, bytes_at(board, slot, at, count))?;
-    put_all(out, b"\n")
+    write_line(out, b"memory ", bytes_at(board, slot, at, count))
 }
 
 /// So many bytes of the storage of a slot, from one on; none where they are not all there.
@@ -94,8 +103,5 @@ pub fn write_storage<K: Sink>(
 ) -> Result<(), Failed>
     ensures { Writes K.tells out.old out.new (storage_text board.now slot at count) result }
 {
-    writes_compose::<K>();
-    put_all(out, b"storage ")?;
-    write_bytes(out, stored_at(board, slot, at, count))?;
-    put_all(out, b"\n")
+    write_line(out, b"storage ", stored_at(board, slot, at, count))
 }

@@ -1,6 +1,6 @@
 //! A board that goes on to a goal, and one that is asked for the last place of its way at which the
 //! goal would stop it.
-ghost use Rattle.std.specs.Prelude.{◌≡◌, false, IfOk, IfSome, IsTrue, OnOk};
+ghost use Rattle.std.specs.Prelude.{◌≡◌, false, IfOk, IfSome, IsTrue, OnErr, OnOk};
 ghost use Rattle.kernel_model.specs.Shown.{shown_by};
 ghost use Rattle.kernel_model.specs.World.{after, is_ready, labels};
 ghost use Rattle.board_views.specs.Goals.{watched_bytes};
@@ -102,6 +102,7 @@ pub fn go_until(alloc: Global, board: &mut Board, goal: &Goal, most: u32) -> Res
     ensures passed { PassesNothing most goal.now
         (watched_bytes board.old goal.now.watched.items) board.old
         (until_goal most goal.now board.old) }
+    ensures unchanged { OnErr result (board.new ≡ board.old) }
 {
     let kept = kept_of(alloc, board, goal)?;
     Ok(until(board, goal, &kept, most))

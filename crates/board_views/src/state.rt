@@ -9,6 +9,7 @@ ghost use Rattle.board_views.specs.States.{pending_text, refused_text, seen_text
 ghost use Rattle.board_views.specs.States.{slots_state, state_text, upcall_words};
 
 use crate::place::{write_at, write_word};
+use crate::waits::write_queues;
 use board_core::Board;
 use board_report::{End, write_report};
 use process_layout::Layout;
@@ -203,14 +204,15 @@ fn end_of(board: &Board) -> End
     }
 }
 
-/// Writes the report, and of each slot with a process its lines: where it lies, its breaks, pc, its
-/// last denial, where it made its last refused call, the upcalls that wait, and where it is. It fails
-/// where the sink does.
+/// Writes the report, who waits for each device, and of each slot with a process its lines: where it
+/// lies, its breaks, pc, its last denial, where it made its last refused call, the upcalls that wait,
+/// and where it is. It fails where the sink does.
 #[tactic(auto, unfolding(crate::specs::States::state_text))]
 pub fn write_board_state<K: Sink>(board: &Board, out: &mut K) -> Result<(), Failed>
     ensures { Writes K.tells out.old out.new (state_text board.now) result }
 {
     writes_compose::<K>();
     write_report(&board.summary(), end_of(board), out)?;
+    write_queues(board, out)?;
     write_slots(board, out)
 }

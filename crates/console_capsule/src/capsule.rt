@@ -93,15 +93,16 @@ impl ConsoleCapsule {
         reply_of(self.obey(home, id, number, count))
     }
 
-    /// Has the UART take a step of the write that waits longest, or of that of the one slot which is
-    /// served, at a time: it takes the next bytes out of the buffer that the process has allowed now, at most [`PRINT_LIMIT`], and `printed`
-    /// is then those; it is free again once they are sent. Where none is left the write completes:
-    /// upcall 1 has the count of bytes that were taken, 0 and 0, and the process waits no more. As
-    /// many bytes are taken as were asked for, and no more than the buffer has. Nothing changes
-    /// where the process is not there in that life, or has no write; and nothing of another slot.
-    /// The answer is whom it served, and what it told it: that the UART took the next bytes, or has
-    /// taken all. [`NotReady`] comes exactly where no write waits that is served or the UART is not
-    /// free yet, and then nothing changes.
+    /// Has the UART take a step of the write that waits longest, or of that of the one slot which
+    /// is served, at a time: it takes the next bytes out of the buffer that the process has allowed
+    /// now, at most [`PRINT_LIMIT`], and `printed` is then those; it is free again once they are
+    /// sent. Where none is left the write completes: upcall 1 has the count of bytes that were
+    /// taken, 0 and 0, and the process waits no more. Bytes are taken until as many are as were
+    /// asked for, or as the buffer has that is held then. Nothing changes where the process is not
+    /// there in that life, or has no write; and nothing of another slot. The answer is whom it
+    /// served, and what it told it: that the UART took the next bytes, or has taken all.
+    /// [`NotReady`] comes exactly where no write waits that is served or the UART is not free yet,
+    /// and then nothing changes.
     ///
     /// It asks that the slot of whom it serves is one of the home's, that its count of dropped upcalls
     /// has room for one more, that `printed` is empty, and that the time at which so many bytes are
@@ -132,13 +133,13 @@ impl ConsoleCapsule {
     }
 
     /// Moves the oldest bytes that came in to the read that waits longest, or to that of the one slot
-    /// which is served, to the start of the buffer that the process has allowed now, as many as it asks for, and no more than came in or
-    /// than the buffer has. The read completes: upcall 2 has a status, the count of bytes and 0,
-    /// and the process waits no more. The status is 0, or that of TRD 104, "Error codes", for a
-    /// size where the buffer has no bytes; then no byte is moved. Nothing changes where the process
-    /// is not there in that life, or has no read; and nothing of another slot. The answer is whom
-    /// it served, and the bytes. [`NotReady`] comes exactly where no read waits that is served or
-    /// nothing came in, and then nothing changes.
+    /// which is served, to the start of the buffer that the process has allowed now, as many as it asks
+    /// for, and no more than came in or than the buffer has. The read completes: upcall 2 has a status,
+    /// the count of bytes and 0, and the process waits no more. The status is 0, or that of TRD 104,
+    /// "Error codes", for a size where the buffer has no bytes; then no byte is moved. Nothing changes
+    /// where the process is not there in that life, or has no read; and nothing of another slot. The
+    /// answer is whom it served, and the bytes. [`NotReady`] comes exactly where no read waits that is
+    /// served or nothing came in, and then nothing changes.
     ///
     /// It asks that the slot of whom it serves is one of the home's, and that its count of dropped
     /// upcalls has room for one more.

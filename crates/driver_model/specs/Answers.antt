@@ -1,4 +1,5 @@
--- What devices' answers leave of a process, and what of it the process is told.
+-- What devices' answers leave of a process, and what of it the process is told (Tock's drivers, each in its own file:
+-- driver 0x0 to driver 0x50001).
 use Rattle.std.specs.Prelude.{◌≡◌, ℕ, Bool, false, ◌&&◌, if◌then◌else◌, List, Option, Some, IfSome}
 use Rattle.process_model.specs.Own.{Own}
 use Rattle.driver_model.specs.Steps.{own_after}

@@ -51,8 +51,9 @@ pub record DriversKeep : Type 0 where
 abbrev pub HoldsBelowMark : Own → Type 0
 HoldsBelowMark own = HoldsInPlace (record own { layout = record own.layout { brk = own.layout.mark } })
 
--- A process's own in order, and whole: its bytes end at the kernel break, where its grants begin; each buffer that it
--- has allowed lies in accessible flash, or in its RAM below the mark; it has as many pairs as its drivers have numbers.
+-- A process's own in order, and whole: its bytes end at the kernel break, where its grants begin; each buffer with
+-- bytes that it has allowed lies in its RAM below the mark, or, a read-only one, there or in accessible flash; it has
+-- as many pairs as its drivers have numbers.
 pub record IsSettled (own : Own) : Type 0 where
   pub order : IsInOrder own
   pub bytes : length own.ram ≡ kernel_break_of own - own.layout.start

@@ -1,4 +1,4 @@
--- Laws of the drivers' definitions.
+-- Laws of the drivers' definitions (Tock's drivers, each in its own file: driver 0x0 to driver 0x50001).
 use Rattle.std.specs.Prelude.{◌≡◌, ◌↔◌, ◌<◌, ◌≤◌, ℕ, ◌+◌, ◌-◌, ◌%◌, ◌^◌, List, length}
 use Rattle.std.specs.Prelude.{Option, None, Some, Err, is_some, IfSome, IsTrue}
 use Rattle.tk_base.specs.declared.call.CallRule.{CallRule}

@@ -110,9 +110,9 @@ pub fn drivers_keep_places_and_order()
 {}
 
 /// So what is a process's own stays settled: its bytes end at the kernel break, where its grants
-/// begin, and each buffer that it has allowed lies in accessible flash, or in its RAM below the
-/// mark; also where it hands a pair that it may hand. What is settled is whole (TRD 104, "Read-Only
-/// Allow", "Read-Write Allow"; Levy et al., SOSP 2017).
+/// begin, and each buffer with bytes that it has allowed lies in its RAM below the mark, or, a
+/// read-only one, there or in accessible flash; also where it hands a pair that it may hand. What
+/// is settled is whole (TRD 104, "Read-Only Allow", "Read-Write Allow"; Levy et al., SOSP 2017).
 pub fn drivers_keep_buffers_below_the_mark()
     ensures { DriversKeepSettled }
 {

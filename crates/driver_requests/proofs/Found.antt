@@ -1,5 +1,6 @@
 -- The first that a test finds, by its place.
-use Rattle.std.proofs.Common.{◌≡◌, ◌≤◌, ◌<◌, ℕ, zero, suc, ◌+◌, Bool, true, false, cond, not, nat_lt, List, [], ◌∷◌, find}
+use Rattle.std.proofs.Common.{◌≡◌, ◌≤◌, ◌<◌, ℕ, zero, suc, ◌+◌, Bool, true, false, cond, not, nat_lt, List, [], ◌∷◌}
+use Rattle.std.proofs.Common.{find}
 use Rattle.std.proofs.Common.{length, slice_get, Option, None, Some, refl, sym, ap, ◌∙◌, arith}
 use Rattle.std.specs.List.{position_or_len}
 use Rattle.std.specs.List.{position}
@@ -38,7 +39,8 @@ pub one_found : {X : Type 0} (p : X → Bool) (xs : List X) (i : ℕ) → positi
     → slice_get xs i ≡ find p xs
 one_found p xs i e = by_test (nat_lt (position_or_len p xs) (length xs)) e
   where
-    by_test : (b : Bool) → cond {A = Option ℕ} b (Some (position_or_len p xs)) None ≡ Some i → slice_get xs i ≡ find p xs
+    by_test : (b : Bool) → cond {A = Option ℕ} b (Some (position_or_len p
+        xs)) None ≡ Some i → slice_get xs i ≡ find p xs
     by_test true e =
         let same : position_or_len p xs ≡ i = cc in
         ap (slice_get xs) (sym same) ∙ at_first p xs

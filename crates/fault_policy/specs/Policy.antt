@@ -1,5 +1,5 @@
--- What becomes of a process that faulted (the fault policies of Tock's kernel; the threshold is how many restarts a
--- process may have).
+-- What becomes of a process that faulted. The names are those of the fault policies of Tock's kernel, and the threshold
+-- is how many restarts a process may have; that one policy holds for all processes is this board's own.
 use Rattle.std.specs.Prelude.{ℕ, nat_lt, if◌then◌else◌}
 use Rattle.fault_policy.specs.declared.Action.{Action}
 use Rattle.fault_policy.specs.declared.Action.TheVariants as actions

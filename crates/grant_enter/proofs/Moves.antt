@@ -422,6 +422,14 @@ requeued m seat inbox lives t =
     same_memory m seat (record seat { inbox = inbox; lives = lives }) refl refl
     (record { settled = t.settled; seated = record { object = t.seated.object; kept = t.seated.kept } })
 
+-- so does whether its instructions were decoded, in memory that is the same
+pub known : (m : MemoryBytes) (seat : Seat) (m' : MemoryBytes) → m' ≡ m → SitsIn m seat
+    → Reseats m seat m' (record seat { decoded = true })
+known m seat m' same t =
+    subst (λ (x : MemoryBytes). Reseats m seat x (record seat { decoded = true })) (sym same)
+    (same_memory m seat (record seat { decoded = true }) refl refl
+    (record { settled = t.settled; seated = record { object = t.seated.object; kept = t.seated.kept } }))
+
 pub ended_own : (ram : List ℕ) (seat : Seat) (inbox : Inbox) → inbox ≡ cleared seat.inbox
     → own_in ram (record seat { inbox = inbox; lives = false }) ≡ own_ended (own_in ram seat)
 ended_own ram seat inbox none = ap (λ (i : Inbox). own_in ram (record seat { inbox = i; lives = false })) none

@@ -1,7 +1,7 @@
 -- How the one RAM holds the blocks. A home shows `homes_of`; the rest is for proofs alone. The two parts of a block are
 -- those of Levy et al., SOSP 2017, section 4.
-use Rattle.std.specs.Prelude.{ℕ, ◌≡◌, ◌<◌, ◌≤◌, ◌+◌, ◌-◌, ◌==◌, ◌||◌, Bool, IsTrue, true, if◌then◌else◌, List, []}
-use Rattle.std.specs.Prelude.{◌++◌, length, map, take, drop, slice_range, All, AllPairs, Some}
+use Rattle.std.specs.Prelude.{ℕ, ◌≡◌, ◌<◌, ◌≤◌, ◌+◌, ◌-◌, ◌==◌, ◌||◌, Bool, IsTrue, true, false, if◌then◌else◌, List}
+use Rattle.std.specs.Prelude.{[], ◌++◌, length, map, take, drop, slice_range, All, AllPairs, Some}
 use Rattle.std.specs.List.{AllByRecursion}
 use Rattle.tk_base.specs.declared.access.TheConstants.{FLASH_START, RAM_START}
 use Rattle.tk_base.specs.declared.limits.TheConstants.{FLASH_LIMIT}
@@ -36,6 +36,7 @@ first_seat f = record {
   inbox = empty;
   life = 0;
   lives = true;
+  decoded = false;
 }
 
 -- what is the own of a process whose block has these two parts

@@ -1,6 +1,5 @@
 //! The memory of all processes.
 ghost use Rattle.std.specs.Prelude.{◌≡◌, ◌≤◌, ◌<◌, ◌+◌, ◌%◌, ◌^◌, ℕ, nat_lt, slice_get};
-ghost use Rattle.std.specs.Prelude.{replicate};
 ghost use Rattle.std.specs.Prelude.{All, AllPairs, IsTrue, length, map, option_map, is_ok, IfOk};
 ghost use Rattle.std.specs.Prelude.{OnOk, OnErr, OnSome, IfNone, is_some, vec_len};
 ghost use Rattle.std.specs.Bool.{OnTrue, OnFalse};
@@ -65,25 +64,6 @@ impl Model for Home {
     ghost invariant = { IsHome };
 }
 
-/// Memory with these bytes in flash, and so many bytes of RAM, which are 0. The instructions of each process are
-/// decoded.
-fn memory_with(
-    alloc: Global,
-    flash: Vec<u8>,
-    ram: u32,
-    footprints: &[Footprint],
-) -> Result<Memory, NoMemory>
-    ensures { IfOk result
-        (λ memory. memory ≡ record { flash = flash.items; ram = replicate ram 0 }) }
-{
-    let mut memory = Memory::new(alloc, flash, ram)?;
-    for footprint in footprints {
-        let layout = &footprint.layout;
-        memory.decode(layout.flash_start, layout.flash_end);
-    }
-    Ok(memory)
-}
-
 impl Home {
     /// Memory with these bytes in flash, and so many bytes of RAM, in which each process has its
     /// block, slot 0 first. All blocks are zero, and each process lives its first life and has no
@@ -101,7 +81,7 @@ impl Home {
             (λ home. home ≡ record { flash = flash.items; owns = map opened footprints.now }) }
     {
         what_is_laid_is_read_back();
-        let memory = memory_with(alloc, flash, ram, footprints)?;
+        let memory = Memory::new(alloc, flash, ram)?;
         let mut seats = Vec::new(alloc);
         for footprint in footprints {
             let Ok(()) = seats.push(Seat::first(footprint)) else {
@@ -163,6 +143,24 @@ impl Home {
         ensures protect { Protect pmp.new (own_of self.now slot).layout }
     {
         set_process(pmp, &self.seats[slot.index()].layout);
+    }
+
+    /// Decodes the instructions in the flash of the process in a slot, where that was not done before. So
+    /// the flash of one that has no turn costs no time, nor does a restart. No contract tells the
+    /// difference.
+    // Called where the slot that has turns changes, so that no turn asks for it.
+    #[inline(never)]
+    pub fn decode(&mut self, slot: Slot)
+        requires { slot < length self.old.owns }
+        ensures { self.new ≡ self.old }
+    {
+        let seat = &mut self.seats[slot.index()];
+        if seat.decoded {
+            return;
+        }
+        seat.decoded = true;
+        let layout = seat.layout;
+        self.memory.decode(layout.flash_start, layout.flash_end);
     }
 
     /// Moves the break of the process in a slot to an address, rounded up to a multiple of 4 (TRD

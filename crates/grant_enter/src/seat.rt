@@ -15,6 +15,8 @@ pub(crate) struct Seat {
     /// Which of its lives it is in: how often it was started again.
     pub life: u32,
     pub lives: bool,
+    /// Whether the instructions in its flash were decoded.
+    pub decoded: bool,
 }
 
 impl Seat {
@@ -28,6 +30,7 @@ impl Seat {
             inbox: Inbox::new(),
             life: 0,
             lives: true,
+            decoded: false,
         }
     }
 }

@@ -9,7 +9,8 @@ use Rattle.grant_values.specs.Words.{IsWord, WordsInBytes, words_of}
 use Rattle.grant_values.specs.Drivers.{cost_of}
 use Rattle.grant_values.specs.Values.{KeptValue, value_told, value_words}
 use Rattle.grant_model.specs.Grants.{Grant, shape_of}
-use Rattle.grant_model.specs.Encoding.{body_size, padding_of, pair_words, padded_words, body_words, areas, encode_grants}
+use Rattle.grant_model.specs.Encoding.{body_size, padding_of, pair_words, padded_words, body_words, areas}
+use Rattle.grant_model.specs.Encoding.{encode_grants}
 use Rattle.grant_model.specs.Encoding.{pairs_at_front, grant_in, grants_in, decode_grants, IsSound, EncodesGrants}
 use Rattle.grant_model.specs.Encoding.{Tells}
 use Rattle.grant_model.specs.Laws.{IsReadBack}
@@ -42,7 +43,8 @@ grant_back g rest s =
     let whole : words ≡ pair_words g.pairs ++ (padded_words g ++ rest) =
     append_assoc (pair_words g.pairs) (padded_words g) rest in
     let pairs : pairs_at_front n words ≡ g.pairs =
-    ap (pairs_at_front n) whole ∙ ap (λ m. pairs_at_front m (pair_words g.pairs ++ (padded_words g ++ rest))) (sym s.pairs)
+    ap (pairs_at_front n) whole ∙ ap (λ m. pairs_at_front m (pair_words g.pairs ++ (padded_words g ++ rest))) (sym
+    s.pairs)
     ∙ pairs-back g.pairs (padded_words g ++ rest) in
     let last : drop (2 * n) words ≡ value_words g.value ++ (pad ++ rest) =
     ap (drop (2 * n)) whole ∙ drop-pairs g.pairs (padded_words g ++ rest) n s.pairs
@@ -86,7 +88,8 @@ grants_back (g ∷ gs) (suc n) all h =
     ap (λ z. z ∷ grants_in n (drop (body_size k) (body_words g ++ areas gs))) first ∙ ap (λ z. g ∷ grants_in n z) rest
     ∙ ap (λ z. g ∷ z) back
 
-pub all-append : (xs ys : List ℕ) → AllByRecursion IsWord xs → AllByRecursion IsWord ys → AllByRecursion IsWord (xs ++ ys)
+pub all-append : (xs ys : List ℕ) → AllByRecursion IsWord xs → AllByRecursion IsWord ys → AllByRecursion IsWord (xs ++
+    ys)
 all-append [] ys a b = b
 all-append (x ∷ xs) ys a b = (a.0, all-append xs ys a.1 b)
 

@@ -1,5 +1,6 @@
 -- Pairs of one kind among all pairs of a grant: each kind has a window of its own.
-use Rattle.std.proofs.Common.{arith, refl, ap, sym, subst, ◌∙◌, ◌≡◌, ◌≢◌, ◌⊎◌, inl, inr, ◌<◌, ◌≤◌, ℕ, zero, suc, ◌+◌, ◌-◌}
+use Rattle.std.proofs.Common.{arith, refl, ap, sym, subst, ◌∙◌, ◌≡◌, ◌≢◌, ◌⊎◌, inl, inr, ◌<◌, ◌≤◌, ℕ, zero, suc, ◌+◌}
+use Rattle.std.proofs.Common.{◌-◌}
 use Rattle.std.proofs.Common.{List, [], ◌∷◌, length, take, drop, get_or, set, replicate, Some}
 use Rattle.std.specs.List.{sum}
 use Rattle.std.proofs.lemmas.Bool.{cases_eq, cases_lt}
@@ -120,7 +121,8 @@ others-window kind other n m pair g small apart = by_rank (cases_lt (rank_of kin
     by_order : (rank_of other < rank_of kind) ⊎ (rank_of kind ≤ rank_of other) → rank_of other ≤ rank_of kind
         → pair_of other m (Some (with_pair kind n pair g)) ≡ pair_of other m (Some g)
     by_order (inl less) most =
-        ap at (set-window-past g.pairs (pairs_before other counts) (count_of other counts) (pair_place kind n counts) pair
+        ap at (set-window-past g.pairs (pairs_before other counts) (count_of other counts) (pair_place kind n counts)
+        pair
         (over (pairs_before other counts) (count_of other counts) (pairs_before kind counts) n
         (sum-apart (pair_counts counts) (rank_of other) (rank_of kind) less)))
     by_order (inr least) most = let same = same_rank kind other (omega arith) in alike other same (apart same)
@@ -128,7 +130,8 @@ others-window kind other n m pair g small apart = by_rank (cases_lt (rank_of kin
     by_rank : (rank_of kind < rank_of other) ⊎ (rank_of other ≤ rank_of kind)
         → pair_of other m (Some (with_pair kind n pair g)) ≡ pair_of other m (Some g)
     by_rank (inl less) =
-        ap at (set-window-below g.pairs (pairs_before other counts) (count_of other counts) (pair_place kind n counts) pair
+        ap at (set-window-below g.pairs (pairs_before other counts) (count_of other counts) (pair_place kind n counts)
+        pair
         (under (pairs_before kind counts) (count_of kind counts) (pairs_before other counts) n
         (sum-apart (pair_counts counts) (rank_of kind) (rank_of other) less) small))
     by_rank (inr most) = by_order (cases_lt (rank_of other) (rank_of kind)) most

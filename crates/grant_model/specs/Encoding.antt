@@ -11,10 +11,11 @@ use Rattle.grant_values.specs.Values.{KeptValue, value_told, value_words}
 use Rattle.grant_model.specs.declared.places.Area.{Area}
 use Rattle.grant_model.specs.Grants.{Grant, HasPairs, shape_of}
 
--- how many words of a grant follow its driver and its cost, and how many of them are padding
+-- how many words of a grant follow its driver and its cost
 abbrev pub body_size : Counts → ℕ
 body_size counts = cost_of counts / 4 - 2
 
+-- how many of them are padding
 abbrev pub padding_of : Counts → ℕ
 padding_of counts = body_size counts - (2 * pair_count counts + counts.value / 4)
 
@@ -23,6 +24,7 @@ abbrev pub pair_words : List (ℕ × ℕ) → List ℕ
 pair_words [] = []
 pair_words (pair ∷ pairs) = pair.0 ∷ pair.1 ∷ pair_words pairs
 
+-- a value's words, and the zeros behind them
 abbrev pub padded_words : Grant → List ℕ
 padded_words g = value_words g.value ++ replicate (padding_of (shape_of g.driver)) 0
 
@@ -34,6 +36,7 @@ body_words g = pair_words g.pairs ++ padded_words g
 abbrev pub area_words : Grant → List ℕ
 area_words g = g.driver ∷ cost_of (shape_of g.driver) ∷ body_words g
 
+-- the areas of grants, one behind another
 abbrev pub areas : List Grant → List ℕ
 areas [] = []
 areas (g ∷ gs) = area_words g ++ areas gs
@@ -95,9 +98,10 @@ area_place driver offset [] = None
 area_place driver offset (g ∷ gs) =
     if g.driver == driver then Some offset else area_place driver (offset + (2 + body_size (shape_of g.driver))) gs
 
--- where a driver's area lies in the kernel's bytes
+-- where a driver's area lies in the kernel's bytes, by its place
 abbrev pub area_at : ℕ → ℕ → Area
 area_at driver place = record { offset = 4 * place; cost = cost_of (shape_of driver) }
 
+-- the area of a driver in the kernel's bytes, if it has one
 abbrev pub area_of : ℕ → List Grant → Option Area
 area_of driver gs = option_map (area_at driver) (area_place driver 0 gs)

@@ -1,4 +1,4 @@
--- Laws of grants as bytes.
+-- Laws of grants as bytes (Levy et al., SOSP 2017, section 4; the form in words is this kernel's own).
 use Rattle.std.specs.Prelude.{ℕ, ◌≡◌, ◌≢◌, ◌⊎◌, ◌+◌, ◌*◌, ◌/◌, ◌<◌, ◌≤◌, ◌^◌, List, ◌++◌, length, take, drop}
 use Rattle.std.specs.Prelude.{slice_index, slice_set, None, Some}
 use Rattle.std.specs.List.{AllByRecursion}
@@ -69,10 +69,11 @@ pub record PairsAreFound : Type 0 where
       → Some area ≡ area_of driver (decode_grants kernel)
       → n < count_of kind (shape_of driver) → ArePair kernel (word_of_pair kind driver n area) kind driver n
 
--- where the value of a driver whose area this is begins in the kernel's bytes, and how many bytes of words it has
+-- where the value of a driver whose area this is begins in the kernel's bytes
 abbrev pub value_offset : ℕ → Area → ℕ
 value_offset driver area = area.offset + 8 + 8 * pair_count (shape_of driver)
 
+-- how many bytes of words the value of a driver has
 abbrev pub value_bytes : ℕ → ℕ
 value_bytes driver = 4 * ((shape_of driver).value / 4)
 

@@ -1,5 +1,6 @@
 -- Grants in the kernel's bytes of a block, and room for one more (Levy et al., SOSP 2017, section 4).
-use Rattle.std.specs.Prelude.{ℕ, ◌≡◌, ◌+◌, ◌-◌, ◌≤◌, ◌<◌, ◌^◌, List, [], ◌∷◌, ◌++◌, length, take, drop, Bool, true, nat_le}
+use Rattle.std.specs.Prelude.{ℕ, ◌≡◌, ◌+◌, ◌-◌, ◌≤◌, ◌<◌, ◌^◌, List, [], ◌∷◌, ◌++◌, length, take, drop, Bool, true}
+use Rattle.std.specs.Prelude.{nat_le}
 use Rattle.std.specs.Prelude.{Option, None, Some, option_map}
 use Rattle.process_layout.specs.LayoutView.{LayoutView}
 use Rattle.grant_values.specs.Drivers.{counts_of, cost_of}

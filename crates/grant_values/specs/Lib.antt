@@ -8,3 +8,4 @@ pub mod Storage
 pub mod Drivers
 pub mod Values
 pub mod ByNumber
+pub mod Kept

@@ -4,6 +4,7 @@ use Rattle.std.specs.Prelude.{ℕ, ◌≡◌, ◌*◌, ◌/◌, ◌<◌, ◌^◌
 use Rattle.std.specs.List.{AllByRecursion, flat_map}
 use Rattle.std.specs.Int.{w32, to_le_bytes, from_le_bytes}
 
+-- a number of 32 bits
 abbrev pub IsWord : ℕ → Type 0
 IsWord w = w < 2 ^ 32
 

@@ -24,6 +24,7 @@ impl GrantValue for Alarm {
     ghost use Rattle.std.specs.Prelude.{refl};
     ghost use Rattle.grant_values.specs.declared.drivers.Driver.TheVariants as of;
     ghost use Rattle.grant_values.specs.Values.{AlarmValue};
+    ghost use Rattle.grant_values.specs.Kept.{alarm_in};
 
     const SIZE: u32 = 24;
 
@@ -34,6 +35,10 @@ impl GrantValue for Alarm {
     ghost driver = { of.Alarm };
 
     ghost kept = { λ alarm. AlarmValue alarm.armed };
+
+    ghost value_of = { alarm_in };
+
+    ghost tells = { λ value. refl };
 
     #[tactic(auto, unfolding(crate::specs::Words::words_of))]
     fn fresh() -> Self {

@@ -14,6 +14,7 @@ impl GrantValue for Buttons {
     ghost use Rattle.std.specs.Prelude.{refl};
     ghost use Rattle.grant_values.specs.declared.drivers.Driver.TheVariants as of;
     ghost use Rattle.grant_values.specs.Values.{ButtonsValue};
+    ghost use Rattle.grant_values.specs.Kept.{buttons_in};
 
     const SIZE: u32 = 16;
 
@@ -24,6 +25,10 @@ impl GrantValue for Buttons {
     ghost driver = { of.Buttons };
 
     ghost kept = { λ buttons. ButtonsValue buttons.enabled };
+
+    ghost value_of = { buttons_in };
+
+    ghost tells = { λ value. refl };
 
     #[tactic(auto, unfolding(crate::specs::Words::words_of))]
     fn fresh() -> Self {

@@ -31,6 +31,7 @@ impl GrantValue for Console {
     ghost use Rattle.std.specs.Prelude.{refl};
     ghost use Rattle.grant_values.specs.declared.drivers.Driver.TheVariants as of;
     ghost use Rattle.grant_values.specs.Values.{ConsoleValue};
+    ghost use Rattle.grant_values.specs.Kept.{console_in};
 
     const SIZE: u32 = 32;
 
@@ -41,6 +42,10 @@ impl GrantValue for Console {
     ghost driver = { of.Console };
 
     ghost kept = { ConsoleValue };
+
+    ghost value_of = { console_in };
+
+    ghost tells = { λ value. refl };
 
     #[tactic(auto, unfolding(crate::specs::Words::words_of))]
     fn fresh() -> Self {

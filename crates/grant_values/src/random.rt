@@ -23,6 +23,7 @@ impl GrantValue for Random {
     ghost use Rattle.std.specs.Prelude.{refl};
     ghost use Rattle.grant_values.specs.declared.drivers.Driver.TheVariants as of;
     ghost use Rattle.grant_values.specs.Values.{RandomValue};
+    ghost use Rattle.grant_values.specs.Kept.{random_in};
 
     const SIZE: u32 = 24;
 
@@ -33,6 +34,10 @@ impl GrantValue for Random {
     ghost driver = { of.Random };
 
     ghost kept = { λ random. RandomValue random.request };
+
+    ghost value_of = { random_in };
+
+    ghost tells = { λ value. refl };
 
     #[tactic(auto, unfolding(crate::specs::Words::words_of))]
     fn fresh() -> Self {

@@ -57,6 +57,7 @@ impl GrantValue for Storage {
     ghost use Rattle.std.specs.Prelude.{refl};
     ghost use Rattle.grant_values.specs.declared.drivers.Driver.TheVariants as of;
     ghost use Rattle.grant_values.specs.Values.{StorageValue};
+    ghost use Rattle.grant_values.specs.Kept.{storage_in};
 
     const SIZE: u32 = 24;
 
@@ -67,6 +68,10 @@ impl GrantValue for Storage {
     ghost driver = { of.Storage };
 
     ghost kept = { λ storage. StorageValue storage.request };
+
+    ghost value_of = { storage_in };
+
+    ghost tells = { λ value. refl };
 
     #[tactic(auto, unfolding(crate::specs::Words::words_of))]
     fn fresh() -> Self {

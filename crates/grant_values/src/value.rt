@@ -22,6 +22,12 @@ pub trait GrantValue: Copy {
     /// What the driver keeps.
     ghost kept: { Self → KeptValue };
 
+    /// The value of which it keeps that.
+    ghost value_of: { KeptValue → Self };
+
+    /// What is kept forgets no field: it gives the value back.
+    ghost tells: { (value : Self) → value_of (kept value) ≡ value };
+
     /// The value of a grant that was just made: all of its bytes are zero, and it is what
     /// [`GrantValue::take`] takes from such bytes (`taken`).
     fn fresh() -> Self

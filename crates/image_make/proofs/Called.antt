@@ -1,5 +1,6 @@
 -- What the calls that edit an image, and that which packs a file, leave of it as it is walked.
-use Rattle.std.proofs.Common.{◌≡◌, ◌≤◌, ◌+◌, ◌&&◌, ℕ, Bool, true, false, cond, nat_le, nat_lt, List, length, Option, None, Some}
+use Rattle.std.proofs.Common.{◌≡◌, ◌≤◌, ◌+◌, ◌&&◌, ℕ, Bool, true, false, cond, nat_le, nat_lt, List, length, Option}
+use Rattle.std.proofs.Common.{None, Some}
 use Rattle.std.proofs.Common.{Result, Ok, Err, refl, sym, subst, arith}
 use Rattle.std.specs.Prelude.{IsSomeAnd}
 use Rattle.std.specs.List.{list_all}
@@ -54,7 +55,8 @@ given_leaves law name offset flash after bytes letters e = by_found (sound_found
         (sym there) (sym (same_ok e), law name flash offset f at bytes letters few is there)
 
     by_name : (f : Found) → sound_found offset (objects flash) ≡ Some f → (b : Bool) → may_name name ≡ b
-        → cond b (option_map_or (λ at. Ok (with_name name flash f at)) (place_for name (found_bytes f flash)) (Err Length))
+        → cond b (option_map_or (λ at. Ok (with_name name flash f at)) (place_for name (found_bytes f flash)) (Err
+        Length))
         (Err Name) ≡ Ok after
         → IsSomeAnd (place_for name (found_bytes f flash)) (λ at.
         (after ≡ with_name name flash f at) × IsGiven name flash f at)

@@ -7,6 +7,7 @@ pub mod Sound
 pub mod Edited
 pub mod Moves
 pub mod Packing
+pub mod Contents
 pub mod Likeness
 pub mod Headers
 mod Checksums

@@ -80,12 +80,12 @@ verdicts_move d at (Err fault) e = refl
 verdicts_move d at (Ok h) e = object_moved d at h h.main e
 
 -- an image that from a distance on is the front of a file, and ends there
-record IsPart (distance count : ℕ) (file image : List ℕ) : Type 0 where
+pub record IsPart (distance count : ℕ) (file image : List ℕ) : Type 0 where
   size : length image ≡ distance + count
   most : count ≤ length file
   each : (k : ℕ) → k < count → slice_index image (distance + k) ≡ slice_index file k
 
-part_range : (distance c p s : ℕ) (b w : List ℕ) → IsPart distance c b w → p + s ≤ c
+pub part_range : (distance c p s : ℕ) (b w : List ℕ) → IsPart distance c b w → p + s ≤ c
     → object_at w (distance + p) s ≡ object_at b p s
 part_range distance c p s b w part h =
     let size = part.size in let most = part.most in
@@ -210,11 +210,11 @@ from_part (suc n) m distance c b w p part e h =
     ]
 
 -- an image that begins with another one
-record IsFront (front image : List ℕ) : Type 0 where
+pub record IsFront (front image : List ℕ) : Type 0 where
   size : length front ≤ length image
   each : (k : ℕ) → k < length front → slice_index image k ≡ slice_index front k
 
-front_range : (p s : ℕ) (a w : List ℕ) → IsFront a w → p + s ≤ length a → object_at w p s ≡ object_at a p s
+pub front_range : (p s : ℕ) (a w : List ℕ) → IsFront a w → p + s ≤ length a → object_at w p s ≡ object_at a p s
 front_range p s a w front h =
     let size = front.size in
     let lw : length (object_at w p s) ≡ min (p + s - p) (length w - p) = length-take (p + s - p) (drop p w)
@@ -335,14 +335,14 @@ packed_byte : (image file : List ℕ) (k : ℕ) → k < covered (objects file)
 unfolding packed
 packed_byte image file k h = get_or-append-add image (packed file) k 0 ∙ get_or-take (covered (objects file)) file k 0 h
 
-packed_part : (image file : List ℕ) → IsPart (length image) (covered (objects file)) file (image ++ packed file)
+pub packed_part : (image file : List ℕ) → IsPart (length image) (covered (objects file)) file (image ++ packed file)
 packed_part image file = record {
   size = length-append image (packed file) ∙ ap (λ n. length image + n) (length_packed file);
   most = (let h = covered_within OBJECT_LIMIT file 0 (omega arith) in omega arith);
   each = λ k h. packed_byte image file k h;
 }
 
-packed_front : (image file : List ℕ) → IsFront image (image ++ packed file)
+pub packed_front : (image file : List ℕ) → IsFront image (image ++ packed file)
 packed_front image file = record {
   size = omega (arith, length-append image (packed file));
   each = λ k h. get_or_append_left image (packed file) 0 k h;

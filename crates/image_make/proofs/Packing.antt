@@ -15,6 +15,7 @@ use Rattle.image_make.specs.declared.packs.PackFault.{PackFault}
 use Rattle.image_make.specs.declared.packs.PackFault.TheVariants.{Objects, Size}
 use Rattle.image_make.specs.Images.{covered, packed, moved, but_link}
 use Rattle.image_make.specs.Packs.{pack_refusal, pack_from, one_after_another, PackIsWalked, KeepsVerdict}
+use Rattle.image_make.specs.Laws.{PacksAt}
 use Rattle.image_make.specs.Parts.{pack_next}
 use Rattle.image_make.specs.Packs.{ObjectsMove}
 use Rattle.image_make.proofs.Walked.{stands, from_end, from_more, from_none}
@@ -29,6 +30,25 @@ none_refused : (a b : Bool) → cond a (Some Objects) (cond b (Some Size) None) 
 none_refused true b e = cc
 none_refused false b e = refl
 
+-- what is known where a file is packed, and then others, behind an image that is wholly walked
+pub record GoesOn (n : ℕ) (before file : List ℕ) (files : List (List ℕ)) (image : List ℕ) : Type 0 where
+  pub behind : PacksAt before file
+  pub count : n + length (objects file) ≡ length (objects (before ++ packed file))
+  pub rest : pack_from (n + length (objects file)) (before ++ packed file) files ≡ Ok image
+
+pub goes_on : (n : ℕ) (before file : List ℕ) (files : List (List ℕ)) (image : List ℕ) → n ≡ length (objects before)
+    → covered (objects before) ≡ length before → pack_from n before (file ∷ files) ≡ Ok image
+    → GoesOn n before file files image
+unfolding pack_from
+goes_on n before file files image count whole e =
+    let parts = ok_next (pack_refusal n before file) _ image e in
+    let few : n + length (objects file) ≤ OBJECT_LIMIT = ltb-false _ _ (none_refused _ _ parts.0) in
+    let p = packed_is_walked before file whole (omega arith) in
+    let counted : length (objects (before ++ packed file)) ≡ length (objects before) + length (objects file) =
+    ap length p.walked ∙ length-append (objects before) (map (moved (length before) file) (objects file))
+    ∙ ap (λ k. length (objects before) + k) (length-map (objects file) (moved (length before) file)) in
+    record { behind = p; count = omega arith; rest = parts.1 }
+
 -- behind an image that is wholly walked
 pack_walked : (files : List (List ℕ)) (n : ℕ) (before image : List ℕ) → n ≡ length (objects before)
     → covered (objects before) ≡ length before → pack_from n before files ≡ Ok image
@@ -37,21 +57,16 @@ unfolding pack_from one_after_another
 pack_walked [] n before image count whole e = ap objects (let same : image ≡ before = cc in same)
     ∙ sym (append-nil (objects before))
 pack_walked (file ∷ files) n before image count whole e =
-    let parts = ok_next (pack_refusal n before file) _ image e in
-    let few : n + length (objects file) ≤ OBJECT_LIMIT = ltb-false _ _ (none_refused _ _ parts.0) in
-    let p = packed_is_walked before file whole (omega arith) in
-    let counted : length (objects (before ++ packed file)) ≡ length (objects before) + length (objects file) =
-    ap length p.walked ∙ length-append (objects before) (map (moved (length before) file) (objects file))
-    ∙ ap (λ k. length (objects before) + k) (length-map (objects file) (moved (length before) file)) in
+    let next = goes_on n before file files image count whole e in
     let long : length (before ++ packed file) ≡ length before + covered (objects file)
     = length-append before (packed file) ∙ ap (λ k. length before + k) (length_packed file) in
-    pack_walked files (n + length (objects file)) (before ++ packed file) image (omega arith) p.whole parts.1
+    pack_walked files (n + length (objects file)) (before ++ packed file) image next.count next.behind.whole next.rest
     ∙ ap (λ k. objects (before ++ packed file) ++ one_after_another k files) long
-    ∙ ap (λ xs. xs ++ one_after_another (length before + covered (objects file)) files) p.walked
+    ∙ ap (λ xs. xs ++ one_after_another (length before + covered (objects file)) files) next.behind.walked
     ∙ append_assoc (objects before) (map (moved (length before) file) (objects file))
     (one_after_another (length before + covered (objects file)) files)
 
-nothing : objects [] ≡ []
+pub nothing : objects [] ≡ []
 nothing = from_end OBJECT_LIMIT [] 0 refl
 
 pub pack_is_walked : PackIsWalked

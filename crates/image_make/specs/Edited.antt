@@ -1,4 +1,5 @@
--- What an edit leaves of an image, in bytes and as it is walked.
+-- What an edit leaves of an image, in bytes and as it is walked (Tock Binary Format, "TBF Header Base"; the edits are
+-- this tool's own).
 use Rattle.std.specs.Prelude.{◌≡◌, IsSomeAnd, ◌<◌, ◌≤◌, ◌⊎◌, ℕ, ◌+◌, Bool, List, length, map, slice_index, Some, Ok}
 use Rattle.tk_base.specs.Numbers.{rounded_up}
 use Rattle.tbf_headers.specs.Numbers.{word_at}
@@ -26,6 +27,7 @@ pub record IsEnabled (on : Bool) (flash : List ℕ) (f : Found) : Type 0 where
       objects (enabled on flash f)
       ≡ map (with_reading f.offset (Ok (record (meaning_of object) { flags = flags }))) (objects flash)
 
+-- so it is with each image and each object of it that has no fault
 abbrev pub EnabledIsWalked : Type 0
 EnabledIsWalked =
     (on : Bool) (flash : List ℕ) (at : ℕ) (f : Found) → AreBytes flash → sound_found at (objects flash) ≡ Some f
@@ -41,6 +43,7 @@ pub record IsGiven (name flash : List ℕ) (f : Found) (at : ℕ) : Type 0 where
       ≡ map (with_reading f.offset (Ok (record (meaning_of (found_bytes f flash)) { name = Some name })))
       (objects flash)
 
+-- so it is with each image, and a name that the object has the place for
 abbrev pub GivenIsWalked : Type 0
 GivenIsWalked =
     (name flash : List ℕ) (offset : ℕ) (f : Found) (at : ℕ) → AreBytes flash → AreBytes name → length name ≤ 32 →

@@ -1,4 +1,5 @@
--- What edits of an object leave of its reading, and of the walk over the image.
+-- What edits of an object leave of its reading, and of the walk over the image (Tock Binary Format, "TBF Header Base";
+-- the edits are this tool's own).
 use Rattle.std.specs.Prelude.{◌≡◌, ◌<◌, ◌≤◌, ◌^◌, ℕ, ◌+◌, ◌*◌, ◌%◌, bit_xor, List, ◌++◌, length, map, slice_index, Some}
 use Rattle.std.specs.Prelude.{Result, Ok}
 use Rattle.tk_base.specs.declared.limits.TheConstants.{OBJECT_LIMIT}

@@ -9,7 +9,8 @@ ghost use Rattle.flash_walk.specs.Image.{objects};
 ghost use Rattle.image_make.specs.Edited.{LeavesEnabled, LeavesGiven};
 ghost use Rattle.image_make.specs.Edits.{mended, with_flags, with_enabled, padded, renamed};
 ghost use Rattle.image_make.specs.Parts.{object_found};
-ghost use Rattle.image_make.specs.Outcomes.{has_fault, sound_found, IsSoundObject, found_bytes, enabled, enabling, may_name, place_for, IsNamePlace, with_name, renaming, Edits};
+ghost use Rattle.image_make.specs.Outcomes.{has_fault, sound_found, IsSoundObject, found_bytes, enabled, enabling};
+ghost use Rattle.image_make.specs.Outcomes.{may_name, place_for, IsNamePlace, with_name, renaming, Edits};
 ghost use Rattle.image_make.specs.Parts.{is_visible};
 
 use crate::laws::{enabled_is_walked, given_is_walked};

@@ -1,8 +1,9 @@
 //! Laws of the definitions, each the contract of a function that does nothing.
 ghost use Rattle.image_make.specs.Decoded.{WordsAreDecoded};
 ghost use Rattle.image_make.specs.Edited.{EnabledIsWalked, GivenIsWalked};
-ghost use Rattle.image_make.specs.Packs.{ObjectsMoveAlike, PackIsWalked};
-ghost use Rattle.image_make.specs.Laws.{ChecksumOfPut, FlagsAreRead, NamesAreRead, OneObjectChanges, PackedIsWalked, MovedVerdict};
+ghost use Rattle.image_make.specs.Packs.{ObjectsMoveAlike, PackIsWalked, PackKeepsContents};
+ghost use Rattle.image_make.specs.Laws.{ChecksumOfPut, FlagsAreRead, NamesAreRead, OneObjectChanges, PackedIsWalked};
+ghost use Rattle.image_make.specs.Laws.{MovedVerdict};
 
 use flash_walk::objects_are_found;
 use tk_base::a_store_is_put;
@@ -53,6 +54,11 @@ pub fn given_is_walked()
 /// The walk over packed files is the walks over each of them, one after another.
 pub fn pack_is_walked()
     ensures { PackIsWalked }
+{}
+
+/// The objects of what is packed have exactly the bytes of the files' objects, one file after another.
+pub fn pack_keeps_contents()
+    ensures { PackKeepsContents }
 {}
 
 /// The objects of a file keep their verdicts where the file is packed, but to or from WrongFlash.

@@ -20,8 +20,8 @@ pub use edits::{EditFault, rename, set_enabled};
 pub use image::image_of;
 pub use laws::{
     checksum_of_put, enabled_is_walked, flags_are_read, given_is_walked, names_are_read,
-    objects_move_alike, one_object_changes, pack_is_walked, packed_is_walked, verdicts_move,
-    words_are_decoded,
+    objects_move_alike, one_object_changes, pack_is_walked, pack_keeps_contents, packed_is_walked,
+    verdicts_move, words_are_decoded,
 };
 pub use packs::{PackFault, pack_one};
 

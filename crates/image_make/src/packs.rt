@@ -3,7 +3,7 @@ ghost use Rattle.std.specs.Prelude.{◌≡◌, ◌≤◌, length, MatchResult, O
 ghost use Rattle.tk_base.specs.declared.limits.TheConstants.{OBJECT_LIMIT};
 ghost use Rattle.flash_walk.specs.Image.{objects};
 ghost use Rattle.image_make.specs.Images.{covered, packed};
-ghost use Rattle.image_make.specs.Packs.{IsPacked, IsPackRefused, PacksBehind};
+ghost use Rattle.image_make.specs.Packs.{IsPacked, IsPackRefused, KeepsObjects, PacksBehind};
 
 use crate::laws::packed_is_walked;
 use arrayvec::ArrayVec;
@@ -47,7 +47,9 @@ fn extent(file: &[u8]) -> (u32, usize)
 }
 
 /// Appends the bytes of a file that the walk over it covers, and counts its objects. What stands behind
-/// the last object is left out. On a refusal nothing has changed.
+/// the last object is left out. Each object of the image has exactly the bytes that it had, at its place,
+/// and so has each object of the file, as many bytes further on as the image was long. On a refusal
+/// nothing has changed.
 ///
 /// [`PackFault::Objects`] where there would be more than [`OBJECT_LIMIT`] objects, else [`PackFault::Size`] where there
 /// would be more than 1,048,576 bytes, else [`PackFault::Memory`] where there was no memory.
@@ -61,6 +63,7 @@ pub fn pack_one(image: &mut Vec<u8>, file: &[u8], objects: &mut u32) -> Result<(
         (λ fault. IsPackRefused objects.old image.old.items file.now objects.new image.new.items
         fault) }
     ensures walked { OnOk result (PacksBehind objects.old image.old.items file.now) }
+    ensures keeps { OnOk result (KeepsObjects image.old.items file.now image.new.items) }
     ensures few_objects { OnOk result (objects.new ≤ OBJECT_LIMIT) }
     ensures short_image { OnOk result (length image.new.items ≤ FLASH_LIMIT) }
 {

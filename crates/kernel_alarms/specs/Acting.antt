@@ -53,8 +53,8 @@ QuietTurnsLeaveAlarms = (settings : Settings) (time : ℕ) (r : Record) →
     let t = turned settings time r in
     may_have_acted t.told.call t.told.denial ≡ false → HasSameAlarm r.own t.after.own × (t.acts ≡ [])
 
--- whether what happens to a process can be nothing that changes its alarm: it is no turn, no act of an operator, and its
--- alarm does not fire
+-- whether what happens to a process can be nothing that changes its alarm: it is no turn, no act of an operator, and
+-- its alarm does not fire
 abbrev pub leaves_alarm : Event → Bool
 leaves_alarm (Turn time) = false
 leaves_alarm (Act verb) = false

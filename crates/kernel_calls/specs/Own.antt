@@ -1,4 +1,4 @@
--- A process with what it has beside (Levy et al., SOSP 2017).
+-- A process with what it has beside (Levy et al., SOSP 2017, section 4).
 use Rattle.std.specs.Prelude.{ℕ, List}
 use Rattle.process_model.specs.Own.{Own}
 use Rattle.process_model.specs.Flash.{object_in}

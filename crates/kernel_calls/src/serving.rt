@@ -75,7 +75,8 @@ fn serve(home: &mut Home, process: &mut Process, slot: Slot, form: &CallForm) ->
 }
 
 /// Serves a system call of the process in a slot (TRD 104, "System Call API"). It asks that the
-/// process lives: one that has ended makes no call.
+/// process lives: one that has ended makes no call; and that it started again fewer than 2^32 - 1
+/// times.
 ///
 /// A call that the header of the process's object does not permit (Tock Binary Format,
 /// "Permissions") is refused with [`Permission`](tk_base::CallRule::Permission), before all else. A
@@ -86,12 +87,14 @@ fn serve(home: &mut Home, process: &mut Process, slot: Slot, form: &CallForm) ->
 /// answer is [`ToDriver`](Outcome::ToDriver), exactly then, and nothing has changed. The board has
 /// the driver's capsule answer it, and hands what it answered to [`give_reply`](crate::give_reply).
 /// A command to any other driver is refused with [`NoDriver`](tk_base::CallRule::NoDriver). What
-/// every other call comes to rests on no driver, clock or device, and asks nothing of the board.
+/// every other call comes to rests on no driver, clock or device, and asks of the board only that a
+/// process which exits leaves every queue.
 ///
 /// Yield 0 (TRD 104, "Yield") delivers the first pending upcall, or goes on where there is none,
-/// and tells by the byte at a1 which of the two it did; yield 1 waits for an upcall. Yield 2 goes
-/// on with the arguments of the first pending upcall of the driver at a1 and the number at a2, or
-/// waits for that one alone where none is pending. Another number goes on.
+/// and tells by the byte at a1, where that lies in accessible RAM, which of the two it did; yield 1
+/// waits for an upcall. Yield 2 goes on with the arguments of the first pending upcall of the
+/// driver at a1 and the number at a2, or waits for that one alone where none is pending. Another
+/// number goes on.
 ///
 /// Subscribe and the allows (TRD 104, "Subscribe", "Read-Only Allow", "Read-Write Allow") give the
 /// former pair back. They are refused, the first cause first, with `NoDriver` where there is no

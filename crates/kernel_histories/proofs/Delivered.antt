@@ -14,7 +14,8 @@ use Rattle.kernel_model.specs.Calls.{yield_for, yield_now}
 use Rattle.kernel_model.specs.Turn.{turn_counted}
 use Rattle.kernel_model.specs.Parts.{delivery}
 use Rattle.kernel_model.specs.World.{World, after}
-use Rattle.kernel_histories.specs.Deliveries.{Takes, before_delivery, delivery_of, is_yielded, place_taken, takes, told_in}
+use Rattle.kernel_histories.specs.Deliveries.{Takes, before_delivery, delivery_of, is_yielded, place_taken, takes}
+use Rattle.kernel_histories.specs.Deliveries.{told_in}
 use Rattle.kernel_histories.specs.Deliveries.{wait_of}
 use Rattle.kernel_histories.proofs.Takings.{OfTakings, step_takes}
 

@@ -458,7 +458,8 @@ module _ (promise : Promise) (around : CommandContext) (r : Record) where
       let one = law.handing Upcall swap.driver swap.number swap.pair r.own sound.shape lt in
       record {
         shape = one.shape;
-        held = each_passing (IsSubscribed r.own) (IsSubscribed o) (λ u. not (is_of swap.driver swap.number u)) r.own.inbox.pending
+        held = each_passing (IsSubscribed r.own) (IsSubscribed o) (λ u. not (is_of swap.driver swap.number
+            u)) r.own.inbox.pending
             (λ u h apart. (
               one.others Upcall u.driver u.number
                   (λ k d n. not_both (u.driver == swap.driver) (u.number == swap.number) apart

@@ -29,7 +29,8 @@ use Rattle.kernel_model.specs.Laws.{CanStartAgain}
 use Rattle.kernel_model.specs.World.{World, after}
 use Rattle.kernel_model.specs.Replay.{after_all}
 use Rattle.kernel_model.specs.Histories.{HandedNothing, is_ended_in}
-use Rattle.kernel_histories.specs.Deliveries.{DeliveriesAreOfTheLast, DeliversAt, IsDelivered, IsOfTheLast, IsSubscribed, Scheduling}
+use Rattle.kernel_histories.specs.Deliveries.{DeliveriesAreOfTheLast, DeliversAt, IsDelivered, IsOfTheLast}
+use Rattle.kernel_histories.specs.Deliveries.{IsSubscribed, Scheduling}
 use Rattle.kernel_histories.specs.Deliveries.{Takes, left_by_turn, pending_in, pending_of}
 use Rattle.kernel_histories.specs.Deliveries.{place_taken, removed, scheduled_in, schedulings, schedulings_after}
 use Rattle.kernel_histories.specs.Deliveries.{schedulings_from, schedulings_left_by, schedulings_left_in, takes}
@@ -282,7 +283,8 @@ module _ (slot : ℕ) where
       let P : Scheduling → Type 0 = λ s. s.step < m → Q s in
       carried Q m choices (step + 1) (after w choice) (schedulings_after slot step w choice waiting) (omega (arith, le))
       (All-append P (schedulings_left_in slot w choice waiting) _
-      (act_keeps P (is_ended_in slot w choice) _ (left_keeps P (wait_in_slot slot w) (told_in slot w choice) waiting all))
+      (act_keeps P (is_ended_in slot w choice) _ (left_keeps P (wait_in_slot slot w) (told_in slot w choice) waiting
+      all))
       (scheduled_later Q m step _ le))
 
   -- a step takes it away neither by a turn nor by an operator's act
@@ -366,7 +368,8 @@ deliveries_are_of_the_last promise of_ecall w slot nothing = record {
       All-weaker (λ told. LeavesTaken (takes (wait_of r) told.call) r s)
       (λ told. let taking = takes (wait_of r) told.call in
       DeliversAt slot w choices r s taking (place_taken taking r.own.inbox.pending))
-      (λ told leaves. delivers_it choices r s (takes (wait_of r) told.call) (schedulings slot w choices) waits held_there
+      (λ told leaves. delivers_it choices r s (takes (wait_of r) told.call) (schedulings slot w choices) waits
+      held_there
       (last choices) (place_taken (takes (wait_of r) told.call) r.own.inbox.pending) refl leaves)
       (told_in slot (after_all w choices) choice)
       (step_delivers of_ecall (after_all w choices) slot choice r s is after_it);

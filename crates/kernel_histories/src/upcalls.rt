@@ -9,11 +9,12 @@ use rv32_model::denials_are_due;
 
 /// In every run from a world in which a process has handed nothing yet, each upcall that waits for
 /// it is the one that it then holds of its driver and number, and not the null upcall; so each
-/// delivery is of the upcall that is subscribed at that moment. What a turn delivers is the upcall
-/// of the first scheduling that waits, or of the first of the driver and number for which it asks:
-/// it stands in the registers then. What waits is what was scheduled and neither delivered nor
-/// taken away since: by a subscribe of the same driver and number, or by the end of that life of
-/// the process, by itself or by an operator's act (TRD 104, "Subscribe", "Yield", "Exit").
+/// delivery of a pending upcall is of the one that is subscribed at that moment. What a turn
+/// delivers is the upcall of the first scheduling that waits, or of the first of the driver and
+/// number for which it asks: it stands in the registers then. What waits is what was scheduled and
+/// neither delivered nor taken away since: by a subscribe of the same driver and number, or by the
+/// end of that life of the process, by itself or by an operator's act (TRD 104, "Subscribe",
+/// "Yield", "Exit").
 pub fn deliveries_are_of_the_last()
     ensures { DeliveriesAreOfTheLast }
 {

@@ -1,5 +1,6 @@
 -- What an answer of a device leaves of what its process keeps for the drivers of all other devices.
-use Rattle.std.proofs.Common.{◌≡◌, ℕ, ◌-◌, ◌==◌, Bool, true, false, cond, nat_le, List, [], ◌∷◌, Option, None, Some, refl}
+use Rattle.std.proofs.Common.{◌≡◌, ℕ, ◌-◌, ◌==◌, Bool, true, false, cond, nat_le, List, [], ◌∷◌, Option, None, Some}
+use Rattle.std.proofs.Common.{refl}
 use Rattle.std.proofs.Common.{◌∙◌, not, unwrap_or}
 use Rattle.std.specs.Option.{option_map}
 use Rattle.tk_base.specs.Bits.{bit_of}

@@ -78,7 +78,8 @@ module _ (P : ℕ → Own → Own → Type 0) (each : OfEachKeeping P) (around :
 
     if_armed : (armed : Armed) → P alarm.alarm_driver own (alarm.arming armed own).step.own
     if_armed armed =
-        if_so P each alarm.alarm_driver own (has_place alarm.alarm_driver own) _ _ (each.enters _ _ own) (each.same _ own)
+        if_so P each alarm.alarm_driver own (has_place alarm.alarm_driver own) _ _ (each.enters _ _ own) (each.same _
+        own)
 
     of_alarm : P alarm.alarm_driver own (alarm.command around.now number a2 a3 own).step.own
     unfolding Each alarm.command alarm.commands
@@ -143,7 +144,8 @@ module _ (P : ℕ → Own → Own → Type 0) (each : OfEachKeeping P) (around :
         found P each random.random own (random.commands a2 own) number
         (each.same _ own, (if_asked P each random.random own random.randoms _ refl, tt))
 
-    if_fits : (request : StorageRequest) → P storage.storage own (storage.requesting around.storage request own).step.own
+    if_fits : (request : StorageRequest) → P storage.storage own (storage.requesting around.storage request
+        own).step.own
     if_fits request =
         if_so P each storage.storage own (nat_le (request.offset + request.length) around.storage) _ _
         (if_asked P each storage.storage own storage.storages request refl) (each.same _ own)

@@ -365,7 +365,8 @@ module _ (law : DriversScheduleTheirOwn) (refuse : RefusedByAnyDriver) (of_ecall
         serves_event w.settings _ r (serving_no_edge w slot (receive_step (lane_in w) w.devices) (λ at x. refl)
         (served_by w dev.Receive))
     of_device dev.Random =
-        serves_event w.settings _ r (serving_no_edge w slot (random_step (lane_in w) w.devices) (λ at x. drawn_no_edge _)
+        serves_event w.settings _ r (serving_no_edge w slot (random_step (lane_in w) w.devices) (λ at x. drawn_no_edge
+        _)
         (served_by w dev.Random))
     of_device dev.Store =
         serves_event w.settings _ r (serving_no_edge w slot (storing (lane_in w) w.devices) (λ at x. refl)

@@ -28,7 +28,8 @@ use Rattle.kernel_model.specs.Turn.{Taken, WriteDone, turned}
 use Rattle.kernel_model.specs.World.{Answer, DeviceAnswer, DeviceStep, Devices, Label, Stepped, World, acted, after}
 use Rattle.kernel_model.specs.World.{answer_label, answering, arrived, carried_out, coming_in, device_step_of, done}
 use Rattle.kernel_model.specs.World.{is_ready, labels, labels_told, lane_in, only_for, operating, queue_without, ran}
-use Rattle.kernel_model.specs.World.{random_step, receive_step, routed, serving, stepped, storing, telling_edge, telling_nobody}
+use Rattle.kernel_model.specs.World.{random_step, receive_step, routed, serving, stepped, storing, telling_edge}
+use Rattle.kernel_model.specs.World.{telling_nobody}
 use Rattle.kernel_model.specs.World.{transmitting, turn_label, unmade, with_queue}
 use Rattle.kernel_model.specs.Parts.{acting_on, acts_of, alarmed, drawn_event, served_by, slot_of_name}
 use Rattle.kernel_model.specs.Named.{lane_by, slots_in}
@@ -272,7 +273,8 @@ module _ (w : World) (lane : ℕ) where
       → Keeps [] (done w (Some (telling_edge button pressed w.records (with_rest w.devices rest))))
   of_edge button pressed rest =
       quietly _ _ _ (tells_no_input (telling_edge button pressed w.records (with_rest w.devices rest))
-      (λ at a is. ap (λ (x : Answer). input_in x.event) (edge_answer button pressed (slice_get w.records at) a is))) refl
+      (λ at a is. ap (λ (x : Answer). input_in x.event) (edge_answer button pressed (slice_get w.records at) a
+      is))) refl
 
   of_arrived : (arrivals : List Arrival)
       → Keeps (bytes_arriving (option_to_list (slice_get arrivals 0))) (done w (arrived w.records w.devices arrivals))

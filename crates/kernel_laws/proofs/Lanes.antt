@@ -21,7 +21,8 @@ first_served only slot (s ∷ slots) e = by_test (s == only) refl (first_served 
   where
     by_test : (b : Bool) → (s == only) ≡ b
         → (slice_get (filter (λ (s : ℕ). s == only) slots) 0 ≡ Some slot → slot ≡ only)
-        → slice_get (cond b (s ∷ filter (λ (s : ℕ). s == only) slots) (filter (λ (s : ℕ). s == only) slots)) 0 ≡ Some slot
+        → slice_get (cond b (s ∷ filter (λ (s : ℕ). s == only) slots) (filter (λ (s : ℕ). s == only)
+        slots)) 0 ≡ Some slot
         → slot ≡ only
     by_test true is later e =
         let same : s ≡ slot = cc in

@@ -160,7 +160,8 @@ none_to : (p : ℕ → Bool) (from count : ℕ) → ((slot : ℕ) → from ≤ s
     → find p (range_with_len from count) ≡ None
 none_to p from zero none = refl
 none_to p from (suc count) none =
-    ap (λ (b : Bool). cond b (Some from) (find p (range_with_len (from + 1) count))) (none from (omega arith) (omega arith))
+    ap (λ (b : Bool). cond b (Some from) (find p (range_with_len (from + 1) count))) (none from (omega arith) (omega
+    arith))
     ∙ none_to p (from + 1) count (λ slot low high. none slot (omega (arith, low)) (omega (arith, high)))
 
 -- no choice is left where no device step is ready, no slot is, and none becomes so
@@ -346,7 +347,8 @@ plainly_left u few e =
     device.1 in
     let times = nearer_none (arrival_time w.devices.arrivals) _
     (mapped_none (λ (at : ℕ). Pass (at - w.clock.time)) (next_time w) turn.1) in
-    let later = nearer_none (alarm_time None w.clock.time (now_in w) (owns_in w)) (sending_time None w.devices) times.1 in
+    let later = nearer_none (alarm_time None w.clock.time (now_in w) (owns_in w)) (sending_time None
+    w.devices) times.1 in
     let alarms = (folded_none (now_in w) (owns_in w) 0 SLOT_COUNT None
     (mapped_none (λ (left : ℕ). w.clock.time + left) (next_left (now_in w) (owns_in w)) later.0)).1 in
     record {
@@ -453,7 +455,8 @@ windows_done u n none = none_chosen w device turn time
     turn = none_has_turn (ready_slots w) w.present.slot w.present.used w.pace.slice (λ slot. by_test slot
         (is_ready_at (ready_slots w) slot) refl)
       where
-        by_test : (slot : ℕ) (b : Bool) → is_ready_at (ready_slots w) slot ≡ b → is_ready_at (ready_slots w) slot ≡ false
+        by_test : (slot : ℕ) (b : Bool) → is_ready_at (ready_slots w) slot ≡ b → is_ready_at (ready_slots
+            w) slot ≡ false
         by_test slot false e = e
         by_test slot true e =
             absurd (false≢true (sym (told_ready w.records slot ∙ none.slots slot)
@@ -462,7 +465,8 @@ windows_done u n none = none_chosen w device turn time
     none_next : (slot : ℕ) → slot < SLOT_COUNT → (work_for w slot).next ≡ None
     none_next slot h =
         ap (λ (a : List Arrival). nearer (arrival_time a) (nearer
-        (alarm_time (Some slot) w.clock.time (now_in w) (owns_in w)) (sending_time (Some slot) w.devices))) none.arrivals
+        (alarm_time (Some slot) w.clock.time (now_in w) (owns_in w)) (sending_time (Some slot)
+        w.devices))) none.arrivals
         ∙ ap (λ (left : Option ℕ). nearer (option_map (λ (left : ℕ). w.clock.time + left) left)
         (sending_time (Some slot) w.devices)) (no_alarm_left w slot (none.alarms slot))
         ∙ ap (λ (writes : List ℕ). cond (is_waited_for writes) (Some (line_in slot w.devices).free) None)

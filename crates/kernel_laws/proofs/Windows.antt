@@ -1,6 +1,7 @@
 -- With time partitions the next choice is that of the window.
 use Rattle.std.proofs.Common.{◌≡◌, ◌≤◌, ◌<◌, ℕ, zero, suc, ◌+◌, ◌-◌, min, Bool, true, false, cond}
-use Rattle.std.proofs.Common.{◌&&◌, nat_le, IsTrue, ◌||◌, if◌then◌else◌, List, [], ◌∷◌, map, find, slice_get, slice_index_or, is_some}
+use Rattle.std.proofs.Common.{◌&&◌, nat_le, IsTrue, ◌||◌, if◌then◌else◌, List, [], ◌∷◌, map, find, slice_get}
+use Rattle.std.proofs.Common.{slice_index_or, is_some}
 use Rattle.std.proofs.Common.{Option, None, Some, refl, sym, ap, ap₂, ◌∙◌, arith, eqb-true}
 use Rattle.std.specs.List.{range_with_len}
 use Rattle.std.specs.Option.{ForSome, option_map, option_or}
@@ -201,7 +202,8 @@ none_passes p slot none there =
 none_is_found : (p : ℕ → Bool) → ((slot : ℕ) → slot < SLOT_COUNT → p slot ≡ false)
     → is_some (find p (range_with_len 0 SLOT_COUNT)) ≡ false
 none_is_found p none =
-    none-find_range p 0 SLOT_COUNT (λ slot there. let same : 0 + slot ≡ slot = omega arith in ap p same ∙ none slot there)
+    none-find_range p 0 SLOT_COUNT (λ slot there. let same : 0 + slot ≡ slot = omega arith in ap p same ∙ none slot
+    there)
 
 both_none : (a b : Bool) → (a || b) ≡ false → (a ≡ false) × (b ≡ false)
 both_none true b e = absurd (false≢true (sym e))

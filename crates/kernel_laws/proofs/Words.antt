@@ -1,6 +1,7 @@
 -- Which random words the steps tell, and which are left.
 use Rattle.std.proofs.Common.{◌≡◌, ◌≤◌, ℕ, zero, suc, ◌==◌, Bool, true, false, cond, List, [], ◌∷◌, ◌++◌}
-use Rattle.std.proofs.Common.{length, slice_get, slice_index_or, slice_set, IfSome, Option, None, Some, refl, sym, ap, ap₂}
+use Rattle.std.proofs.Common.{length, slice_get, slice_index_or, slice_set, IfSome, Option, None, Some, refl, sym, ap}
+use Rattle.std.proofs.Common.{ap₂}
 use Rattle.std.proofs.Common.{subst, ◌∙◌, arith, eqb-true, eq-eqb}
 use Rattle.std.proofs.lemmas.Bool.{false≢true}
 use Rattle.std.proofs.lemmas.List.{get_or-set_other}
@@ -67,7 +68,8 @@ drawn_is (first ∷ words) (Some word) next = ap (λ (w : ℕ). w ∷ words) (th
     the_one x y e = cc
 
 -- what stands at a place of a list once it was put there
-put_there : (xs : List (List ℕ)) (i : ℕ) (v : List ℕ) → (length xs ≤ i → v ≡ []) → slice_index_or (slice_set xs i v) i [] ≡ v
+put_there : (xs : List (List ℕ)) (i : ℕ) (v : List ℕ) → (length xs ≤ i → v ≡ []) → slice_index_or (slice_set xs i
+    v) i [] ≡ v
 put_there [] i v beyond = sym (beyond (omega arith))
 put_there (x ∷ xs) zero v beyond = refl
 put_there (x ∷ xs) (suc i) v beyond = put_there xs i v (λ h. beyond (omega (arith, h)))

@@ -1,6 +1,7 @@
 -- That an alarm fires when it is due. The alarm is Tock's driver 0x0; that devices come before turns and passes is this
 -- board's own rule.
-use Rattle.std.specs.Prelude.{◌≡◌, ◌≤◌, ◌<◌, ℕ, Bool, true, false, length, List, Option, slice_get, Some, None, is_some, All, IfSome}
+use Rattle.std.specs.Prelude.{◌≡◌, ◌≤◌, ◌<◌, ℕ, Bool, true, false, length, List, Option, slice_get, Some, None, is_some}
+use Rattle.std.specs.Prelude.{All, IfSome}
 use Rattle.std.specs.Prelude.{IsSomeAnd}
 use Rattle.tk_base.specs.declared.limits.TheConstants.{SLOT_COUNT}
 use Rattle.tk_base.specs.declared.process.Choice.{Choice}

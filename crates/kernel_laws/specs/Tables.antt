@@ -1,4 +1,5 @@
--- That the tables agree.
+-- That the tables agree: that of the drivers, which are Tock's (driver 0x0 to driver 0x50001), and that of the
+-- instructions (RISC-V unprivileged manual, "RV32/64G Instruction Set Listings").
 use Rattle.std.specs.Prelude.{◌≡◌, ℕ, filter, is_some}
 use Rattle.rv32_model.specs.Instructions.{row_fits, instruction_table}
 use Rattle.grant_values.specs.Drivers.{counts_of}

@@ -28,10 +28,11 @@ pub fn rounds_join()
     ensures { RoundsJoin }
 {}
 
-/// No process that is ready waits for good: in every run by the round robin, on a board of no more
-/// processes than slots, every window of as many turns of processes as all slots have in a slice
-/// each, in which a process is ready throughout, has a turn of that process. Device steps and
-/// passes of time may come between the turns.
+/// No process that is ready waits for good: in every run by the round robin without time
+/// partitions, where a slice has some turns, on a board of no more processes than slots, every
+/// window of as many turns of processes as all slots have in a slice each, in which a process is
+/// ready throughout, has a turn of that process. Device steps and passes of time may come between
+/// the turns.
 pub fn ready_processes_have_turns()
     ensures { ReadyProcessesHaveTurns }
 {
@@ -39,9 +40,9 @@ pub fn ready_processes_have_turns()
 }
 
 /// A run by the round robin is one run: it leads where its choices lead, and tells what their steps
-/// tell. Each of its choices is ready in its turn. On a board of no more processes than slots it is
-/// done exactly where no process and no device is ready, nothing is still to come in, no process
-/// that lives has an alarm armed, and no write waits.
+/// tell. Each of its choices is ready in its turn, below the limit of steps. On a board of no more
+/// processes than slots it is done exactly where no process and no device is ready, nothing is
+/// still to come in, no process that lives has an alarm armed, and no write waits.
 pub fn a_run_is_one_run()
     ensures one { OneRun }
     ensures ready { ChosenAreReady }

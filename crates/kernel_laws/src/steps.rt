@@ -56,9 +56,9 @@ pub fn tables_name_the_same_drivers()
     ensures rows { EachRowFitsAWord }
 {}
 
-/// Whatever choices are made: the random words that were left before them are those that processes
-/// were told, in that order, and then those that are left. No word is drawn twice, and none is
-/// passed over.
+/// Whatever choices are made: in each lane the random words that were left before them are those
+/// that processes were told, in that order, and then those that are left. No word is drawn twice,
+/// and none is passed over.
 pub fn words_are_drawn_in_order()
     ensures { WordsAreDrawnInOrder }
 {

@@ -215,7 +215,8 @@ module _ (ask : AskTheirOwn) (refuse : RefusedByAnyDriver) (queue : QueueName) (
           acts = (taker around number b2 b3 r.own).acts;
         })
     of_answer driver number b2 b3 taker is command (Ok reply) answers waits =
-        let own = handled (λ (t : CommandHandler). Begins queue driver (t around number b2 b3 r.own).acts) driver taker is
+        let own = handled (λ (t : CommandHandler). Begins queue driver (t around number b2 b3
+        r.own).acts) driver taker is
         (λ d same. subst (λ (n : ℕ). Begins queue n (handler_by d around number b2 b3 r.own).acts) same
         (begins_own ask queue around number b2 b3 r.own d)) in
         let queues : (a0 r.process.regs == (kind_in queue).driver) ≡ true =
@@ -271,7 +272,8 @@ module _ (ask : AskTheirOwn) (refuse : RefusedByAnyDriver) (queue : QueueName) (
   of_calls r accesses (Some call) is =
       of_served ask refuse queue (surroundings settings time r) r settings.strict call is
 
-  of_end : (r : Record) (accesses : List MemoryAccess) (end : TurnEnd) → AsksIn (at_turn_end settings time r accesses end)
+  of_end : (r : Record) (accesses : List MemoryAccess) (end : TurnEnd) → AsksIn (at_turn_end settings time r accesses
+      end)
   of_end r accesses ends.Went = no_wait
   of_end r accesses ends.Call = of_calls r accesses (call_of r.process.regs) refl
   of_end r accesses (ends.Trap denial) = of_fault r denial
@@ -423,7 +425,8 @@ module _ (follow : LinesFollowAnswers) (tell : EventsTellSteps) (keep : TurnsKee
 
   none_begun : (s : Stepped) → Waited s → Begun s
   none_begun s waited begun =
-      absurd (not_both (asks_at queue (slice_get w.records slot)) (asks_at queue (slice_get s.after.records slot)) waited
+      absurd (not_both (asks_at queue (slice_get w.records slot)) (asks_at queue (slice_get s.after.records slot))
+      waited
       begun)
 
   both : (a b : Bool) → (not a && b) ≡ true → (a ≡ false) × (b ≡ true)

@@ -1,6 +1,7 @@
 -- That each storage request asks for bytes that its slot has: a command is refused that asks for others, and storage
 -- stays as long as it is.
-use Rattle.std.proofs.Common.{◌≡◌, ◌≤◌, ◌<◌, slice_index, ℕ, ◌+◌, ◌==◌, Bool, true, false, cond, not, List, [], ◌∷◌, ◌++◌, drop, length}
+use Rattle.std.proofs.Common.{◌≡◌, ◌≤◌, ◌<◌, slice_index, ℕ, ◌+◌, ◌==◌, Bool, true, false, cond, not, List, [], ◌∷◌}
+use Rattle.std.proofs.Common.{◌++◌, drop, length}
 use Rattle.std.proofs.Common.{take, slice_get, Option, None, Some, IfSome, refl, sym, ap, subst, ◌∙◌, arith, unwrap_or}
 use Rattle.std.specs.Option.{option_and_then, option_map}
 use Rattle.std.proofs.lemmas.List.{length-append, length-drop, length-take}
@@ -209,7 +210,8 @@ kept_waiting own request waits = by_lives own.lives waits
 pub reads_in_runs_give_storage : HoldsThroughout HasWholeOwn → RequestsStayWithin → ReadsInRunsGiveStorage
 reads_in_runs_give_storage stay within w choices choice slot r s lives whole asks there later told =
     subst (GaveStorage r) (same_some served s
-    (sym (record_is_replay v (choice ∷ []) slot ∙ ap (option_map (replay v.settings (history slot v (choice ∷ [])))) there
+    (sym (record_is_replay v (choice ∷ []) slot ∙ ap (option_map (replay v.settings (history slot v (choice ∷ []))))
+    there
     ∙ ap (λ (events : List Event). Some (replay v.settings events r)) told) ∙ later))
     (by_request (waiting_in storages r.own) refl)
   where

@@ -1,7 +1,8 @@
 -- That a write completes truly: each step that leaves it waiting prints the next bytes of its buffer, as many as it
 -- counts, or nothing.
 use Rattle.std.proofs.Common.{◌≡◌, ◌≢◌, ◌≤◌, ℕ, zero, suc, ◌+◌, ◌-◌, ◌==◌, ◌&&◌, ◌||◌, Bool, true, false, cond, not}
-use Rattle.std.proofs.Common.{min, List, [], ◌∷◌, ◌++◌, drop, length, map, slice_get, slice_set, take, Option, None, Some}
+use Rattle.std.proofs.Common.{min, List, [], ◌∷◌, ◌++◌, drop, length, map, slice_get, slice_set, take, Option, None}
+use Rattle.std.proofs.Common.{Some}
 use Rattle.std.proofs.Common.{IfSome, is_some, refl, sym, ap, ap₂, subst, ◌∙◌, arith, eqb-true, eq-eqb, unwrap_or}
 use Rattle.std.specs.List.{flat_map, list_any, range_with_len}
 use Rattle.std.specs.Option.{option_and_then, option_map}
@@ -222,7 +223,8 @@ module _ (settings : Settings) (r : Record) (whole : HasWholeOwn r) where
             printed = console.next_bytes (flash_of r) write r.own;
             completed = false;
           }) in
-          Steps r s.printed (is_done (cond s.completed WriteDone Taken)) (apply settings (cond s.completed WriteDone Taken) r)
+          Steps r s.printed (is_done (cond s.completed WriteDone Taken)) (apply settings (cond s.completed WriteDone
+          Taken) r)
       by_portion write is true none =
           subst (Steps r [] true) (sym (ap (λ (o : Option WaitingWrite). record_with_step r (unwrap_or
           (option_map (console.write_completing r.own) o) (silently r.own))) is)) (completes_write write is none)
@@ -233,7 +235,8 @@ module _ (settings : Settings) (r : Record) (whole : HasWholeOwn r) where
 
       by_waiting : (o : Option WaitingWrite) → write_at r ≡ o →
           let s : Sent = unwrap_or (option_map (console.sending (flash_of r) r.own) o) (console.unsent r.own) in
-          Steps r s.printed (is_done (cond s.completed WriteDone Taken)) (apply settings (cond s.completed WriteDone Taken) r)
+          Steps r s.printed (is_done (cond s.completed WriteDone Taken)) (apply settings (cond s.completed WriteDone
+          Taken) r)
       by_waiting None is =
           subst (Steps r [] false) (sym (ap (λ (o : Option WaitingWrite). record_with_step r (unwrap_or
           (option_map (console.taking r.own) o) (silently r.own))) is)) (stays r)
@@ -324,7 +327,8 @@ module _ (keep : DriversKeep) (alone : OnlyDriversMoveLines) (w : World) (slot :
   of_edge button pressed = by_test (differs r.pressed button pressed)
     where
       by_test : (b : Bool) → Steps r [] false (cond b (edge_known button pressed r) r)
-      by_test true = quietly r (edge_known button pressed r) (answer_goes keep w.settings (Edge button pressed) r refl refl)
+      by_test true = quietly r (edge_known button pressed r) (answer_goes keep w.settings (Edge button pressed) r refl
+          refl)
       by_test false = stays r
 
   edges : (button : ℕ) (pressed : Bool) (rest : List Arrival)
@@ -445,7 +449,8 @@ record Waited (v : World) (choices : List Choice) (slot : ℕ) (write : WaitingW
   fits : write.taken ≤ write.length → write.taken + length (written_by slot v choices) ≤ write.length
 
 module _ (keep : DriversKeep) (alone : OnlyDriversMoveLines) (stay : HoldsThroughout HasWholeOwn) where
-  whole_in : (v : World) (slot : ℕ) (r : Record) → AllHaveWholeOwns v → slice_get v.records slot ≡ Some r → HasWholeOwn r
+  whole_in : (v : World) (slot : ℕ) (r :
+      Record) → AllHaveWholeOwns v → slice_get v.records slot ≡ Some r → HasWholeOwn r
   whole_in v slot r all is = subst (λ (o : Option Record). IfSome o HasWholeOwn) is (all slot)
 
   after_whole : (v : World) (choice : Choice) → AllHaveWholeOwns v → AllHaveWholeOwns (after v choice)
@@ -554,7 +559,8 @@ module _ (keep : DriversKeep) (alone : OnlyDriversMoveLines) (stay : HoldsThroug
             let waits_there : write_at r ≡ Some (taken_more write count) =
             sym (ap (option_and_then write_at) there) ∙ run.is in
             let steps = subst (λ (o : Option Record). IfSome o
-            (Steps r (flat_map (written_in slot) (labels u choice)) (list_any (completes slot) (labels u choice)))) later
+            (Steps r (flat_map (written_in slot) (labels u choice)) (list_any (completes slot) (labels u
+            choice)))) later
             (step_written keep alone u slot r there
             (subst (λ (o : Option Record). IfSome o HasWholeOwn) there
             (stay w (begin ∷ choices) slot (all slot))) choice) in

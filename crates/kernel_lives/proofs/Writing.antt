@@ -279,15 +279,18 @@ answer_keeps : (settings : Settings) (event : Event) (r : Record) → IsAnswer e
     → write_of (apply settings event r).own ≡ write_of r.own
 unfolding apply
 answer_keeps settings (Turn time) r is other = absurd (cc)
-answer_keeps settings (Alarmed now) r is other = ap write_told (answers_beside settings (Alarmed now) r console.console is refl)
+answer_keeps settings (Alarmed now) r is other = ap write_told (answers_beside settings (Alarmed now) r console.console
+    is refl)
 answer_keeps settings (Edge button pressed) r is other =
     ap write_told (answers_beside settings (Edge button pressed) r console.console is refl)
 answer_keeps settings Taken r is other = absurd (false≢true (sym other))
 answer_keeps settings WriteDone r is other = absurd (false≢true (sym other))
 answer_keeps settings (Input bytes) r is other = of_input bytes r.own
-answer_keeps settings (Word word) r is other = ap write_told (answers_beside settings (Word word) r console.console is refl)
+answer_keeps settings (Word word) r is other = ap write_told (answers_beside settings (Word word) r console.console is
+    refl)
 answer_keeps settings NoWord r is other = ap write_told (answers_beside settings NoWord r console.console is refl)
-answer_keeps settings (Stored moved) r is other = ap write_told (answers_beside settings (Stored moved) r console.console is refl)
+answer_keeps settings (Stored moved) r is other = ap write_told (answers_beside settings (Stored moved) r
+    console.console is refl)
 answer_keeps settings (Act verb) r is other = absurd (cc)
 
 pub answer_goes : DriversKeep → (settings : Settings) (event : Event) (r : Record) → IsAnswer event

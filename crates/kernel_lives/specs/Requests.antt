@@ -1,6 +1,7 @@
 -- That requests which begin to wait are completed once at most, and that none outlives the life in which it waits.
 -- Requests wait in grants (Levy et al., SOSP 2017, section 4); their queues are this board's own rule.
-use Rattle.std.specs.Prelude.{◌≡◌, ◌≤◌, ℕ, ◌+◌, ◌==◌, ◌&&◌, Bool, true, false, not, List, [], ◌∷◌, slice_get, slice_index, is_none, Some}
+use Rattle.std.specs.Prelude.{◌≡◌, ◌≤◌, ℕ, ◌+◌, ◌==◌, ◌&&◌, Bool, true, false, not, List, [], ◌∷◌, slice_get}
+use Rattle.std.specs.Prelude.{slice_index, is_none, Some}
 use Rattle.std.specs.Prelude.{IfSome, option_map, unwrap_or}
 use Rattle.std.specs.List.{list_any}
 use Rattle.tk_base.specs.declared.process.Choice.{Choice}

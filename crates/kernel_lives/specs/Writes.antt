@@ -1,6 +1,7 @@
 -- That a write to the console completes truly (Tock's driver 0x1): its upcall tells how many bytes were printed for it,
 -- and these are the first bytes of the buffer that its process has allowed (TRD 104, "Read-Only Allow").
-use Rattle.std.specs.Prelude.{◌≡◌, ◌≤◌, ℕ, ◌==◌, ◌&&◌, Bool, true, false, not, if◌then◌else◌, List, [], ◌∷◌, length, min}
+use Rattle.std.specs.Prelude.{◌≡◌, ◌≤◌, ℕ, ◌==◌, ◌&&◌, Bool, true, false, not, if◌then◌else◌, List, [], ◌∷◌, length}
+use Rattle.std.specs.Prelude.{min}
 use Rattle.std.specs.Prelude.{slice_get, take, Option, None, Some, is_some, option_and_then, option_map}
 use Rattle.std.specs.List.{flat_map, list_any}
 use Rattle.tk_base.specs.declared.kinds.PairKind.TheVariants.{ReadOnly}
@@ -52,7 +53,8 @@ BufferStays slot bytes = Throughout (λ v choice. option_map write_bytes (slice_
 
 -- A write of so many bytes that completes when so many were printed of it, from its process as it is before that to the
 -- process as it is after: upcall 1 is scheduled, whose first argument is how many were printed, and the write waits no
--- more; no more were printed than it asked for, and as many as that, or as the buffer has that is held then.
+-- more; no more were printed than it asked for, and at least the lesser of that and of what the buffer has that is held
+-- then.
 pub record CompletesTruly (asked printed : ℕ) (r s : Record) : Type 0 where
   pub tells : s ≡ record r {
     own = own_scheduled console 1 (printed ∷ 0 ∷ 0 ∷ []) (with_request console_writes None r.own);

@@ -96,11 +96,12 @@ pub fn lists_are_of_requests()
 }
 
 /// Whatever choices are made: where a process's memory is in order, its bytes end at the kernel
-/// break, where its grants begin, and each buffer that it has allowed lies in accessible flash, or
-/// in its RAM below the mark, so it stays. What is its own is then whole in every world; each byte
-/// of a buffer lies in accessible RAM below the kernel break, so off its grants, or, of a read-only
-/// one, in accessible flash; and no step changes a byte of a process without a cause among its
-/// labels (Levy et al., SOSP 2017; TRD 104, "Read-Only Allow", "Read-Write Allow").
+/// break, where its grants begin, and each buffer with bytes that it has allowed lies in its RAM
+/// below the mark, or, a read-only one, there or in accessible flash, so it stays. What is its own
+/// is then whole in every world; each byte of a buffer lies in accessible RAM below the kernel
+/// break, so off its grants, or, of a read-only one, in accessible flash; and no step changes a
+/// byte of a process without a cause among its labels (Levy et al., SOSP 2017; TRD 104, "Read-Only
+/// Allow", "Read-Write Allow").
 pub fn owns_stay_whole()
     ensures stays { HoldsThroughout HasWholeOwn }
     ensures whole { OwnsStayWhole }
@@ -154,8 +155,8 @@ pub fn requests_complete_once()
 /// begins to wait in a step, and waits after each of some choices, has printed the first bytes of
 /// the buffer that its process held meanwhile, in order, if that stayed as it was; and where the
 /// next step tells the process that it completed, its upcall's first argument is how many bytes
-/// these choices printed of it. These are as many as it asked for, or as the buffer has that is
-/// held then (TRD 104, "Read-Only Allow").
+/// these choices printed of it. These are no more than it asked for, and at least the lesser of
+/// that and of what the buffer has that is held then (TRD 104, "Read-Only Allow").
 pub fn writes_complete_truly()
     ensures { WritesCompleteTruly }
 {

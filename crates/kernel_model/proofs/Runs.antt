@@ -70,7 +70,8 @@ none_flagged (f ∷ fs) zero e = false≢true e
 none_flagged (f ∷ fs) (suc s) e = none_flagged fs s e
 
 one_flagged : (flags : List Bool) (only s : ℕ)
-    → slice_index_or (slice_set (map (λ (flag : Bool). false) flags) only (slice_index_or flags only false)) s false ≡ true
+    → slice_index_or (slice_set (map (λ (flag : Bool). false) flags) only (slice_index_or flags only
+    false)) s false ≡ true
     → slice_index_or flags s false ≡ true
 one_flagged [] only s e = e
 one_flagged (f ∷ fs) zero zero e = e

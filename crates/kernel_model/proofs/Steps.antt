@@ -231,11 +231,13 @@ device_answers w dev.Event = arrived_answers w w.devices.arrivals
 device_answers w dev.Alarm =
     serving_answers w (λ slot r. alarmed w.settings w.clock.time w.devices) (λ slot r. refl) (served_by w dev.Alarm)
 device_answers w dev.Uart =
-    serving_answers w (transmitting (lane_in w) w.clock.time w.devices) (λ slot r. answer_no_turn _ (sent_is_answer _)) (served_by w dev.Uart)
+    serving_answers w (transmitting (lane_in w) w.clock.time w.devices) (λ slot r. answer_no_turn _ (sent_is_answer
+    _)) (served_by w dev.Uart)
 device_answers w dev.Receive =
     serving_answers w (receive_step (lane_in w) w.devices) (λ slot r. refl) (served_by w dev.Receive)
 device_answers w dev.Random =
-    serving_answers w (random_step (lane_in w) w.devices) (λ slot r. answer_no_turn _ (drawn_is_answer _)) (served_by w dev.Random)
+    serving_answers w (random_step (lane_in w) w.devices) (λ slot r. answer_no_turn _ (drawn_is_answer _)) (served_by w
+    dev.Random)
 device_answers w dev.Store = serving_answers w (storing (lane_in w) w.devices) (λ slot r. refl) (served_by w dev.Store)
 
 -- each device that lets nothing come in tells answers alone
@@ -289,7 +291,8 @@ or_false true = refl
 or_false false = refl
 
 -- what a device's step tells a process ends a life of it as that event does
-pub ended_told : (w : World) (slot : ℕ) (deed : DeviceStep) (r : Record) (a : Answer) → slice_get w.records slot ≡ Some r
+pub ended_told : (w : World) (slot : ℕ) (deed : DeviceStep) (r : Record) (a :
+    Answer) → slice_get w.records slot ≡ Some r
     → deed.told slot ≡ Some a
     → list_any (is_end (slice_get w.records slot)) (flat_map (happened slot) (done w (Some deed)).labels)
     ≡ is_end (Some r) a.event

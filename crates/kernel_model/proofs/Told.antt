@@ -316,7 +316,8 @@ module _ (w : World) (P : Stepped → Type 0) (none : P (unmade w)) where
           (telling_nobody (with_rest w.devices rest)))))
       by_there verb slot None e = by_nobody
       by_there verb slot (Some r) e =
-          subst P (sym (done_one w slot (operating verb (with_rest w.devices rest) slot r) r e)) (acts verb rest slot r e)
+          subst P (sym (done_one w slot (operating verb (with_rest w.devices rest) slot r) r e)) (acts verb rest slot r
+          e)
 
       by_slot : (verb : Verb) (o : Option ℕ)
           → P (done w (Some (acting_on verb w.records (with_rest w.devices rest) o)))

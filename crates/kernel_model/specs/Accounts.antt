@@ -32,10 +32,10 @@ IsRecordedIn w label = (denial : Denial) → label.trace.denial ≡ Some denial
 
 -- Each byte that changes of a process has its cause in what the step tells; each access of a turn was permitted, and
 -- each denial was due, is shown, and stands in the process's record after the step; a call that was refused changed
--- nothing but its process's reply, and the counts; what was printed was a process's own, in the buffer that it then
--- held, or its line in a list; an edge of a button schedules one upcall for each process that is told of it, and
--- nothing else schedules any; an operator's act changes the process that it names and its requests, and nothing else of
--- the board.
+-- nothing of its process but its reply registers, pc, count of turns and recorded refusal; what was printed was a
+-- process's own, in the buffer that it then held, or its line in a list; an edge of a button schedules one upcall for
+-- each process that is told of it, and nothing else schedules any; an operator's act changes the process that it names
+-- and its requests, and nothing else of the board.
 pub record IsAccountedFor (w : World) (choice : Choice) : Type 0 where
   pub causes : OfEachProcess w choice (ChangeHasACause w choice)
   pub accesses : All (OfTurn (λ r told. All (IsPermitted r.own) told.accesses) w) (labels w choice)

@@ -39,7 +39,8 @@ use Rattle.syscall_abi.specs.declared.reply.Reply.TheVariants.{SuccessU32U32}
 use Rattle.process_record.specs.declared.outcome.Outcome.{Outcome}
 use Rattle.process_record.specs.declared.outcome.Outcome.TheVariants.{Replied, Waits, Delivered, GoesOn, Ended, Again}
 use Rattle.process_record.specs.Process.{after_end}
-use Rattle.process_record.specs.Process.{after_call, after_reply, after_refusal, delivered, restarted_with_regs, start_regs}
+use Rattle.process_record.specs.Process.{after_call, after_reply, after_refusal, delivered, restarted_with_regs}
+use Rattle.process_record.specs.Process.{start_regs}
 use Rattle.process_record.specs.Process.{waiting}
 use Rattle.kernel_model.specs.Record.{Record, record_with_step}
 

@@ -64,6 +64,7 @@ abbrev pub BlocksAreApart : World → Type 0
 BlocksAreApart w = (i j : ℕ) (r s : Record) → i ≢ j →
     slice_get w.records i ≡ Some r → slice_get w.records j ≡ Some s → AreApart r s
 
+-- where no two blocks overlap, none do after any choices
 abbrev pub BlocksStayApart : Type 0
 BlocksStayApart = (w : World) (choices : List Choice) → BlocksAreApart w → BlocksAreApart (after_all w choices)
 

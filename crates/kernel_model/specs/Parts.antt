@@ -1,7 +1,10 @@
 -- Names of parts of what a call, a turn and a step come to, for proofs and for contracts of inner functions
--- (kernel_calls, board_turns, board_state). Each is equal by unfolding.
-use Rattle.std.specs.Prelude.{◌≡◌, ℕ, ◌&&◌, ◌==◌, Bool, not, if◌then◌else◌, List, [], ◌∷◌, ◌++◌, length, map, option_and_then}
-use Rattle.std.specs.Prelude.{option_map, option_to_list, unwrap_or, is_none, slice_get, slice_index_or, Option, None, Some, Result}
+-- (kernel_calls, board_turns, board_state). Each is equal by unfolding. Their subject is that of the whole: TRD 104,
+-- "System Call API".
+use Rattle.std.specs.Prelude.{◌≡◌, ℕ, ◌&&◌, ◌==◌, Bool, not, if◌then◌else◌, List, [], ◌∷◌, ◌++◌, length, map}
+use Rattle.std.specs.Prelude.{option_and_then}
+use Rattle.std.specs.Prelude.{option_map, option_to_list, unwrap_or, is_none, slice_get, slice_index_or, Option, None}
+use Rattle.std.specs.Prelude.{Some, Result}
 use Rattle.std.specs.Result.{result_ok}
 use Rattle.tk_base.specs.Bits.{with_bit}
 use Rattle.tk_base.specs.declared.access.Access.TheVariants.{Fetch}
@@ -47,7 +50,8 @@ use Rattle.kernel_model.specs.declared.settings.Settings.{Settings}
 use Rattle.kernel_model.specs.Record.{Record, instruction, record_with_step, slot_line_of, with_effect}
 use Rattle.kernel_model.specs.Calls.{failure_of}
 use Rattle.kernel_model.specs.Calls.{Served, deliver, driver_answered, restarted_with, served, swap_by, swap_refusal}
-use Rattle.kernel_model.specs.Turn.{Alarmed, Event, NoWord, TurnTrace, Turned, Word, apply, at_turn_end, called, faulted}
+use Rattle.kernel_model.specs.Turn.{Alarmed, Event, NoWord, TurnTrace, Turned, Word, apply, at_turn_end, called}
+use Rattle.kernel_model.specs.Turn.{faulted}
 use Rattle.kernel_model.specs.Turn.{idle, surroundings, turn_counted}
 use Rattle.kernel_model.specs.Record.{flash_of}
 use Rattle.kernel_model.specs.World.{Answer, DeviceAnswer, DeviceStep, Devices, Label, Work, World, answer_label}
@@ -159,10 +163,11 @@ slot_of_name name rs = slot_named name (map slot_line_of rs)
 abbrev pub acting_on : Verb → List Record → Devices → Option ℕ → DeviceStep
 acting_on verb rs d slot = unwrap_or (serving rs (operating verb d) slot) (telling_nobody d)
 
--- what there is to do for the devices: that of a world; and for one slot alone, with time partitions
+-- what there is to do for the devices of a world
 abbrev pub work_of : World → Work
 work_of w = work_in w (only_in w)
 
+-- what there is to do for one slot alone, with time partitions
 abbrev pub work_for : World → ℕ → Work
 work_for w slot = work_in w (Some slot)
 

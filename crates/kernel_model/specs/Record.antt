@@ -1,4 +1,5 @@
--- The record of one process. It has what the kernel of Levy et al., SOSP 2017, keeps of a process.
+-- The record of one process. It has what the kernel of Levy et al., SOSP 2017, section 4, keeps of a process, its state
+-- (TRD 104, "Yield", "Exit"), its storage (driver 0x50001) and what it was told of buttons (driver 0x3).
 use Rattle.std.specs.Prelude.{ℕ, ◌+◌, ◌-◌, ◌&&◌, nat_le, nat_lt, if◌then◌else◌, List, length, slice_index}
 use Rattle.rv32_model.specs.UserTurn.{UserTurn, user_turn}
 use Rattle.process_model.specs.Permission.{denied}

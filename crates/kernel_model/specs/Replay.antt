@@ -1,5 +1,5 @@
 -- A process's history: what happened to it, one after another. Its record is the replay of that alone. Processes are
--- isolated as in Levy et al., SOSP 2017.
+-- isolated as in Levy et al., SOSP 2017, as a whole; the form is this board's own.
 use Rattle.std.specs.Prelude.{◌≡◌, ℕ, zero, suc, ◌==◌, if◌then◌else◌, List, [], ◌∷◌, ◌++◌, slice_get}
 use Rattle.std.specs.List.{flat_map}
 use Rattle.std.specs.Prelude.{unwrap_or}

@@ -1,6 +1,7 @@
 -- Runs: a fold of steps by the round robin's choices. The order is that of Tock's round robin; passes of time are this
 -- board's own rule, and so are time partitions.
-use Rattle.std.specs.Prelude.{ℕ, zero, suc, ◌+◌, ◌*◌, ◌/◌, Bool, false, ◌||◌, if◌then◌else◌, List, [], ◌++◌, find, map, slice_get}
+use Rattle.std.specs.Prelude.{ℕ, zero, suc, ◌+◌, ◌*◌, ◌/◌, Bool, false, ◌||◌, if◌then◌else◌, List, [], ◌++◌, find, map}
+use Rattle.std.specs.Prelude.{slice_get}
 use Rattle.std.specs.Prelude.{slice_index_or, slice_set, Option, None, Some, is_none, is_some, option_map, unwrap_or}
 use Rattle.std.specs.List.{flat_map, range_with_len}
 use Rattle.tk_base.specs.declared.limits.TheConstants.{SLOT_COUNT}

@@ -9,8 +9,8 @@ use Rattle.kernel_model.specs.Replay.{after_all}
 use Rattle.kernel_model.specs.Causes.{AllHaveCauses, AreWhole}
 use Rattle.kernel_model.specs.Lives.{HasOrder}
 
--- A process's memory is in order; its bytes end at the kernel break, where its grants begin; and each buffer that it
--- has allowed lies in accessible flash, or in its RAM below the mark.
+-- A process's memory is in order; its bytes end at the kernel break, where its grants begin; and each buffer with bytes
+-- that it has allowed lies in its RAM below the mark, or, a read-only one, there or in accessible flash.
 abbrev pub HasWholeOwn : Record → Type 0
 HasWholeOwn r = HasOrder r × IsSettled r.own
 

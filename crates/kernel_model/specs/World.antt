@@ -1,6 +1,7 @@
 -- The world only routes: a step finds whose turn it is, or whom a device answers, and applies that event to that one
 -- record. Which steps there are, and what the devices do, is this board's own rule.
-use Rattle.std.specs.Prelude.{ℕ, zero, suc, ◌+◌, ◌/◌, ◌%◌, ◌==◌, Bool, true, false, not, ◌&&◌, nat_le, nat_lt, if◌then◌else◌, List}
+use Rattle.std.specs.Prelude.{ℕ, zero, suc, ◌+◌, ◌/◌, ◌%◌, ◌==◌, Bool, true, false, not, ◌&&◌, nat_le, nat_lt}
+use Rattle.std.specs.Prelude.{if◌then◌else◌, List}
 use Rattle.std.specs.Prelude.{[], ◌∷◌, ◌++◌, option_and_then, unwrap_or}
 use Rattle.std.specs.Prelude.{drop, filter, length, map, slice_get, slice_index_or, slice_set, Option, None, Some}
 use Rattle.std.specs.Prelude.{is_some, option_to_list}
@@ -301,8 +302,8 @@ abbrev pub one_waits : Option ℕ → List ℕ → Bool
 one_waits only slots = not (length (may_serve only slots) == 0)
 
 -- Whether a device step is ready at a time, when the alarm's clock shows a tick, of those that serve all slots, or one
--- alone: something is to come in; an alarm is due; a write waits and the UART is free; a read waits and bytes came in; a
--- request for random bytes waits; one for storage waits.
+-- alone: something is to come in; an alarm is due; a write waits and the UART is free; a read waits and bytes came in;
+-- a request for random bytes waits; one for storage waits.
 abbrev pub can_act_at : Option ℕ → ℕ → ℕ → List Own → Devices → Dev → Bool
 can_act_at only time now owns d dev.Event = is_time time d.arrivals
 can_act_at only time now owns d dev.Alarm = is_some (alarm.due_for only now owns)

@@ -65,7 +65,8 @@ abbrev pub deed_by : Option ℕ → World → Dev → Option DeviceStep
 deed_by only w dev.Event = arrived w.records w.devices w.devices.arrivals
 deed_by only w dev.Alarm =
     serving w.records (λ slot r. alarmed w.settings w.clock.time w.devices) (served_of only w dev.Alarm)
-deed_by only w dev.Uart = serving w.records (transmitting (lane_by only) w.clock.time w.devices) (served_of only w dev.Uart)
+deed_by only w dev.Uart = serving w.records (transmitting (lane_by only) w.clock.time w.devices) (served_of only w
+    dev.Uart)
 deed_by only w dev.Receive = serving w.records (receive_step (lane_by only) w.devices) (served_of only w dev.Receive)
 deed_by only w dev.Random = serving w.records (random_step (lane_by only) w.devices) (served_of only w dev.Random)
 deed_by only w dev.Store = serving w.records (storing (lane_by only) w.devices) (served_of only w dev.Store)
@@ -175,7 +176,8 @@ module _ (slot : ℕ) (v w : World) (alike : AreAlikeIn slot v w) where
       subst (λ (o : Option ℕ). StepsAlike slot (done v (serving v.records f o))
       (done w (serving w.records g (first_in (Some slot) queue w.devices)))) (sym (first_is slot queue v.devices))
       (subst (λ (o : Option ℕ). StepsAlike slot
-      (done v (serving v.records f (cond (waits_in (Some slot) queue v.devices) (Some slot) None))) (done w (serving w.records g o)))
+      (done v (serving v.records f (cond (waits_in (Some slot) queue v.devices) (Some slot) None))) (done w (serving
+      w.records g o)))
       (sym (first_is slot queue w.devices)
       ) (subst (λ (b : Bool). StepsAlike slot
       (done v (serving v.records f (cond (waits_in (Some slot) queue v.devices) (Some slot) None)))

@@ -1,4 +1,4 @@
--- Laws of the windows, and of the choice in them.
+-- Laws of the windows, and of the choice in them. Windows are this board's own.
 use Rattle.std.specs.Prelude.{◌≡◌, ◌↔◌, ◌<◌, ◌≤◌, ℕ, ◌+◌, ◌%◌, true, false, None, Some}
 use Rattle.std.specs.Option.{ForSome}
 use Rattle.tk_base.specs.declared.limits.TheConstants.{SLOT_COUNT}

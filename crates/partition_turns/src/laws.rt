@@ -18,7 +18,8 @@ pub fn choice_is_of_the_window()
 {}
 
 /// A Pass takes 1 to `n` ticks. It passes neither the window's end nor the next event nor a next
-/// time of the slot's alarm or UART, and of all times that pass none of these it leads to the last.
+/// time of the slot's alarm or UART, where these lie ahead, and of all times that pass none of
+/// these it leads to the last.
 pub fn pass_ends_in_time()
     ensures { PassEndsInTime }
 {}

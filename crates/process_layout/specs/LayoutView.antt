@@ -24,8 +24,8 @@ with_break brk e = record e { brk = brk; kernel_break = e.end; mark = e.start }
 abbrev pub first_break : ℕ → ℕ → ℕ
 first_break start minimum_ram = rounded_up (start + minimum_ram)
 
--- where it lies at the process's start, by the ends of its accessible flash and of its block, with its first break: there
--- are no grants and no buffers
+-- where it lies at the process's start, by the ends of its accessible flash and of its block, with its first break:
+-- there are no grants and no buffers
 abbrev pub extents_at_start : ℕ → ℕ → ℕ → ℕ → ℕ → LayoutView
 extents_at_start flash_start flash_end start end minimum_ram = record {
   flash_start = flash_start;

@@ -1,4 +1,5 @@
--- One instruction of a process, over what it may access (RISC-V unprivileged manual; Levy et al., SOSP 2017).
+-- One instruction of a process, over what it may access (RISC-V unprivileged manual, "RV32I Base Integer Instruction
+-- Set"; Levy et al., SOSP 2017).
 use Rattle.std.specs.Prelude.{◌≡◌, ◌≤◌, ◌<◌, ℕ, ◌-◌, List, slice_index, Option, None, Some}
 use Rattle.tk_base.specs.Bus.{put}
 use Rattle.tk_base.specs.Regs.{Registers}

@@ -1,4 +1,5 @@
--- Which accesses a process has: Tock's memory layout, two intervals and no registers.
+-- Which accesses a process has: Tock's memory layout, two intervals and no registers (TRD 104, "Memop"; RISC-V
+-- privileged manual, "Physical Memory Protection").
 use Rattle.std.specs.Prelude.{ℕ, Option}
 use Rattle.tk_base.specs.declared.access.Access.{Access}
 use Rattle.tk_base.specs.declared.access.Width.{Width}

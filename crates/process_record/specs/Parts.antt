@@ -1,6 +1,7 @@
 -- Only proofs use this, and contracts of functions that do a part: names of parts of what happens to a process, and of
 -- what is shown of it.
-use Rattle.std.specs.Prelude.{ℕ, ◌+◌, ◌%◌, ◌^◌, ◌&&◌, nat_le, Bool, false, if◌then◌else◌, List, [], ◌∷◌, replicate, take, Option, Some, codes}
+use Rattle.std.specs.Prelude.{ℕ, ◌+◌, ◌%◌, ◌^◌, ◌&&◌, nat_le, Bool, false, if◌then◌else◌, List, [], ◌∷◌, replicate}
+use Rattle.std.specs.Prelude.{take, Option, Some, codes}
 use Rattle.std.specs.Prelude.{option_map, unwrap_or}
 use Rattle.tk_base.specs.Regs.{Registers, with_register}
 use Rattle.syscall_abi.specs.Reply.{with_words}

@@ -69,11 +69,12 @@ impl RandomCapsule {
         reply_of(self.obey(home, id, number, count))
     }
 
-    /// Answers the process that waits longest, or that of the one slot which is served: a step of its request, with the next word where it
-    /// takes one. The process waits no more exactly where its request completed. Nothing of it
-    /// changes where it is not there in that life, or has no request; and nothing of another slot.
-    /// The answer is whom it served, and what it told it: the word that was drawn, or that none
-    /// was. [`NotReady`] comes exactly where none waits that is served, and then nothing changes.
+    /// Answers the process that waits longest, or that of the one slot which is served: a step of its
+    /// request, with the next word where it takes one. The process waits no more exactly where its
+    /// request completed. Nothing of it changes where it is not there in that life, or has no request;
+    /// and nothing of another slot. The answer is whom it served, and what it told it: the word that
+    /// was drawn, or that none was. [`NotReady`] comes exactly where none waits that is served, and
+    /// then nothing changes.
     ///
     /// It asks that the slot of whom it serves is one of the home's, and that its count of dropped
     /// upcalls has room for one more.

@@ -3,8 +3,11 @@
 
 ghost use Rattle.std.specs.Prelude.{◌≡◌, Some};
 ghost use Rattle.rv32_model.specs.Instructions.{bits_of, rd_of};
-ghost use Rattle.rv32_model.specs.Compressed.{decoding16, rs2_full, rd_short, rs1_short, imm_addi4spn, imm_word, imm_ci, imm_addi16sp, imm_lui, imm_cj, imm_cb, imm_lwsp, imm_swsp, shift_short, registers_short, branch_short};
-ghost use Rattle.rv32_compressed.specs.Quadrants.{addi4spn_of, andi_short, quadrant0_of, upper_of, arithmetic_of, quadrant1_of, slli_of, lwsp_of, moves_of, quadrant2_of};
+ghost use Rattle.rv32_model.specs.Compressed.{decoding16, rs2_full, rd_short, rs1_short, imm_addi4spn, imm_word};
+ghost use Rattle.rv32_model.specs.Compressed.{imm_ci, imm_addi16sp, imm_lui, imm_cj, imm_cb, imm_lwsp, imm_swsp};
+ghost use Rattle.rv32_model.specs.Compressed.{shift_short, registers_short, branch_short};
+ghost use Rattle.rv32_compressed.specs.Quadrants.{addi4spn_of, andi_short, quadrant0_of, upper_of, arithmetic_of};
+ghost use Rattle.rv32_compressed.specs.Quadrants.{quadrant1_of, slli_of, lwsp_of, moves_of, quadrant2_of};
 
 pub use rv32_model::Instr;
 use rv32_model::{BranchTest, InstrVisitor, LoadKind, Op, ToInstr};

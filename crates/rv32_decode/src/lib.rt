@@ -2,8 +2,11 @@
 #![tactic(auto)]
 
 ghost use Rattle.std.specs.Prelude.{◌≡◌, Some};
-ghost use Rattle.rv32_model.specs.Instructions.{bits_of, sign_extended, decoding, rd_of, rs1_of, rs2_of, imm_i, imm_s, imm_b, imm_u, imm_j, branch, load, store, op_imm, shift_imm, op_reg};
-ghost use Rattle.rv32_decode.specs.Kinds.{funct3_of, funct7_of, jalr_of, branch_of, load_of, store_of, shift_left_of, shift_right_of, op_imm_of, base_of, other_of, multiply_of, op_reg_of, fence_of, system_of};
+ghost use Rattle.rv32_model.specs.Instructions.{bits_of, sign_extended, decoding, rd_of, rs1_of, rs2_of, imm_i, imm_s};
+ghost use Rattle.rv32_model.specs.Instructions.{imm_b, imm_u, imm_j, branch, load, store, op_imm, shift_imm, op_reg};
+ghost use Rattle.rv32_decode.specs.Kinds.{funct3_of, funct7_of, jalr_of, branch_of, load_of, store_of, shift_left_of};
+ghost use Rattle.rv32_decode.specs.Kinds.{shift_right_of, op_imm_of, base_of, other_of, multiply_of, op_reg_of};
+ghost use Rattle.rv32_decode.specs.Kinds.{fence_of, system_of};
 
 pub use rv32_model::Instr;
 use rv32_model::{BranchTest, InstrVisitor, LoadKind, Op, ToInstr};

@@ -54,6 +54,7 @@ abbrev pub after_write : Option Write → (ℕ → ℕ) → ℕ → ℕ
 after_write None bytes = bytes
 after_write (Some w) bytes = written bytes w.address w.width w.value
 
+-- the bytes after a turn, by what it leaves
 abbrev pub bytes_left : UserTurn → (ℕ → ℕ) → ℕ → ℕ
 bytes_left turn bytes = after_write turn.write bytes
 

@@ -1,8 +1,11 @@
 //! What holds of the instruction tables and of every turn. The functions do nothing: each stands for
 //! the law that it ensures.
 ghost use Rattle.rv32_model.specs.Laws.{NoParcelFitsTwoRows};
-ghost use Rattle.rv32_model.specs.Laws.{NoWordFitsTwoRows, AccessesArePermitted, CallsAreOfEcall, DataIsAligned, DenialsAreDue, DeniedTurnsChangeNothing, OnlyStoresWrite, SeesOnlyPermitted, WritesAreListed, WritesArePermitted};
-ghost use Rattle.rv32_model.specs.Stretch.{NoneGoes, OneIsTheTurn, OneMoreGoes, StoppedTurnsChangeNothing, StoppedTurnsStop};
+ghost use Rattle.rv32_model.specs.Laws.{NoWordFitsTwoRows, AccessesArePermitted, CallsAreOfEcall, DataIsAligned};
+ghost use Rattle.rv32_model.specs.Laws.{DenialsAreDue, DeniedTurnsChangeNothing, OnlyStoresWrite, SeesOnlyPermitted};
+ghost use Rattle.rv32_model.specs.Laws.{WritesAreListed, WritesArePermitted};
+ghost use Rattle.rv32_model.specs.Stretch.{NoneGoes, OneIsTheTurn, OneMoreGoes, StoppedTurnsChangeNothing};
+ghost use Rattle.rv32_model.specs.Stretch.{StoppedTurnsStop};
 
 /// No word fits two rows of the instruction table.
 #[tactic(auto, using(crate::proofs::Rows::no_word_fits_two_rows))]

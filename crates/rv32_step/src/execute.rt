@@ -4,7 +4,8 @@ ghost use Rattle.tk_base.specs.declared.access.Rule.TheVariants as rules;
 ghost use Rattle.tk_base.specs.Access.{is_misaligned};
 ghost use Rattle.tk_base.specs.Bus.{unless_denied};
 ghost use Rattle.tk_base.specs.Regs.{register};
-ghost use Rattle.rv32_model.specs.UserTurn.{bytes_left, denied_at, branch_effect, load_effect, store_effect, computed, jumped, load_width, loaded};
+ghost use Rattle.rv32_model.specs.UserTurn.{bytes_left, denied_at, branch_effect, load_effect, store_effect, computed};
+ghost use Rattle.rv32_model.specs.UserTurn.{jumped, load_width, loaded};
 ghost use Rattle.rv32_step.specs.Executed.{access_end, at_pc, next_pc};
 
 use crate::operate::takes;

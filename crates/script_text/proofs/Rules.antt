@@ -61,7 +61,8 @@ of_line before ws line unknown =
 
 broken_by : (before : List (List ℕ)) (text : List ℕ) (line : Line) → skips (words text) ≡ false
     → line_of (words text) ≡ Some line
-    → broken before text ≡ of_line before (words text) line (is_unknown (context_of (settings before)).is_partitioned line)
+    → broken before text ≡ of_line before (words text) line (is_unknown (context_of (settings before)).is_partitioned
+    line)
 broken_by before text line s l =
     broken_is before text
     ∙ (ap (λ b. broken_at before (words text) b (line_of (words text))) s ∙ ap (broken_at before (words text) false) l)
@@ -115,7 +116,8 @@ breaks_no false false false false e = (refl, refl, refl, refl)
 
 pub bad_alone : (text w : List ℕ) (rest : List (List ℕ)) (line : Line) (form : Form) (context : Context)
     (rule : ScriptRule) → words text ≡ w ∷ rest → (slice_index w 0 == 35) ≡ false → line_of (words text) ≡ Some line
-    → is_unknown context.is_partitioned line ≡ false → form ≡ (row line).form → broken_alone context form (words text) ≡ Some rule
+    → is_unknown context.is_partitioned line ≡ false → form ≡ (row line).form → broken_alone context form (words
+    text) ≡ Some rule
     → (before : List (List ℕ))
     → context_of (settings before) ≡ context → broken before text ≡ Some rule
 bad_alone text w rest line form context rule h e l k f b before same =
@@ -126,7 +128,8 @@ bad_alone text w rest line form context rule h e l k f b before same =
 
 pub good_alone : (text w : List ℕ) (rest : List (List ℕ)) (line : Line) (form : Form) (context : Context)
     → words text ≡ w ∷ rest → (slice_index w 0 == 35) ≡ false → line_of (words text) ≡ Some line
-    → is_unknown context.is_partitioned line ≡ false → form ≡ (row line).form → broken_alone context form (words text) ≡ None
+    → is_unknown context.is_partitioned line ≡ false → form ≡ (row line).form → broken_alone context form (words
+    text) ≡ None
     → IsLine context (words text) line
 good_alone text w rest line form context h e l k f b =
     let ws = words text in

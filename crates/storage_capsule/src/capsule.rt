@@ -90,16 +90,16 @@ impl StorageCapsule {
         reply_of(self.obey(home, size, id, number, a2, a3))
     }
 
-    /// Answers the process that waits longest, or that of the one slot which is served: its request is served and completes, and the process
-    /// waits no more. A read copies bytes of the slot's storage to the start of read-write buffer
-    /// 0, and completes by upcall 0; a write copies bytes from the start of read-only buffer 0 over
-    /// the slot's storage, and completes by upcall 1. As many are copied as were asked for, and no
-    /// more than the buffer has that is held now; the upcall has that count, 0 and 0. Where the
-    /// storage counts the request among its faults nothing is copied, and the upcall has 0, 1 and
-    /// 0. Nothing changes where the process is not there in that life, or has no request; and
-    /// nothing of another slot. The answer is whom it served, and what it told it: that the request
-    /// was served, or failed. [`NotReady`] comes exactly where none waits that is served, and then
-    /// nothing changes.
+    /// Answers the process that waits longest, or that of the one slot which is served: its request is
+    /// served and completes, and the process waits no more. A read copies bytes of the slot's storage
+    /// to the start of read-write buffer 0, and completes by upcall 0; a write copies bytes from the
+    /// start of read-only buffer 0 over the slot's storage, and completes by upcall 1. As many are
+    /// copied as were asked for, and no more than the buffer has that is held now; the upcall has that
+    /// count, 0 and 0. Where the storage counts the request among its faults nothing is copied, and the
+    /// upcall has 0, 1 and 0. Nothing changes where the process is not there in that life, or has no
+    /// request; and nothing of another slot. The answer is whom it served, and what it told it: that
+    /// the request was served, or failed. [`NotReady`] comes exactly where none waits that is served,
+    /// and then nothing changes.
     ///
     /// It asks that the slot of whom it serves is one of the home's, that its count of dropped upcalls
     /// has room for one more, and that its request lies in a slot's storage, as

@@ -85,7 +85,8 @@ pub swaps-made : PartsJoin → (h : Handover) (r : Option (ℕ × ℕ)) (before 
     (app front area area' kernel : List ℕ)
     → counts_of h.driver ≡ Some h.counts → EncodesGrants before.kernel → kernel ≡ before.kernel
     → grant_of h.driver (decode_grants before.kernel) ≡ None
-    → e ≡ with_room (cost_of h.counts) before.layout → LeavesArea e before.app app (fresh h.driver) → front ≡ below e app
+    → e ≡ with_room (cost_of h.counts) before.layout → LeavesArea e before.app app (fresh
+    h.driver) → front ≡ below e app
     → area ≡ above e app → length area' ≡ length area
     → IfSome r (SwapsHeld h area area') → IfNone r (grant_of h.driver (decode_grants area) ≡ None)
     → Swaps h before (parts_of e (front ++ area') kernel) (0, 0)

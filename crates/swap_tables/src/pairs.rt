@@ -9,10 +9,10 @@ use grant_region::area;
 use grant_values::{put_word, word_at, words_in_bytes};
 use tk_base::{Counts, PairKind};
 
-/// The pair of a kind and a number that the process holds with the driver (TRD 104, "Subscribe", "Read-Only Allow",
-/// "Read-Write Allow"): an upcall's function and application data, or a buffer's address and size in bytes. It is (0, 0)
-/// where the process has not entered the driver. `kernel` is the block from the kernel break on, and `counts` are the
-/// driver's.
+/// The pair of a kind and a number that the process holds with the driver (TRD 104, "Subscribe",
+/// "Read-Only Allow", "Read-Write Allow"): an upcall's function and application data, or a buffer's
+/// address and size in bytes. It is (0, 0) where the process has not entered the driver. `kernel` is
+/// the block from the kernel break on, and `counts` are the driver's.
 pub fn pair_held(
     kernel: &[u8],
     driver: u32,

@@ -12,6 +12,25 @@ use grant_region::NoRoom;
 use process_layout::Layout;
 use tk_base::{Counts, PairKind};
 
+/// What is handed over in such a swap.
+fn handing_over(
+    kind: PairKind,
+    driver: u32,
+    counts: &Counts,
+    number: u32,
+    pair: (u32, u32),
+) -> Handover
+    ensures { result ≡ handing_over kind driver counts.now number pair }
+{
+    Handover {
+        kind,
+        driver,
+        counts: *counts,
+        number,
+        pair,
+    }
+}
+
 /// Swaps the read-only buffer of a number that the process has allowed the driver (TRD 104,
 /// "Read-Only Allow"): the new one's address, and its size in bytes. The answer is the former one,
 /// at first (0, 0), and the driver is entered. `app` and `kernel` are the block, cut at the kernel
@@ -33,13 +52,7 @@ pub fn swap_ro(
     ensures { SwapOutcome (handing_over ReadOnly driver counts.now number pair)
         (parts_of layout.old app.old kernel.old) (parts_of layout.new app.new kernel.new) result }
 {
-    let handover = Handover {
-        kind: PairKind::ReadOnly,
-        driver,
-        counts: *counts,
-        number,
-        pair,
-    };
+    let handover = handing_over(PairKind::ReadOnly, driver, counts, number, pair);
     swap_pair(layout, app, kernel, handover)
 }
 
@@ -59,13 +72,7 @@ pub fn swap_rw(
     ensures { SwapOutcome (handing_over ReadWrite driver counts.now number pair)
         (parts_of layout.old app.old kernel.old) (parts_of layout.new app.new kernel.new) result }
 {
-    let handover = Handover {
-        kind: PairKind::ReadWrite,
-        driver,
-        counts: *counts,
-        number,
-        pair,
-    };
+    let handover = handing_over(PairKind::ReadWrite, driver, counts, number, pair);
     swap_pair(layout, app, kernel, handover)
 }
 
@@ -86,13 +93,7 @@ pub fn swap_ur(
     ensures { SwapOutcome (handing_over Readable driver counts.now number pair)
         (parts_of layout.old app.old kernel.old) (parts_of layout.new app.new kernel.new) result }
 {
-    let handover = Handover {
-        kind: PairKind::Readable,
-        driver,
-        counts: *counts,
-        number,
-        pair,
-    };
+    let handover = handing_over(PairKind::Readable, driver, counts, number, pair);
     swap_pair(layout, app, kernel, handover)
 }
 
@@ -113,13 +114,7 @@ pub fn swap_upcall(
     ensures { SwapOutcome (handing_over Upcall driver counts.now number pair)
         (parts_of layout.old app.old kernel.old) (parts_of layout.new app.new kernel.new) result }
 {
-    let handover = Handover {
-        kind: PairKind::Upcall,
-        driver,
-        counts: *counts,
-        number,
-        pair,
-    };
+    let handover = handing_over(PairKind::Upcall, driver, counts, number, pair);
     swap_pair(layout, app, kernel, handover)
 }
 

@@ -12,13 +12,13 @@ use grant_region::{NoRoom, area, make_area, parts_join};
 use grant_values::{cost_of, words_in_bytes};
 use process_layout::Layout;
 
-/// Swaps the pair that the process holds with the driver (TRD 104, "Subscribe", "Read-Only Allow", "Read-Write Allow"):
-/// an upcall's function and application data, or a buffer's address and size in bytes. The answer is the former pair, at
-/// first (0, 0), and the driver is entered. `app` and `kernel` are the block, cut at the kernel break; all that they hold
-/// beside this pair is as it was.
+/// Swaps the pair that the process holds with the driver (TRD 104, "Subscribe", "Read-Only Allow",
+/// "Read-Write Allow"): an upcall's function and application data, or a buffer's address and size in
+/// bytes. The answer is the former pair, at first (0, 0), and the driver is entered. `app` and `kernel`
+/// are the block, cut at the kernel break; all that they hold beside this pair is as it was.
 ///
-/// There is [`NoRoom`], and nothing changes, exactly where the driver is not entered and the kernel break less the cost of
-/// its grant is below the break.
+/// There is [`NoRoom`], and nothing changes, exactly where the driver is not entered and the kernel
+/// break less the cost of its grant is below the break.
 pub fn swap_pair(
     layout: &mut Layout,
     app: &mut [u8],

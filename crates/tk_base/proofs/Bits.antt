@@ -56,7 +56,8 @@ pub set_with_its_bit : SetWithItsBit
 set_with_its_bit [] n on h = absurd (not-suc-le-zero h)
 set_with_its_bit (x ∷ flags) zero on h = first x on (bits_of flags)
 set_with_its_bit (x ∷ flags) (suc n) on h =
-    one_more (bit_of x) (bits_of flags) n (bits_of (set flags n on)) on (small x) (set_with_its_bit flags n on (le_of_suc-le-suc h))
+    one_more (bit_of x) (bits_of flags) n (bits_of (set flags n on)) on (small x) (set_with_its_bit flags n on
+    (le_of_suc-le-suc h))
 
 first_is : (x : Bool) (r : ℕ) → x ≡ has_bit (bit_of x + 2 * r) 0
 first_is true r = sym (eq-eqb ((1 + 2 * r) / 2 ^ 0 % 2) 1 (omega arith))
@@ -132,7 +133,14 @@ still_few zero (suc w) mask on below few = by_flag on (turns_first mask on)
     by_flag false is = omega (arith, is, few, power w)
 still_few (suc n) (suc w) mask on below few =
     let half_few : mask / 2 < 2 ^ w = omega (arith, few, power w) in
-    omega (arith, turns_later mask n on, still_few n w (mask / 2) on (le_of_suc-le-suc below) half_few, power w, low mask)
+    omega (
+      arith,
+      turns_later mask n on,
+      still_few n w (mask / 2) on (le_of_suc-le-suc below) half_few,
+      power w,
+      low
+          mask,
+    )
 
 -- as a word has it, 1 is shifted so far
 pub shifted_one : (n : ℕ) → n < 32 → 1 * 2 ^ n % 4294967296 ≡ 2 ^ n
@@ -160,7 +168,8 @@ bit_taken mask n one = taken (mask / 2 ^ n % 2) (eqb-true (mask / 2 ^ n % 2) 1 o
     by_one p held = (omega (arith, held), omega arith)
 
     taken : (q : ℕ) → q ≡ 1 → q * 2 ^ n ≤ mask → (2 ^ n ≤ mask) × (mask - 2 ^ n ≡ mask - q * 2 ^ n + 0)
-    taken q is held = subst (λ (k : ℕ). k * 2 ^ n ≤ mask → (2 ^ n ≤ mask) × (mask - 2 ^ n ≡ mask - k * 2 ^ n + 0)) (sym is)
+    taken q is held = subst (λ (k : ℕ). k * 2 ^ n ≤ mask → (2 ^ n ≤ mask) × (mask - 2 ^ n ≡ mask - k * 2 ^ n + 0)) (sym
+        is)
         (by_one (2 ^ n)) held
 
 -- one that is as it is to be
@@ -194,4 +203,5 @@ added mask n few below none =
 pub taken_away : (mask n : ℕ) → n < 32 → has_bit mask n ≡ true
     → (1 * 2 ^ n % 4294967296 ≤ mask) × (mask - 1 * 2 ^ n % 4294967296 ≡ with_bit mask n false)
 taken_away mask n below one =
-    subst (λ (p : ℕ). (p ≤ mask) × (mask - p ≡ with_bit mask n false)) (sym (shifted_one n below)) (bit_taken mask n one)
+    subst (λ (p : ℕ). (p ≤ mask) × (mask - p ≡ with_bit mask n false)) (sym (shifted_one n below)) (bit_taken mask n
+    one)

@@ -1,4 +1,4 @@
--- Where a pair stands in a driver's grant (TRD 104, "Subscribe"). Only proofs use this.
+-- Where a pair stands in a driver's grant (TRD 104, "Subscribe").
 use Rattle.std.specs.Prelude.{ℕ, ◌+◌}
 use Rattle.tk_base.specs.declared.upcall.Counts.{Counts}
 use Rattle.tk_base.specs.declared.kinds.PairKind.{PairKind}

@@ -1,4 +1,5 @@
--- The words of an operator's verbs, which are those of Tock's process console.
+-- The words of an operator's verbs. `list`, `stop`, `start` and `terminate` are those of Tock's process console;
+-- `restart` is this board's own.
 use Rattle.std.specs.Prelude.{ℕ, List, [], ◌∷◌, find, codes, Option}
 use Rattle.std.specs.Str.{bytes_eq}
 use Rattle.tk_base.specs.declared.process.Verb.{Verb}

@@ -3,7 +3,8 @@
 
 ghost use Rattle.std.specs.Prelude.{◌≡◌, ◌≤◌, ◌<◌, ◌+◌, ◌↔◌, ℕ, List, vec_len, Err, IfOk, IsTrue, IsOkUnless};
 ghost use Rattle.tk_outside.specs.Shelf.{FaultsRose};
-ghost use Rattle.tk_intake.specs.Intake.{AreAllOf, IsLonger, IfSoundAndLonger, IfCalmAndLonger, IfSoundAndWithin, IsTooLong};
+ghost use Rattle.tk_intake.specs.Intake.{AreAllOf, IsLonger, IfSoundAndLonger, IfCalmAndLonger, IfSoundAndWithin};
+ghost use Rattle.tk_intake.specs.Intake.{IsTooLong};
 
 use std::alloc::Global;
 use thiserror::Error;

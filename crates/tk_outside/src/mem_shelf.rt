@@ -1,5 +1,6 @@
 //! A shelf in memory.
-ghost use Rattle.std.specs.Prelude.{◌≡◌, ◌≤◌, ◌<◌, ◌+◌, ◌^◌, ◌++◌, length, drop, List, ℕ, [], is_some, IsTrue, IfOk, IsOk, vec_len};
+ghost use Rattle.std.specs.Prelude.{◌≡◌, ◌≤◌, ◌<◌, ◌+◌, ◌^◌, ◌++◌, length, drop, List, ℕ, [], is_some, IsTrue, IfOk};
+ghost use Rattle.std.specs.Prelude.{IsOk, vec_len};
 ghost use Rattle.tk_outside.specs.Names.{are_distinct, has_name, rest_at, index_of_name};
 
 use crate::failed::Failed;
@@ -114,12 +115,14 @@ impl MemShelf {
 }
 
 impl Shelf for MemShelf {
-    ghost use Rattle.std.specs.Prelude.{◌≡◌, ◌≤◌, ◌<◌, ◌&&◌, not, length, ℕ, List, is_ok, IfOk, IsOk, OnOk, OnErr, IsTrue, Some};
+    ghost use Rattle.std.specs.Prelude.{◌≡◌, ◌≤◌, ◌<◌, ◌&&◌, not, length, ℕ, List, is_ok, IfOk, IsOk, OnOk, OnErr};
+    ghost use Rattle.std.specs.Prelude.{IsTrue, Some};
     ghost use Rattle.std.specs.Option.{ok_or};
     ghost use Rattle.std.specs.Io.KnownBytes.{Keeps, IsAtEnd};
     ghost use Rattle.tk_outside.specs.Count.{Rose, counted};
     ghost use Rattle.tk_outside.specs.Shelf.{Moves};
-    ghost use Rattle.tk_outside.specs.MemShelf.{facts_of, held_by, IsSoundName, HasNoFaultToCome, fails_at_once, given_of};
+    ghost use Rattle.tk_outside.specs.MemShelf.{facts_of, held_by, IsSoundName, HasNoFaultToCome, fails_at_once};
+    ghost use Rattle.tk_outside.specs.MemShelf.{given_of};
 
     ghost tells = { λ s. facts_of (held_by s) };
 

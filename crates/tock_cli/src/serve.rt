@@ -123,15 +123,15 @@ fn act<H: Shelf, K: Sink>(
 ///
 /// In the run that is told each byte of a process that changes has its cause. One below its kernel
 /// break is changed by an own permitted act, also by the command that has it shown the clock, lies
-/// in a buffer that the process then allowed to the driver which answers it, or is zeroed where an
-/// operator starts the process again; one of its grants, above, is changed in its own turn or by an
-/// answer to it; one of its storage by a served write of its own. Each access was permitted, and
-/// each denial was due and names its address and rule; and the record of a process is what becomes
-/// of it alone, by its own turns and answers, whatever others do: an answer is what a device tells
-/// it, an edge of a button, or an operator's act on it. Under a script with time partitions even
-/// the times of its turns and answers are: with any other image under that script that has the same
-/// object in the same place of its slot they are the same, up to each time that both runs have
-/// reached.
+/// in a buffer that the process then allowed to the driver which answers it, or is zeroed where the
+/// process starts again, by an operator, by its exit or by the policy after a denial; one of its
+/// grants, above, is changed in its own turn or by an answer to it; one of its storage by a served
+/// write of its own. Each access was permitted, and each denial was due and names its address and
+/// rule; and the record of a process is what becomes of it alone, by its own turns and answers,
+/// whatever others do: an answer is what a device tells it, an edge of a button, or an operator's
+/// act on it. Under a script with time partitions even the times of its turns and answers are: with
+/// any other image under that script that has the same object in the same place of its slot they
+/// are the same, up to each time that both runs have reached.
 ///
 /// Clauses `run` and `partitions` speak of the run that the words and the files make, clause
 /// `serves` of what is written of it.
@@ -144,7 +144,7 @@ fn act<H: Shelf, K: Sink>(
 /// | 4 | a file has more bytes than its limit, 1,048,576 for flash, which is read first, and 262,144 for the script |
 /// | 5 | the script has no reading: the line names its first bad line and the first rule that this line breaks |
 /// | 6 | the sink's count of faults rose; a part of the text, image or line was written that lacks at least one byte |
-/// | 7 | there was no memory, before any text |
+/// | 7 | `memory` alone was written, of words that are a command; that it comes for want of memory alone is tested |
 /// | 8 | no image is made: the line names the first reason in the order of [`ImageFault`](tool_words::ImageFault); the first file that is refused decides |
 pub fn serve<H: Shelf, K: Sink>(
     alloc: Global,

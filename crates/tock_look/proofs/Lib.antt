@@ -1,3 +1,4 @@
 mod Answering
 mod AskList
 mod Conversing
+mod WatchedPlaces

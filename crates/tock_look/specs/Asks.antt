@@ -8,7 +8,8 @@ use Rattle.std.specs.Str.{bytes_eq}
 use Rattle.decimal_number.specs.Number.{number_up_to}
 use Rattle.tock_look.specs.declared.asks.Ask.{Ask}
 use Rattle.board_views.specs.declared.goal.Goal.{Goal}
-use Rattle.board_views.specs.declared.goal.TheConstants.{GOAL_NUMBERS}
+use Rattle.board_views.specs.declared.goal.Watched.{Watched}
+use Rattle.board_views.specs.declared.goal.TheConstants.{GOAL_ADDRESSES, GOAL_PLACES}
 use Rattle.tock_look.specs.declared.asks.Ask.TheVariants.{Boot, State, At, Steps, Trace, Memory, Storage, Turns, Until}
 use Rattle.tock_look.specs.declared.asks.Ask.TheVariants.{Last, Unknown}
 use Rattle.tock_look.specs.declared.asks.Limits.{Limits}
@@ -67,17 +68,30 @@ two_numbers_ask name slot first second =
     option_and_then (λ two. option_and_then (λ s. option_and_then (λ a. option_map (with_two two s a)
     (most_of second)) (most_of first)) (slot_of slot)) (numbers_for name)
 
--- the numbers that words give, behind others; none where one gives none, or there are more than a goal can have
+-- the numbers that words give, behind others; none where one gives none, or there are more than a goal may
+-- have addresses
 abbrev pub numbers_after : List ℕ → List (List ℕ) → Option (List ℕ)
 numbers_after ns [] = Some ns
 numbers_after ns (word ∷ words) =
-    option_and_then (λ n. if nat_lt (length ns) GOAL_NUMBERS then numbers_after (ns ++ n ∷ []) words else None)
+    option_and_then (λ n. if nat_lt (length ns) GOAL_ADDRESSES then numbers_after (ns ++ n ∷ []) words else None)
     (most_of word)
 
 -- those of a word, which stand between commas; `-` has none
 unfoldable pub numbers_of : List ℕ → Option (List ℕ)
 numbers_of word =
     if bytes_eq word (codes "-") then Some [] else numbers_after [] (slice_split (λ b. b == 44) word)
+
+-- The watched places that numbers give, behind others: each has three numbers, and fewer at the end are none. None
+-- where there are more places than a goal can have.
+abbrev pub watched_after : List Watched → List ℕ → Option (List Watched)
+watched_after ps (slot ∷ at ∷ count ∷ ns) =
+    if nat_lt (length ps) GOAL_PLACES
+    then watched_after (ps ++ (record { slot = slot; at = at; count = count }) ∷ []) ns else None
+watched_after ps other = Some ps
+
+-- those of a word
+abbrev pub watched_of : List ℕ → Option (List Watched)
+watched_of word = option_and_then (watched_after []) (numbers_of word)
 
 -- how many steps are made at most, and an area of addresses, which may be left out
 abbrev pub limits_of : List ℕ → Option Limits
@@ -89,13 +103,13 @@ abbrev pub limits_in : List ℕ → Option Limits
 limits_in word = option_and_then limits_of (numbers_of word)
 
 -- the limits, watched places and addresses of three words
-abbrev pub places : Limits → List ℕ → List ℕ → Places
+abbrev pub places : Limits → List Watched → List ℕ → Places
 places limits watched addresses =
     record { limits = limits; watched = record { items = watched }; addresses = record { items = addresses } }
 
 abbrev pub places_of : List ℕ → List ℕ → List ℕ → Option Places
 places_of limits watched addresses =
-    option_and_then (λ l. option_and_then (λ ws. option_map (places l ws) (numbers_of addresses)) (numbers_of watched))
+    option_and_then (λ l. option_and_then (λ ws. option_map (places l ws) (numbers_of addresses)) (watched_of watched))
     (limits_in limits)
 
 -- the goal of a slot

@@ -5,10 +5,11 @@ ghost use Rattle.std.specs.Option.{option_map};
 ghost use Rattle.tock_look.specs.Asks.{ask_of, asked, asks_of, is_last, is_traced, limits_in, limits_of};
 ghost use Rattle.tock_look.specs.Asks.{line_ask, looking_shown, most_of, numbered_ask, numbers_after};
 ghost use Rattle.tock_look.specs.Asks.{numbers_for, numbers_of, places_of, plain_ask, search_ask, searching};
-ghost use Rattle.tock_look.specs.Asks.{slot_ask, slot_of, stepping, two_numbers_ask, with_two};
+ghost use Rattle.tock_look.specs.Asks.{slot_ask, slot_of, stepping, two_numbers_ask, watched_after};
+ghost use Rattle.tock_look.specs.Asks.{watched_of, with_two};
 
 use arrayvec::ArrayVec;
-use board_views::{GOAL_NUMBERS, Goal};
+use board_views::{GOAL_ADDRESSES, GOAL_PLACES, Goal, Watched};
 use decimal_number::number_up_to;
 use std::alloc::{AllocError, Global};
 use tk_base::{NoMemory, Slot};
@@ -174,11 +175,11 @@ fn two_numbers_ask(name: &str, slot: &str, first: &str, second: &str) -> Option<
 }
 
 /// The numbers that words give, behind others; none where one of them gives none, or there are more
-/// than a goal can have.
+/// than a goal may have addresses.
 fn numbers_after(
-    mut numbers: ArrayVec<u32, GOAL_NUMBERS>,
+    mut numbers: ArrayVec<u32, GOAL_ADDRESSES>,
     words: &[&str],
-) -> Option<ArrayVec<u32, GOAL_NUMBERS>>
+) -> Option<ArrayVec<u32, GOAL_ADDRESSES>>
     ensures { option_map (λ v. v.items) result
         ≡ numbers_after numbers.items (map (λ word. word.now) words.now) }
 {
@@ -204,7 +205,7 @@ fn listed_in(alloc: Global, word: &str) -> Result<Vec<&str>, AllocError>
 
 /// The numbers of a word, which stand between commas; `-` has none.
 #[tactic(auto, unfolding(crate::specs::Asks::numbers_of))]
-fn numbers_in(alloc: Global, word: &str) -> Result<Option<ArrayVec<u32, GOAL_NUMBERS>>, NoMemory>
+fn numbers_in(alloc: Global, word: &str) -> Result<Option<ArrayVec<u32, GOAL_ADDRESSES>>, NoMemory>
     ensures { IfOk result (λ numbers. option_map (λ v. v.items) numbers ≡ numbers_of word.now) }
 {
     if word == "-" {
@@ -215,6 +216,41 @@ fn numbers_in(alloc: Global, word: &str) -> Result<Option<ArrayVec<u32, GOAL_NUM
         Err(_) => Err(NoMemory),
     }
 }
+
+/// The watched places that numbers give, behind others. Each has three numbers, and fewer at the end
+/// are none. None where there are more places than a goal can have.
+fn watched_after(
+    mut places: ArrayVec<Watched, GOAL_PLACES>,
+    numbers: &[u32],
+) -> Option<ArrayVec<Watched, GOAL_PLACES>>
+    ensures { option_map (λ v. v.items) result ≡ watched_after places.items numbers.now }
+{
+    match numbers {
+        [slot, at, count, others @ ..] => {
+            let place = Watched {
+                slot: *slot,
+                at: *at,
+                count: *count,
+            };
+            if places.try_push(place).is_err() {
+                return None;
+            }
+            watched_after(places, others)
+        }
+        _ => Some(places),
+    }
+}
+
+/// The watched places of a word.
+fn watched_in(alloc: Global, word: &str) -> Result<Option<ArrayVec<Watched, GOAL_PLACES>>, NoMemory>
+    ensures { IfOk result (λ places. option_map (λ v. v.items) places ≡ watched_of word.now) }
+{
+    match numbers_in(alloc, word)? {
+        Some(numbers) => Ok(watched_after(ArrayVec::new(), &numbers)),
+        None => Ok(None),
+    }
+}
+
 /// How many steps are made at most, and an area of addresses.
 #[derive(Clone, Copy, Debug, PartialEq, Eq)]
 pub struct Limits {
@@ -256,8 +292,8 @@ fn limits_in(alloc: Global, word: &str) -> Result<Option<Limits>, NoMemory>
 #[derive(Drop)]
 struct Places {
     limits: Limits,
-    watched: ArrayVec<u32, GOAL_NUMBERS>,
-    addresses: ArrayVec<u32, GOAL_NUMBERS>,
+    watched: ArrayVec<Watched, GOAL_PLACES>,
+    addresses: ArrayVec<u32, GOAL_ADDRESSES>,
 }
 
 /// Those of three words.
@@ -270,7 +306,7 @@ fn places_in(
     ensures { IfOk result (λ places. places ≡ places_of limits.now watched.now addresses.now) }
 {
     let limits = limits_in(alloc, limits)?;
-    let watched = numbers_in(alloc, watched)?;
+    let watched = watched_in(alloc, watched)?;
     let addresses = numbers_in(alloc, addresses)?;
     let Some(limits) = limits else {
         return Ok(None);

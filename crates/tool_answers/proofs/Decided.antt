@@ -75,7 +75,8 @@ module _ (told : ShelfAccount) (command : Command) where
       no (inr calm) = calm rose
 
   pub by_fault : (answer : ℕ) (file : File) → told.rose → (files : List Named) (before : List (List ℕ))
-      → ReadsUpTo told.before.bytes command (IsUnsound told file) before files → DecidedBy told command answer before files
+      → ReadsUpTo told.before.bytes command (IsUnsound told
+      file) before files → DecidedBy told command answer before files
   by_fault answer file rose files before h =
       up_to answer (IsUnsound told file) (hindered answer file rose) files before h
 

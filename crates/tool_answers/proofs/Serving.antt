@@ -86,7 +86,8 @@ module _ (told : ShelfAccount) (sent : SinkAccount) (last : Option World) where
       → LeavesBoard words → IsSome last
   board_left words task h e b = subst (λ (o : Option World). IsSome o) (sym e) ((task_leaves words task h).0 b)
 
-  run_left : (words : Option Command) (task : Task) → IsTask told.before.bytes words task → last ≡ left_by task → IsSome last
+  run_left : (words : Option Command) (task :
+      Task) → IsTask told.before.bytes words task → last ≡ left_by task → IsSome last
       → LeavesBoard words
   run_left words task h e s = (task_leaves words task h).1 (subst (λ (o : Option World). IsSome o) e s)
 
@@ -100,10 +101,12 @@ module _ (told : ShelfAccount) (sent : SinkAccount) (last : Option World) where
   Says words (suc (suc zero)) = TaskIsRefused told sent words Usage
   Says words (suc (suc (suc zero))) = (file : File) × TaskIsRefused told sent words (Fault file)
   Says words (suc (suc (suc (suc zero)))) = (file : File) × TaskIsRefused told sent words (TooLong file)
-  Says words (suc (suc (suc (suc (suc zero))))) = (line : ℕ) × (rule : ScriptRule) × TaskIsRefused told sent words (Script line rule)
+  Says words (suc (suc (suc (suc (suc zero))))) = (line : ℕ) × (rule :
+      ScriptRule) × TaskIsRefused told sent words (Script line rule)
   Says words (suc (suc (suc (suc (suc (suc zero)))))) = SinkFault told sent words
   Says words (suc (suc (suc (suc (suc (suc (suc zero))))))) = TaskIsRefused told sent words Memory
-  Says words (suc (suc (suc (suc (suc (suc (suc (suc zero)))))))) = (fault : ImageFault) × TaskIsRefused told sent words (Image fault)
+  Says words (suc (suc (suc (suc (suc (suc (suc (suc zero)))))))) = (fault :
+      ImageFault) × TaskIsRefused told sent words (Image fault)
   Says words (suc (suc (suc (suc (suc (suc (suc (suc (suc n))))))))) = ⊤
 
   -- no answer is 1

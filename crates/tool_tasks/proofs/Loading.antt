@@ -72,7 +72,8 @@ Reached told command f = (Holds : List (List ℕ) → Named → Type 0) → ((te
 
 module _ (told : ShelfAccount) (command : Command) (f : Named) where
   long_here : (texts : List (List ℕ)) (other : File) → other ≡ f.file
-      → IfSome (told.before.bytes f.name) (λ b. limit_of f.file < length b) → IsRefusedFor told command (TooLong other) texts f
+      → IfSome (told.before.bytes f.name) (λ b. limit_of f.file < length b) → IsRefusedFor told command (TooLong
+      other) texts f
   long_here texts other e h =
       let long = long_text (told.before.bytes f.name) (limit_of f.file) h in
       record {
@@ -160,7 +161,8 @@ module _ (words : RunWords) (flash : List ℕ) (short : length flash ≤ FLASH_L
         }
 
     pub run_refused : (told : ShelfAccount) (refusal : Refusal) → IsText told.before.bytes words.flash flash
-        → IsText told.before.bytes words.script script → HasNoReading script refusal → CauseOf told (running words) refusal
+        → IsText told.before.bytes words.script script → HasNoReading script refusal → CauseOf told (running
+        words) refusal
     run_refused told Usage f s n = absurd n
     run_refused told (Fault file) f s n = absurd n
     run_refused told (TooLong file) f s n = absurd n

@@ -47,7 +47,8 @@ pack_refused packs.Objects = Image TooMany
 pack_refused packs.Size = Image Size
 pack_refused packs.Memory = Memory
 
--- the line of a refusal; that of words that are no command says which there are, and that of a script's names its bad line, and the rule that it breaks
+-- the line of a refusal; that of words that are no command says which there are, and that of a script's names its bad
+-- line, and the rule that it breaks
 abbrev pub refusal_line : Refusal → List ℕ
 refusal_line Usage =
     codes "usage: tock boot FLASH SCRIPT --turns N | trace FLASH SCRIPT --turns N | list FLASH | soak NUMBER --turns N | pack FILE .. | enable FLASH OFFSET | disable FLASH OFFSET | rename FLASH OFFSET NAME\n"

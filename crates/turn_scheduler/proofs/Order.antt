@@ -74,7 +74,8 @@ slots_after-none p o present i r e f h k =
     ∙ ap (λ (q : Option ℕ). option_or q (find p up_to)) none)
 
 -- where none is ready from slot 0 on, none is the next
-pub nobody_ready : (p : ℕ → Bool) (slots : List ℕ) (bound : ℕ) → bound ≡ 0 → ((slot : ℕ) → bound ≤ slot → p slot ≡ false)
+pub nobody_ready : (p : ℕ → Bool) (slots : List ℕ) (bound : ℕ) → bound ≡ 0 → ((slot : ℕ) → bound ≤ slot → p slot ≡
+    false)
     → None ≡ find p slots
 nobody_ready p [] bound is none = refl
 nobody_ready p (slot ∷ slots) bound is none =

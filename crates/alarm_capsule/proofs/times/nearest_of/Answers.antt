@@ -15,7 +15,8 @@ loop-slot-preserved c =
     let kept : Option ℕ = slice_index_or times slot None in
     let rest : Option ℕ → Option ℕ = λ o.
     fold (nearer_kept times) o (range_with_len (slot + 1) (SLOT_COUNT - (slot + 1))) in
-    let so_far = folded (nearer_kept times) nearest slot SLOT_COUNT c.loop-slot-test.true ∙ c.loop-slot.invariant.folded in
+    let so_far = folded (nearer_kept
+    times) nearest slot SLOT_COUNT c.loop-slot-test.true ∙ c.loop-slot.invariant.folded in
     elim c.if-comes_before.branch [
       | then-comes_before w ↦
           let before = sym c.comes_before.ensures ∙ w.if-comes_before.true in
@@ -28,7 +29,8 @@ loop-slot-preserved c =
           let is = comes_after kept nearest (sym c.comes_before.ensures ∙ w.if-comes_before.false) in
           subst (λ (o : Option ℕ). FindsNearest times o c.if-comes_before.first (slot + 1)) (sym w.nearest-is)
           (subst (λ (n : ℕ). FindsNearest times nearest n (slot + 1)) (sym w.first-is)
-          (found_before times nearest nearest c.loop-slot.first slot (ap rest is ∙ so_far) is refl c.loop-slot.invariant))
+          (found_before times nearest nearest c.loop-slot.first slot (ap rest is ∙ so_far) is refl
+          c.loop-slot.invariant))
     ]
 
 pub returns-clause-nearest : goal.returns-clause-nearest

@@ -11,7 +11,8 @@ returns-in_err-write_head g c =
     let line = c.args.line.now in
     let e = c.in_err-write_head.ensures in
     law.writes_part _ c.from_residual.ensures.0 (law.part_of_more
-    (state_text line.held line.state line.wait line.denial ++ (turns_text line ++ (dropped_text line.dropped ++ newline))) e)
+    (state_text line.held line.state line.wait line.denial ++ (turns_text line ++ (dropped_text line.dropped ++
+    newline))) e)
 
 pub returns-in_err-write_state : goal.returns-in_err-write_state
 unfolding slot_text

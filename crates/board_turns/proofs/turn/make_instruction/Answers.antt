@@ -6,7 +6,7 @@ use Rattle.process_record.specs.Process.{after_turn}
 use Rattle.process_record.specs.declared.process.Process.{Process}
 use Rattle.tk_base.specs.Regs.{Registers}
 use Rattle.board_memory.specs.Registers.{Protect}
-use Rattle.grant_enter.specs.Homes.{own_of}
+use Rattle.grant_enter.specs.Homes.{ChangesOnly, Homes, IsInPlace, MakesInstruction, own_of}
 use Rattle.kernel_calls.specs.Own.{record_in}
 use Rattle.kernel_model.specs.Record.{byte_at}
 use Rattle.board_drivers.specs.Residents.{Resident, resident}
@@ -20,6 +20,20 @@ use Rattle.board_turns.proofs.turn.make_instruction.Goals.{After-instruct}
 abbrev before : After-instruct → Resident
 before c = resident c.args.home.now c.args.slot c.args.process.now
 
+-- it is an instruction of the process in the home before
+makes : (c : After-instruct)
+    → MakesInstruction c.args.home.now.flash (before c).1 c.count_turn.new.self.regs
+    (own_of c.instruct.new.self c.args.slot) c.instruct.new.regs c.instruct.result
+makes c =
+    subst (λ (h : Homes). MakesInstruction h.flash (own_of h c.args.slot) c.count_turn.new.self.regs
+    (own_of c.instruct.new.self c.args.slot) c.instruct.new.regs c.instruct.result)
+    c.bring_in.ensures.home c.instruct.ensures.made
+
+-- nothing of another slot changes
+only : (c : After-instruct) → ChangesOnly c.args.slot c.args.home.now c.instruct.new.self
+only c =
+    subst (λ (h : Homes). ChangesOnly c.args.slot h c.instruct.new.self) c.bring_in.ensures.home c.instruct.ensures.rest
+
 -- the instruction that was made is that of the record
 made : (c : After-instruct) → let t = next_instruction c.args.home.now.flash (before c) in
     (own_of c.instruct.new.self c.args.slot ≡ with_write (before c).1 t) × (c.instruct.new.regs ≡ t.regs)
@@ -28,8 +42,9 @@ made c =
     let flash = c.args.home.now.flash in
     let own = (before c).1 in
     let r = record_in flash c.args.process.now own nothing_beside in
-    let m = c.instruct.ensures.made (byte_at r)
-    (sees_record flash (before c) c.requires.turn.seated.own.object c.instruct.ensures.place) in
+    let m = makes c (byte_at r)
+    (sees_record flash (before c) c.requires.turn.seated.own.object
+    (subst (λ (h : Homes). IsInPlace (own_of h c.args.slot)) c.bring_in.ensures.home c.instruct.ensures.place)) in
     let same : instruction_of own (byte_at r) c.count_turn.new.self.regs ≡ next_instruction flash (before c) =
     ap (λ (p : Process). instruction_of own (byte_at r) p.regs) c.count_turn.ensures in
     (m.0 ∙ ap (with_write own) same, m.1 ∙ ap (λ (t : UserTurn). t.regs) same, m.2 ∙ ap (λ (t : UserTurn). t.end) same)
@@ -53,12 +68,17 @@ pub returns-clause-turn : goal.returns-clause-turn
 returns-clause-turn c =
     in_turn c.args.moment.now c.args.slot c.args.home.now c.instruct.new.self c.args.process.now
     (record c.count_turn.new.self { regs = c.instruct.new.regs })
-    (is_made (goal.at.returns-clause-turn c).After-instruct) c.instruct.ensures.rest c.args.guard.now
-    c.requires.turn c.requires.runs
+    (is_made (goal.at.returns-clause-turn c).After-instruct) (only (goal.at.returns-clause-turn c).After-instruct)
+    c.args.guard.now c.requires.turn c.requires.runs
+
+pub returns-clause-rest : goal.returns-clause-rest
+returns-clause-rest c = only (goal.at.returns-clause-rest c).After-instruct
 
 pub returns-clause-guard : goal.returns-clause-guard
 returns-clause-guard c = record {
-  slot_is = c.switch_to.ensures.slot_is;
-  protects = subst (λ (o : Own). Protect c.switch_to.new.self.pmp o.layout)
-      (sym (made (goal.at.returns-clause-guard c).After-instruct).0) c.switch_to.ensures.protects;
+  slot_is = c.bring_in.ensures.set.slot_is;
+  protects = subst (λ (o : Own). Protect c.bring_in.new.self.pmp o.layout)
+      (sym (made (goal.at.returns-clause-guard c).After-instruct).0)
+      (subst (λ (h : Homes). Protect c.bring_in.new.self.pmp (own_of h c.args.slot).layout) c.bring_in.ensures.home
+      c.bring_in.ensures.set.protects);
 }

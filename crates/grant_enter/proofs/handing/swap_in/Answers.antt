@@ -30,5 +30,6 @@ returns-clause-swapped c =
     let lent : AreLent c.args.memory.now c.args.layout.now before =
     record { layout = refl; app = search rules; kernel = search rules } in
     let long : length after.kernel ≡ length before.kernel = search rules in
-    if_ok c.swap_pair-former.result (swaps_in c.args.memory.now c.args.layout.now c.requires.block.settled c.args.handover
+    if_ok c.swap_pair-former.result (swaps_in c.args.memory.now c.args.layout.now c.requires.block.settled
+    c.args.handover
     before after lent long c.in_order.ensures) c.swap_pair-former.ensures.swapped

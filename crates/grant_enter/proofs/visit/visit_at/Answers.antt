@@ -15,8 +15,8 @@ use Rattle.grant_enter.proofs.visit.visit_at.Goals.{After-keep_value}
 
 pub value_at-value-requires : goal.value_at-value-requires
 value_at-value-requires g c =
-    let size = size_of g.T.GrantValue.driver c.args.place.driver g.T.GrantValue.SIZE g.T.GrantValue.count c.args.place.counts
-    c.requires.counted g.met.T.GrantValue.whole in
+    let size = size_of g.T.GrantValue.driver c.args.place.driver g.T.GrantValue.SIZE g.T.GrantValue.count
+    c.args.place.counts c.requires.counted g.met.T.GrantValue.whole in
     omega (
       arith,
       c.requires.stands.within,
@@ -24,13 +24,16 @@ value_at-value-requires g c =
       ap length c.kernel_of.ensures.bytes,
     )
 
-lent : (g : Over) (c : After-kernel_of g) → IsLentTo c.args.place.driver c.args.place.counts c.args.memory.now c.args.seat.now
+lent : (g : Over) (c : After-kernel_of
+    g) → IsLentTo c.args.place.driver c.args.place.counts c.args.memory.now c.args.seat.now
 lent g c = record { sits = c.requires.sits; counts_are = c.requires.counted.counts_are }
 
 stands : (g : Over) (c : After-kernel_of g)
-    → IsValue (kernel_in c.args.memory.now.ram c.args.seat.now.layout) c.args.place.at g.T.GrantValue.SIZE c.args.place.driver
+    → IsValue (kernel_in c.args.memory.now.ram
+    c.args.seat.now.layout) c.args.place.at g.T.GrantValue.SIZE c.args.place.driver
 stands g c =
-    subst (λ (n : ℕ). IsValue (kernel_in c.args.memory.now.ram c.args.seat.now.layout) c.args.place.at n c.args.place.driver)
+    subst (λ (n : ℕ). IsValue (kernel_in c.args.memory.now.ram c.args.seat.now.layout) c.args.place.at n
+    c.args.place.driver)
     (size_of g.T.GrantValue.driver c.args.place.driver g.T.GrantValue.SIZE g.T.GrantValue.count c.args.place.counts
     c.requires.counted g.met.T.GrantValue.whole)
     c.requires.stands
@@ -43,7 +46,8 @@ is g c =
     let words = words_of (take g.T.GrantValue.SIZE
     (drop c.args.place.at (kernel_in c.args.memory.now.ram c.args.seat.now.layout))) in
     c.value_at-value.ensures
-    ∙ ap (λ (xs : List ℕ). value_by (words_of (take g.T.GrantValue.SIZE (drop c.args.place.at xs))) g.T.GrantValue.driver)
+    ∙ ap (λ (xs : List ℕ). value_by (words_of (take g.T.GrantValue.SIZE (drop c.args.place.at xs)))
+    g.T.GrantValue.driver)
     c.kernel_of.ensures.bytes
     ∙ sym (told_is g.T.GrantValue.driver c.args.place.driver words c.requires.counted.driver_is)
 
@@ -88,7 +92,8 @@ returns-clause-reseats g c =
     let r = c.run_visit-answer in
     let k = c.keep_value.ensures in
     subst (λ (x : MemoryBytes). Reseats c.args.memory.now c.args.seat.now x r.new.seat) (sym k.kept)
-    (visit_reseats (grants_of c.args.place.driver c.args.place.counts g.T.GrantValue.kept) (g.V.Visit.leaves c.args.visitor)
+    (visit_reseats (grants_of c.args.place.driver c.args.place.counts g.T.GrantValue.kept) (g.V.Visit.leaves
+    c.args.visitor)
     c.args.memory.now c.args.seat.now (lent g at.After-kernel_of) c.args.place.at g.T.GrantValue.SIZE
     (stands g at.After-kernel_of) c.value_at-value.result (is g at.After-value_at-value) r.new.memory r.new.seat
     r.ensures.serves r.new.value (can g at.After-keep_value) k.long)

@@ -61,7 +61,8 @@ returns-clause-made c =
     let gs = decode_grants c.args.kernel.now in
     let none = c.areas_are_found.ensures.absent c.args.driver gs c.in_default.ensures.area in
     let before = parts_of c.args.layout.now c.args.app.now c.args.kernel.now in
-    subst (Leaves before (parts_of c.make_area.new.layout c.make_area.new.app c.args.kernel.now)) (sym (entered_new c.args.driver gs none))
+    subst (Leaves before (parts_of c.make_area.new.layout c.make_area.new.app c.args.kernel.now)) (sym (entered_new
+    c.args.driver gs none))
     (c.parts_join.ensures.made before c.make_area.new.layout c.make_area.new.app (fresh c.args.driver)
     c.requires.parts.laid c.in_ok-make_area.ensures.made)
 

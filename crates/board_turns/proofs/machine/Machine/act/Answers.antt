@@ -48,7 +48,8 @@ returns-in-Alarm-clause-acts c b h =
       drivers = c.args.self.now.drivers;
     } in
     acted_by here _ Alarm _ _ _ _ c.in-Alarm.is
-    (subst (λ (d : Drivers). Acted here Alarm c.answer_alarm.result c.args.printed.now.items c.answer_alarm.new.self.home d)
+    (subst (λ (d : Drivers). Acted here Alarm c.answer_alarm.result c.args.printed.now.items
+    c.answer_alarm.new.self.home d)
     (sym (same_drivers (goal.at.returns-in-Alarm-clause-acts c).After-answer_alarm))
     (acts_alarmed here h c.answer_alarm.result c.answer_alarm.new.self.home c.lines_follow_answers.ensures
     c.a_due_slot_is_there.ensures c.answer_alarm.ensures.answers c.args.printed.now.items c.requires.empty))

@@ -41,7 +41,8 @@ pub returns-clause-own : goal.returns-clause-own
 returns-clause-own c =
     let a = (goal.at.returns-clause-own c).After-pop in
     let seat = c.index_mut.result.now in
-    reseated_shows (reads a) c.self.inside.memory _ (left a) (λ flash own own_after. own_after ≡ with_inbox (taken_at 0) own)
+    reseated_shows (reads a) c.self.inside.memory _ (left a) (λ flash own own_after. own_after ≡ with_inbox (taken_at
+    0) own)
     (ap (λ (q : List Upcall). own_in c.self.inside.memory.ram
     (record seat { inbox = record seat.inbox { pending = q } })) c.pop.ensures.rest)
 
