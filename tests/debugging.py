@@ -77,6 +77,26 @@ def session(program):
     return None if written.strip() == text and len(commands) > 5 else "GDB wrote another text:\n" + written
 
 
+def mistyped(program):
+    """A place that is no number leaves the session where it is; a place is an expression; the program of another
+    application is told."""
+    with tempfile.TemporaryDirectory() as folder:
+        wrong = built(program, folder)
+        if wrong:
+            return wrong
+        elf = os.path.join(folder, "lost.elf")
+        ends = [run([DEBUG, os.path.join(EXAMPLES, "images", image), EMPTY, "--slot", "0", elf, "--", "-nx", "-batch",
+                     *[word for command in commands for word in ("-ex", command)]]).stdout
+                for image, commands in (("lost.bin", ["seek 500+0x1f4", "seek 5O", "seek -1", "monitor where"]),
+                                        ("echo.bin", []))]
+    if not re.search(r'^Invalid number "5O"\.\nseek takes a number, not -1$', ends[0], re.M):
+        return "a mistyped place is not told: " + ends[0]
+    if re.findall(r"^step (\d+), ", ends[0], re.M)[-1:] != ["1000"] or "is not the program" in ends[0]:
+        return "it did not stay at step 1000: " + ends[0]
+    told = "lost.elf is not the program of slot 0: flash has other code there"
+    return None if told in ends[1] else "another program is not told: " + ends[1]
+
+
 def where(program):
     """tools/where names the line of the denial, the calls before it, and the end of the run."""
     with tempfile.TemporaryDirectory() as folder:
@@ -208,7 +228,7 @@ def checks(program, has_compiler):
     if has_compiler:
         found.append(("where", lambda: where(program)))
     if has_compiler and shutil.which(GDB):
-        found.append(("debugging-session", lambda: session(program)))
+        found += [("debugging-session", lambda: session(program)), ("mistyped-places", lambda: mistyped(program))]
     else:
-        print("debugging-session: not tried without the compiler and %s" % GDB)
+        print("debugging-session and mistyped-places: not tried without the compiler and %s" % GDB)
     return found

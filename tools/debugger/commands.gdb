@@ -1,20 +1,20 @@
 # What a session of tools/debug has beside GDB's own commands.
 define seek
-  monitor seek $arg0
+  eval "monitor seek %ld", (long) ($arg0)
   continue
 end
 document seek
 seek STEP: goes to after so many steps of the board, back or on.
 end
 define seek-turn
-  monitor turn $arg0
+  eval "monitor turn %ld", (long) ($arg0)
   continue
 end
 document seek-turn
 seek-turn K: goes to after a turn of this slot, back or on.
 end
 define seek-time
-  monitor time $arg0
+  eval "monitor time %ld", (long) ($arg0)
   continue
 end
 document seek-time

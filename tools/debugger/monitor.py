@@ -48,8 +48,14 @@ class Monitor:
         commands = {"slots": self.slots, "state": self.state, "trace": self.trace, "events": self.events,
                     "seek": self.seek, "turn": self.turn, "time": self.time, "where": self.where}
         command = commands.get(words[0]) if words else None
-        if command is None or not all(word.isdigit() for word in words[1:]):
+        if command is None:
             self.server.packets.say(HELP)
+            return
+        wrong = [word for word in words[1:] if not word.isdigit()]
+        if wrong:
+            self.server.packets.say("%s takes a number, not %s\n" % (words[0], wrong[0]))
+            # A `continue` that follows has somewhere to stay.
+            self.server.target = lambda: self.server.past.seek(self.server.past.steps)
             return
         try:
             text = command(*map(int, words[1:]))
@@ -111,6 +117,8 @@ class Monitor:
                   if line_time(line) >= start]
         found += [(time, "@%d the script: %s" % (time, text)) for time, text in script_events(self.script)
                   if start <= time <= now]
+        if not found:
+            return "nothing happened in steps %d to %d\n" % (first, past.steps)
         return "".join(line + "\n" for _, line in sorted(found, key=lambda event: event[0]))
 
     def later(self, seek):

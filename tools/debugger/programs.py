@@ -1,8 +1,9 @@
 """Programs as ELF files: where they are linked, where the board has them, and copies that are placed there."""
 
 import struct
+import sys
 
-from debugger.board import Refused
+from debugger.board import FLASH, Refused
 
 # Where examples/ links code and RAM of a program that is position independent.
 LINKED_CODE, LINKED_RAM = 0x80000000, 0x00010000
@@ -79,6 +80,12 @@ class Program:
         return [(it.name, (it.address + self.moved_by(it)) & MASK) for it in self.elf.sections
                 if it.flags & ALLOCATED and it.size]
 
+    def is_in(self, flash):
+        """Whether flash has the program's code, where the board has it."""
+        code = next((it for it in self.elf.sections if it.name == ".text"), None)
+        at = (code.address + self.code - FLASH) & MASK if code else 0
+        return bool(code) and flash[at:at + code.size] == self.elf.data[code.offset:code.offset + code.size]
+
     def linked(self, address):
         """The address of code for which the program is linked, of one on the board."""
         return (address - self.code) & MASK
@@ -127,12 +134,15 @@ class Program:
             move(at + 12, by)
 
 
-def programs_of(given, state):
-    """The programs of slots, by slots, where a state before the first step tells entries and blocks."""
+def programs_of(given, state, flash):
+    """The programs of slots, by slots, where a state before the first step tells entries and blocks. Standard error
+    tells where flash has other code."""
     programs = {}
     for slot, path in given.items():
         if slot not in state.slots:
             raise Refused("slot %d has no process" % slot)
         numbers = state.slots[slot].numbers
         programs[slot] = Program(path, numbers["pc"][0], numbers["block"][0])
+        if not programs[slot].is_in(flash):
+            print("%s is not the program of slot %d: flash has other code there" % (path, slot), file=sys.stderr)
     return programs
