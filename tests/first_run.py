@@ -73,9 +73,11 @@ class Repository:
         write(os.path.join(os.path.dirname(self.top), "bin"), "rt", PROVER % version, 0o755)
 
     def begins(self, tock="tock", words=("soak", "1"), **more):
-        """./tock, running."""
+        """./tock, running. An interrupt stops it, also where these tests run in the background of a shell that has
+        interrupts ignored."""
         return subprocess.Popen([os.path.join(self.top, tock), *words], env=dict(self.environment, **more),
-                                stdout=subprocess.PIPE, stderr=subprocess.PIPE, text=True, start_new_session=True)
+                                stdout=subprocess.PIPE, stderr=subprocess.PIPE, text=True, start_new_session=True,
+                                preexec_fn=lambda: signal.signal(signal.SIGINT, signal.SIG_DFL))
 
     def ends(self, run):
         """How it ended: the status, what the program said, and what was told."""
