@@ -13,7 +13,9 @@ from cases.case import REPOSITORY
 
 sys.path.insert(0, os.path.join(REPOSITORY, "tools"))
 from debugger import past, search
-from debugger.board import MOST, Refused, find_look
+from debugger.board import MOST, Board, Refused, find_look
+from debugger.conditions import CannotTell, Program, codes_in, holds
+from debugger.trace import happened
 
 EXAMPLES, DEBUG = os.path.join(REPOSITORY, "examples"), os.path.join(REPOSITORY, "tools", "debug")
 EMPTY = os.path.join(EXAMPLES, "scripts", "empty.script")
@@ -36,6 +38,42 @@ STOPS = ["stop denied 00000001 00000007 80000800", "stop exit 00000000 00000000 
          "stop act 00000002", "stop denied 00000001 00000007 80000800", "stop most", "stop range",
          "stop changed 800008d0", "last 152", "stop address 00000000", "stop act 00000002", "stop act 00000002",
          "stop done", "last 85", "stop changed 800008d0", "none"]
+
+
+# What answer keeps after so many steps for each of its two drivers, the one entered last first: an upcall of the alarm,
+# which is armed at time 396 for 5000 ticks; an upcall of the console, its buffer, and a read of 15 bytes that waits.
+ALARM = [0, 48, 0x200001f8, 0, 0, 0, 1, 396, 5000, 0, 0, 0]
+CONSOLE = [1, 96, 0, 0, 0, 0, 0x20000074, 0x2000007a, 0, 0, 0, 0, 0, 0, 0x80000408, 15, 0, 0, 0, 1, 15, 0, 0, 0]
+GRANTED = (450, [ALARM, CONSOLE])
+# After how many steps grants are compared with the memory in which they lie.
+LOOKS = (0, 30, 90, 150, 400)
+
+# What happened in these steps of together with the script operator: of one time first what was done, and then what came
+# of it.
+HAPPENED = (30, 60, ["@34 slot 0: yield-wait", "@34 slot 0 is yielded",
+                     "@41 slot 0 console schedules upcall 1: 0000000d 00000000 00000000",
+                     "@42 slot 1: memop 3 (0x0) = success", "@44 slot 1: denied store 80000800 no-region",
+                     "@44 slot 1 is faulted"])
+
+# A session in which a condition is judged, on the way on and back, and the amounts at which it holds.
+JUDGED = ["break credit if amount % 8 == 3 && to->balance < 9", "continue", "continue", "continue", "reverse-continue",
+          "reverse-continue", "monitor where"]
+AMOUNTS = ["3", "11", "19", "11", "3"]
+
+# Conditions of breakpoints as GDB hands them on, each with what it comes to where each register has its number but sp,
+# which points to the bytes fe ff ff ff 01 00 00 00; and such as are not told.
+CONDITIONS = [("220527", 5), ("220522030227", 8), ("220322050327", -2), ("220322050427", 15), ("220722fe16080527", -3),
+              ("220722fe16080727", 1), ("220722020627", 3), ("220722020827", 1), ("220122040927", 16),
+              ("22fe160822010a27", -1), ("22fe22010b27", 0x7f), ("22000e27", 1), ("22050e27", 0), ("220c220a0f27", 8),
+              ("220c220a1027", 14), ("220c220a1127", 6), ("22001227", -1), ("220522051327", 1),
+              ("22fe160822011427", 1), ("22fe160822011527", 0), ("2600021727", 0xfe), ("2600021827", 0xfffe),
+              ("2600021927", 0xfffffffe), ("2600021a27", 0x1fffffffe), ("26000219162027", -2),
+              ("220120000627220927", 9), ("2200200006220727", 7), ("2100052201220227", 2), ("23123427", 0x1234),
+              ("241234567827", 0x12345678), ("25123456789abcdef027", 0x123456789abcdef0), ("2205280227", 10),
+              ("220522062927", 5), ("22ff16082a0827", 0xff), ("220122022b0327", 1), ("22012202320127", 1),
+              ("220122022203330227", 3), ("26002027", 32)]
+ALWAYS, NEVER = bytes.fromhex("220127"), bytes.fromhex("220027")
+NOT_TOLD = ["27", "22", "01", "2201220005", "24020000001727", "210000", "26002127", "2201160027", "220132092727"]
 
 
 def run(words, **how):
@@ -159,11 +197,11 @@ def anywhere(gone, draws):
 
 
 def addresses_before(gone, draws):
-    """The last place at an address is that of the last turn that began there."""
+    """The last place at an address is that of the last turn that began there, also where a condition holds always."""
     for turns in draws.sample(range(1, len(gone.seen)), min(PLACES, len(gone.seen) - 1)):
-        address = draws.choice(gone.seen)[0]["pc"]
+        address, codes = draws.choice(gone.seen)[0]["pc"], draws.choice(([], [ALWAYS], [NEVER, ALWAYS]))
         gone.past.seek(gone.seen[turns][0]["steps"])
-        found = gone.past.last([], [address])
+        found = gone.past.last([], {address: codes})
         known = [n for n in range(turns) if gone.seen[n][0]["pc"] == address and gone.seen[n][0]["state"] == "running"]
         if (found is None) != (not known) or known and gone.past.place(gone.slot).turns != known[-1]:
             return "address %08x, before turn %d: %s" % (address, turns, found)
@@ -176,7 +214,7 @@ def changes_before(gone, draws):
         at = gone.start + 4 * draws.randrange((gone.end - gone.start) // 4)
         word = slice(at - gone.start, at - gone.start + 4)
         gone.past.seek(gone.seen[turns][0]["steps"])
-        found = gone.past.last([gone.slot, at, 4], [])
+        found = gone.past.last([gone.slot, at, 4], {})
         known = [n for n in range(1, turns + 1) if gone.seen[n][1][word] != gone.seen[n - 1][1][word]]
         before = (known[-1] - 1, known[-1]) if known else ()
         if (found is None) != (not known) or known and gone.past.place(gone.slot).turns not in before:
@@ -217,6 +255,67 @@ def lines_and_words(look):
     return None if stops == STOPS else "stopped so: %s" % stops
 
 
+def files_of(image, script):
+    return [os.path.join(EXAMPLES, "images", image + ".bin"), os.path.join(EXAMPLES, "scripts", script + ".script")]
+
+
+def grants_of(look):
+    """The words of grants are those of a process's memory from its kernel break on, and each driver's are its own."""
+    for image, script, _ in RUNS:
+        board = Board(look, *files_of(image, script))
+        for steps in LOOKS:
+            board.seek(0, steps)
+            for slot, kept in board.state().slots.items():
+                at, end = kept.numbers["kernel-break"][0], kept.numbers["block"][1]
+                told = b"".join(word.to_bytes(4, "little") for grant in kept.grants for word in grant)
+                if told != board.memory(slot, at, end - at):
+                    return "%s, slot %d after %d steps: %s" % (image, slot, steps, kept.grants)
+        board.end()
+    board = Board(look, *files_of("answer", "number"))
+    board.seek(0, GRANTED[0])
+    grants = board.state().slots[0].grants
+    return None if grants == GRANTED[1] else "answer keeps %s" % grants
+
+
+def causes_first(look):
+    """Of what happens at one time causes are told before what came of them."""
+    first, last, lines = HAPPENED
+    told = [line for _, line in happened(Board(look, *files_of("together", "operator")), first, last)]
+    return None if told == lines else "told: %s" % told
+
+
+def judged(program):
+    """Conditions that are judged here stop a run where GDB, which judges them itself, has it stop."""
+    with tempfile.TemporaryDirectory() as folder:
+        wrong = built(program, folder)
+        if wrong:
+            return wrong
+        texts = [run([DEBUG, os.path.join(folder, "lost.bin"), EMPTY, "--slot", "0", os.path.join(folder, "lost.elf"),
+                      "--", "-nx", "-batch", "-ex", "set breakpoint condition-evaluation " + where,
+                      *[word for command in JUDGED for word in ("-ex", command)]]).stdout
+                 for where in ("host", "target")]
+    amounts = re.findall(r"^Breakpoint 1, credit .*amount=amount@entry=(\d+)", texts[1], re.M)
+    return None if texts[0] == texts[1] and amounts == AMOUNTS else "GDB: %s\nhere: %s" % tuple(texts)
+
+
+def conditions():
+    """Each operation of a condition comes to what GDB's manual says; one that is not told is taken to hold."""
+    registers, bytes_there = [0, 1, 0x80000000] + list(range(3, 33)), b"\xfe\xff\xff\xff\1\0\0\0"
+
+    def memory(at, count):
+        return bytes_there[at - 0x80000000:][:count] if at >= 0x80000000 else b""
+    wrong = [text for text, value in CONDITIONS
+             if Program(bytes.fromhex(text), registers, memory).value() != value % 2 ** 64]
+    for text in NOT_TOLD:
+        try:
+            wrong.append("%s is %d" % (text, Program(bytes.fromhex(text), registers, memory).value()))
+        except CannotTell:
+            wrong += [] if holds([bytes.fromhex(text)], registers, memory) else ["%s does not hold" % text]
+    if codes_in("X3,220027X2,2701;cmds:0,X1,27") != [b"\x22\0\x27", b"\x27\1"] or codes_in(""):
+        wrong.append("the conditions in a packet are not found")
+    return "conditions: %s" % wrong if wrong else None
+
+
 def checks(program, has_compiler):
     """Each check with its name."""
     try:
@@ -224,11 +323,14 @@ def checks(program, has_compiler):
     except Refused as refused:
         print("debugging: not tried: %s" % refused)
         return []
-    found = [("back-and-on", lambda: back_and_on(look)), ("lines-and-words", lambda: lines_and_words(look))]
+    found = [("back-and-on", lambda: back_and_on(look)), ("lines-and-words", lambda: lines_and_words(look)),
+             ("grants", lambda: grants_of(look)), ("causes-first", lambda: causes_first(look)),
+             ("conditions", conditions)]
     if has_compiler:
         found.append(("where", lambda: where(program)))
     if has_compiler and shutil.which(GDB):
-        found += [("debugging-session", lambda: session(program)), ("mistyped-places", lambda: mistyped(program))]
+        found += [("debugging-session", lambda: session(program)), ("mistyped-places", lambda: mistyped(program)),
+                  ("judged-conditions", lambda: judged(program))]
     else:
-        print("debugging-session and mistyped-places: not tried without the compiler and %s" % GDB)
+        print("debugging-session, mistyped-places, judged-conditions: not tried without the compiler and %s" % GDB)
     return found

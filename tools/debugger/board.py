@@ -38,7 +38,7 @@ class SlotState:
     """What the lines of `state` tell of a slot."""
 
     def __init__(self):
-        self.numbers, self.pending, self.place, self.report = {}, [], None, ""
+        self.numbers, self.pending, self.grants, self.place, self.report = {}, [], [], None, ""
 
 
 class State:
@@ -53,8 +53,9 @@ class State:
                 self.waits[words[1]] = [int(word, 16) for word in words[2:]]
             elif words[0] == "at":
                 self.of(words[3]).place = Place(line)
-            elif words[0] == "pending":
-                self.of(words[1]).pending.append([int(word, 16) for word in words[2:]])
+            elif words[0] in ("pending", "grant"):
+                state = self.of(words[1])
+                (state.pending if words[0] == "pending" else state.grants).append([int(word, 16) for word in words[2:]])
             else:
                 self.of(words[1]).numbers[words[0]] = [int(word, 16) for word in words[2:]]
         for line in self.report:
@@ -87,7 +88,7 @@ class Board:
     def __init__(self, look, flash, script):
         self.process = subprocess.Popen([look, flash, script], stdin=subprocess.PIPE, stdout=subprocess.PIPE,
                                         universal_newlines=True)
-        self.steps = 0
+        self.steps, self.told = 0, None     # the steps made, and the place that was told where it moved
 
     def ask(self, *words):
         """The lines of the answer to a command."""
@@ -126,7 +127,8 @@ class Board:
 
     def moved(self, lines):
         """Takes in the answer to a command that moved the board: the words of why it stopped, and the lines before."""
-        self.steps = Place(lines[-1]).steps if lines[-1] != "none" else self.steps
+        self.told = Place(lines[-1]) if lines[-1] != "none" else None
+        self.steps = self.told.steps if self.told else self.steps
         return lines[-2].split()[1:], lines[:-2]
 
     def seek(self, slot, steps):
@@ -143,13 +145,17 @@ class Board:
 
     def memory(self, slot, at, count):
         """Bytes of the block of a slot, all of which lie there."""
-        words = self.ask("memory", slot, at, count)[0].split()
-        return bytes.fromhex(words[1]) if len(words) > 1 else b""
+        return bytes_told(self.ask("memory", slot, at, count))
 
     def end(self):
         self.process.stdin.close()
         self.process.stdout.close()
         self.process.wait()
+
+
+def bytes_told(lines):
+    """The bytes in the answer to `memory`."""
+    return bytes.fromhex(lines[0].partition(" ")[2])
 
 
 def list_of(numbers):

@@ -1,7 +1,6 @@
 """Monitor commands: what the kernel keeps, what happened, and going to a step or a time."""
 
-from debugger.board import RAM
-from debugger.trace import call_text, driver_name, happened, line_time, script_events
+from debugger.trace import driver_name, happened, line_text, script_events
 
 # How many pairs of upcalls, read-only buffers, read-write buffers and readable buffers each driver has
 # (docs/drivers.md).
@@ -19,23 +18,17 @@ where              where it looks
 """
 
 
-def grant_lines(slot, data, at):
-    """The grants in the kernel's bytes of a block, which begin at an address."""
-    lines = []
-    while len(data) >= 8:
-        words = [int.from_bytes(data[n:n + 4], "little") for n in range(0, len(data), 4)]
-        driver, cost = words[:2]
-        if not 8 <= cost <= len(data):
-            break
-        lines.append("grant %d %s at %08x, %d bytes" % (slot, driver_name(driver), at, cost))
-        place = 2
+def grant_lines(grants, at):
+    """The words of grants, the last entered first: of each what it is, its pairs, and what its driver keeps. The first
+    one lies at an address, the others behind it."""
+    for driver, cost, *words in grants:
+        yield "grant of %s, %d bytes at %08x" % (driver_name(driver), cost, at)
         for kind, count in zip(KINDS, PAIRS.get(driver, (0, 0, 0, 0))):
             for n in range(count):
-                lines.append("  %s %d: %08x %08x" % (kind, n, words[place], words[place + 1]))
-                place += 2
-        lines.append("  keeps " + " ".join("%08x" % word for word in words[place:cost // 4]))
-        data, at = data[cost:], at + cost
-    return lines
+                yield "  %s %d: %08x %08x" % (kind, n, *words[:2])
+                words = words[2:]
+        yield "  keeps " + " ".join("%08x" % word for word in words)
+        at += cost
 
 
 class Monitor:
@@ -71,12 +64,12 @@ class Monitor:
         state = past.state()
         lines = []
         for slot in sorted(state.slots):
-            lines += self.state_lines(slot, state.slots[slot])
+            lines += self.state_lines(state.slots[slot])
         lines += ["slots that wait for %s, the longest first: %s" % (device, " ".join(map(str, slots)))
                   for device, slots in state.waits.items() if slots]
         return "\n".join(lines) + "\n"
 
-    def state_lines(self, slot, state):
+    def state_lines(self, state):
         lines = [state.report]
         numbers = state.numbers
         lines.append("  flash %08x to %08x, memory %08x to %08x, break %08x, grants from %08x" % (
@@ -84,39 +77,25 @@ class Monitor:
         for upcall in state.pending:
             lines.append("  pending: %s upcall %d, function %08x, data %08x, a0 to a2 %08x %08x %08x" % (
                 driver_name(upcall[0]), *upcall[1:]))
-        at, end = numbers["kernel-break"][0], numbers["block"][1]
-        data = self.server.past.memory(at, end - at) if RAM <= at < end else b""
-        return lines + ["  " + line for line in grant_lines(slot, data, at)]
+        return lines + ["  " + line for line in grant_lines(state.grants, *numbers["kernel-break"])]
 
     def here(self):
         return self.server.past.place(self.server.slot)
 
-    def text_of(self, line):
-        """A line of the trace, in words where it is a call."""
-        words = line.split()
-        if words[2] == "call":
-            return call_text(line)
-        if words[2] == "out":
-            return "%s slot %s: prints %r" % (words[0], words[1], bytes.fromhex(words[3]).decode("latin-1"))
-        return "%s slot %s: %s" % (words[0], words[1], " ".join(words[2:]))
-
     def trace(self, count=20):
         self.server.teller.go_to(self.server.past.steps)
         lines = self.server.teller.before(self.server.past.steps, self.here().time)
-        return "".join(self.text_of(line) + "\n" for line in lines[-count:])
+        return "".join(line_text(line) + "\n" for line in lines[-count:])
 
     def events(self, count=STEPS_OF_EVENTS):
         past = self.server.past
         past.sync()
-        first = max(0, past.steps - count)
-        self.server.teller.go_to(past.steps)
-        now = self.here().time
-        found = [(time, "@%d %s" % (time, line)) for time, line in happened(past.board, first, past.steps)]
-        start = min((time for time, _ in found), default=now)
-        found += [(line_time(line), self.text_of(line)) for line in self.server.teller.before(past.steps, now)
-                  if line_time(line) >= start]
-        found += [(time, "@%d the script: %s" % (time, text)) for time, text in script_events(self.script)
-                  if start <= time <= now]
+        first, now = max(0, past.steps - count), self.here().time
+        start = past.time_after(first)
+        # What comes in at a time does so before anything else; the sort leaves what the steps did in its order.
+        found = [(time, "@%d the script: %s" % (time, text)) for time, text in script_events(self.script)
+                 if start <= time <= now]
+        found += happened(past.board, first, past.steps)
         if not found:
             return "nothing happened in steps %d to %d\n" % (first, past.steps)
         return "".join(line + "\n" for _, line in sorted(found, key=lambda event: event[0]))

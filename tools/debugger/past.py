@@ -2,7 +2,8 @@
 
 import os
 
-from debugger.board import Board, MOST, Place, list_of
+from debugger.board import Board, MOST, Place, bytes_told, list_of
+from debugger.conditions import holds
 from debugger.search import Search, last_of
 
 # How many turns are kept at a time where it goes back turn by turn, and how many pages of memory of each.
@@ -12,6 +13,15 @@ PAGE = 256
 MOST_SEARCHES = 8
 # In how many steps before a place it looks for what was last before it: in these first, and then in all.
 WINDOWS = (20000, 400000)
+# How many places it passes at which no condition holds before it tells what came on the way, and how many of them are
+# asked for before they are judged.
+PASSED, JUDGED_AT_ONCE = 1000, 64
+
+
+def until_command(slot, most, area, watched, addresses):
+    """The command that has a board go on to an address, a change, a denial, an exit or an act, or out of an area."""
+    limits = list_of((most,) + area if area[1] else (most,))
+    return "until %d %s %s %s" % (slot, limits, list_of(watched), list_of(addresses))
 
 
 class Kept:
@@ -43,7 +53,8 @@ class Past:
     def moved(self, answer):
         """The board moved, and it looks there."""
         self.steps, self.at_turn = self.board.steps, None
-        self.places, self.pages = {}, {}
+        told = self.board.told
+        self.places, self.pages = {told.slot: told} if told else {}, {}
         return answer
 
     def sync(self):
@@ -81,25 +92,85 @@ class Past:
     def until(self, slot, most, area, watched, addresses):
         """Goes on to an address, a change, a denial, an exit or an act, or, with an area, to a turn that leaves it."""
         self.sync()
-        limits = list_of((most,) + area if area[1] else (most,))
-        return self.moved(self.board.moved(self.board.ask("until", slot, limits, list_of(watched), list_of(addresses))))
+        return self.moved(self.board.moved(self.board.ask(until_command(slot, most, area, watched, addresses))))
 
-    def last(self, watched, addresses):
+    def stops(self, until, pages, count):
+        """The words of why it stops where it goes on so many times by a command; at each it looks there, and has pages
+        of memory. The board is where the last one is."""
+        self.sync()
+        commands = [until] + ["memory %d %d %d" % page for page in pages]
+        answers = self.board.ask_all(commands * count)
+        last = Place(answers[-len(commands)][-1]).steps
+        for n in range(0, len(answers), len(commands)):
+            why, _ = self.moved(self.board.moved(answers[n]))
+            self.pages = {page: bytes_told(told) for page, told in zip(pages, answers[n + 1:])}
+            self.board.steps = last
+            yield why
+
+    def is_passed(self, slot, conditions):
+        """Whether the breakpoint at which a process is has conditions, of which none holds."""
+        place = self.place(slot)
+        codes = conditions.get(place.pc)
+        return bool(codes) and not holds(codes, place.x + [place.pc], self.memory)
+
+    def stands_at(self, conditions):
+        """The words of why it stops here, where a process is at an address one of whose conditions holds; or None."""
+        found = last_of(self.searches, self.steps, self.steps + 1, [], sorted(conditions)) if conditions else None
+        return found[1] if found and not self.is_passed(int(found[1][1], 16), conditions) else None
+
+    def until_held(self, slot, most, area, watched, conditions):
+        """Goes on as `until` does, and past addresses none of whose conditions holds, so many of them; gives the words
+        of why it stopped. Each address comes with its conditions; with none it stops always. A board that goes on does
+        not stop before its first step: where this is not the first part of a way, `stands_at` comes first."""
+        judged = [self.first.slot_of_code(at) for at, codes in conditions.items() if codes]
+        if not area[1]:
+            # The place of the process that is judged comes with the answer.
+            slot = next((found for found in judged if found is not None), slot)
+        pages, count, passed = [], 1, 0
+        while passed < PASSED:
+            until = until_command(slot, max(1, most // count), area, watched, sorted(conditions))
+            for why in self.stops(until, pages, count):
+                if why[0] != "address" or not self.is_passed(int(why[1], 16), conditions):
+                    return why
+                passed += 1
+                if list(self.pages) != pages:
+                    # The board was brought here for a page, and goes on from here.
+                    break
+            count = min(2 * count, JUDGED_AT_ONCE) if list(self.pages) == pages else 1
+            pages = list(self.pages)[-KEPT_PAGES:]
+        return ["most"]
+
+    def last(self, watched, conditions):
         """Goes back to the last place before this one at an address, or before a change of what is watched, and gives
         the words of why; to the start, and None, where there is none."""
-        found = self.last_found(watched, addresses) if watched or addresses else None
+        found = self.last_found(watched, conditions) if watched or conditions else None
         self.seek(found[0] if found else 0)
         return found[1] if found else None
 
-    def last_found(self, watched, addresses):
+    def last_found(self, watched, conditions):
         """After how many steps that place is, and the words of why; or None. What was recently is found at once."""
-        high = self.steps
-        for window in WINDOWS + (self.steps,):
-            low = max(0, self.steps - window)
-            found = last_of(self.searches, low, high, watched, addresses)
+        judged = {at: codes for at, codes in conditions.items() if codes}
+        addresses = sorted(conditions.keys() - judged.keys())
+        now = high = self.steps
+        for window in WINDOWS + (now,):
+            low = max(0, now - window)
+            found = last_of(self.searches, low, high, watched, addresses) if watched or addresses else None
+            if judged:
+                found = self.last_held(found[0] if found else low, high, judged) or found
             if found or low == 0:
                 return found
             high = low
+
+    def last_held(self, low, high, conditions):
+        """The last place in steps from one to another where a condition holds: it goes there, and on over all."""
+        self.seek(low)
+        found, why = None, ["most"]
+        while self.steps < high and why[0] != "done":
+            here = self.stands_at(conditions) if why[0] != "address" else None
+            why = here or self.until_held(0, high - self.steps, (0, 0), [], conditions)
+            if why[0] == "address" and self.steps < high:
+                found = (self.steps, why)
+        return found
 
     # Back, turn by turn.
 
@@ -128,8 +199,7 @@ class Past:
         answers = self.board.ask_all(commands)
         for n, turns in enumerate(range(first, last + 1)):
             self.kept.places[turns] = Place(answers[n * each][-1])
-            texts = [answer[0].split()[1:] for answer in answers[n * each + 1:(n + 1) * each]]
-            self.kept.pages[turns] = {page: bytes.fromhex(text[0] if text else "") for page, text in zip(pages, texts)}
+            self.kept.pages[turns] = {page: bytes_told(told) for page, told in zip(pages, answers[n * each + 1:])}
         self.board.steps = self.kept.places[last].steps
 
     # What there is to see.

@@ -5,6 +5,7 @@ import struct
 import sys
 
 from debugger.board import Refused
+from debugger.conditions import codes_in, holds
 from debugger.monitor import Monitor
 from debugger.packets import INTERRUPT
 from debugger.past import Past
@@ -48,7 +49,7 @@ class Server:
             raise Refused("no slot has a process")
         self.slot = min(self.past.first.slots) if slot is None else slot
         self.packets, self.monitor = packets, Monitor(self, script)
-        self.addresses, self.watched = set(), set()
+        self.addresses, self.watched = {}, set()    # each address with the conditions that its breakpoint has
         self.ahead = None           # the step after which it stands, before a denial or an exit of which GDB knows
         self.target = None          # where `continue` goes at once
         self.states = {}            # the state of each process, as GDB was told
@@ -157,19 +158,21 @@ class Server:
         self.slot = slot
         if self.pass_ahead() and area[1]:
             return self.stopped(TRAP)
+        here = None
         while True:
             before = self.past.steps
-            why, _ = self.past.until(slot, PART, area, self.watched_numbers(), sorted(self.addresses))
+            why = here or self.past.until_held(slot, PART, area, self.watched_numbers(), self.addresses)
             self.tell_new()
             reply = self.stop_of(why[0], [int(word, 16) for word in why[1:]])
             if reply:
                 return reply
             if self.past.steps == before:
                 return self.stopped(TRAP, "replaylog:end;")
+            here = self.past.stands_at(self.addresses)
 
     def go_back(self):
         self.ahead = None
-        why = self.past.last(self.watched_numbers(), sorted(self.addresses)) if self.past.steps else None
+        why = self.past.last(self.watched_numbers(), self.addresses) if self.past.steps else None
         if why is None:
             return self.stopped(TRAP, "replaylog:begin;")
         at = int(why[1], 16)
@@ -206,9 +209,12 @@ class Server:
 
     def point(self, packet):
         insert, kind = packet[0] == "Z", packet[1]
-        at, size = numbers_in(packet[3:].split(";")[0])
+        place, _, conditions = packet[3:].partition(";")
+        at, size = numbers_in(place)
         if kind in "01":
-            (self.addresses.add if insert else self.addresses.discard)(at)
+            self.addresses.pop(at, None)
+            if insert:
+                self.addresses[at] = codes_in(conditions)
             return "OK" if len(self.addresses) <= MOST_ADDRESSES else "E.at most %d breakpoints" % MOST_ADDRESSES
         return self.watch(insert, at, size) if kind == "2" else ""
 
@@ -247,7 +253,7 @@ class Server:
     def query(self, packet):
         if packet.startswith("qSupported"):
             return ("PacketSize=4000;QStartNoAckMode+;qXfer:features:read+;qXfer:threads:read+;ReverseStep+;"
-                    "ReverseContinue+;vContSupported+")
+                    "ReverseContinue+;vContSupported+;ConditionalBreakpoints+")
         if packet == "QStartNoAckMode":
             self.packets.acknowledges = False
             return "OK"

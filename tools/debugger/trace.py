@@ -32,6 +32,16 @@ def call_text(line):
     return "@%s slot %s: %s" % (words[0][1:], words[1], text)
 
 
+def line_text(line):
+    """A line of the trace, in words where it is a call."""
+    words = line.split()
+    if words[2] == "call":
+        return call_text(line)
+    if words[2] == "out":
+        return "%s slot %s: prints %r" % (words[0], words[1], bytes.fromhex(words[3]).decode("latin-1"))
+    return "%s slot %s: %s" % (words[0], words[1], " ".join(words[2:]))
+
+
 def line_time(line):
     return int(line.split()[0][1:])
 
@@ -92,16 +102,18 @@ def changed_lives(slot, before, after):
 
 
 def happened(board, first, last):
-    """What happened in the steps from one to another, with its time, by what the kernel keeps before and after each."""
+    """What happened in the steps from one to another, with its time: of each what the trace tells of it, and then what
+    came of that, by what the kernel keeps before and after it."""
     board.seek(0, first)
     states = [board.state()]
-    commands = [command for _ in range(last - first) for command in ("steps 0 1", "state")]
-    answers = board.ask_all(commands)
+    answers = board.ask_all(["trace 0 1", "state"] * (last - first))
     board.steps = last
     state = type(states[0])
     states += [state(answer) for answer in answers[1::2]]
-    for before, after in zip(states, states[1:]):
+    for traced, before, after in zip(answers[::2], states, states[1:]):
+        # Behind the lines of the trace stand why it stopped, and where.
+        yield from ((line_time(line), line_text(line)) for line in traced[:-2])
         for slot in before.slots:
             time = before.slots[slot].place.time
             for line in changed_lives(slot, before.slots[slot], after.slots[slot]):
-                yield time, line
+                yield time, "@%d %s" % (time, line)

@@ -14,16 +14,17 @@ def stands_on(top):
     return {name: [other for other in below if other in found] for name, below in found.items()}
 
 
-def size(folder):
-    """The bytes of a crate's sources."""
+def size(folder, *parts):
+    """The bytes of a crate's sources in some of its folders."""
     return sum(os.path.getsize(os.path.join(at, name))
-               for part in ("src", "specs", "proofs") for at, _, names in os.walk(os.path.join(folder, part))
+               for part in parts for at, _, names in os.walk(os.path.join(folder, part))
                for name in names if name.endswith((".rt", ".antt")))
 
 
-def work(own, below):
-    """About how many seconds the proof of so many bytes takes one processor, over so many that are read below it."""
-    return 5 + own / 2500 + below / 100000
+def work(functions, below):
+    """About how many seconds the proof of a crate takes one processor, by the bytes of its functions and by those of
+    all sources below it, which are read. Its lemmas take little beside these."""
+    return 8 + functions / 350 + below / 50000
 
 
 class Crates:
@@ -32,8 +33,10 @@ class Crates:
     def __init__(self, top, program):
         self.program, self.on, self.all_below = program, stands_on(top), {}
         self.names = [*self.below(program), program]
-        sizes = {name: size(os.path.join(top, "crates", name)) for name in self.names}
-        self.work = {name: work(sizes[name], sum(sizes[it] for it in self.below(name))) for name in self.names}
+        folders = {name: os.path.join(top, "crates", name) for name in self.names}
+        sizes = {name: size(folder, "src", "specs", "proofs") for name, folder in folders.items()}
+        self.work = {name: work(size(folders[name], "src"), sum(sizes[it] for it in self.below(name)))
+                     for name in self.names}
         self.above = {name: [other for other in self.names if name in self.on[other]] for name in self.names}
         self.chain = {}
         for name in reversed(self.names):

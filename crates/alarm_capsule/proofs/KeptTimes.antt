@@ -15,7 +15,7 @@ use Rattle.driver_model.specs.Alarm.{alarm_driver, alarm_in, armed_in, ticks_lef
 use Rattle.driver_model.specs.Laws.{TimeBringsNearer}
 use Rattle.grant_enter.specs.Homes.{living}
 use Rattle.board_devices.specs.Clock.{clock_at}
-use Rattle.alarm_capsule.specs.Times.{AllTell, BecomesDue, OthersTell, Tells}
+use Rattle.alarm_capsule.specs.Times.{AllTell, BecomesDue, OthersTell, TellsAlarm}
 
 -- what is left of an alarm of a process, by whether it lives
 left_by : ℕ → Bool → Option Armed → Option ℕ
@@ -95,7 +95,7 @@ none_left_on now later (Some own) e = by_lives own.lives (alarm_in own) e
 
 -- time that passes leaves true what is told
 pub later_tells : TimeBringsNearer → (now time passed : ℕ) (kept : Option ℕ) (o : Option Own) → now < 2 ^ 32
-    → Tells now time kept o → Tells ((now + passed) % 2 ^ 32) (time + passed) kept o
+    → TellsAlarm now time kept o → TellsAlarm ((now + passed) % 2 ^ 32) (time + passed) kept o
 later_tells law now time passed None o small tells = none_left_on now ((now + passed) % 2 ^ 32) o tells
 later_tells law now time passed (Some at) o small tells = λ ahead.
     let due = tells (before ahead) in
@@ -127,7 +127,7 @@ left_of now lives grants =
 
 -- so does what becomes of a process, where it keeps the same for the alarm
 pub same_tells : (now time : ℕ) (kept : Option ℕ) (own o : Own) → o.grants ≡ own.grants → o.lives ≡ own.lives
-    → Tells now time kept (Some own) → Tells now time kept (Some o)
+    → TellsAlarm now time kept (Some own) → TellsAlarm now time kept (Some o)
 unfolding left_of
 same_tells now time None own o grants lives tells = ap₂ (left_of now) lives grants ∙ tells
 same_tells now time (Some at) own o grants lives tells = λ ahead.
@@ -166,24 +166,25 @@ set_other (z ∷ zs) (suc i) (suc j) y ne = set_other zs i j y (λ e. ne (ap suc
 pub others_tell : (now time slot : ℕ) (times : List (Option ℕ)) (owns : List Own) (o : Own)
     → AllTell now time times owns → OthersTell slot now time times (slice_set owns slot o)
 others_tell now time slot times owns o tell other ne =
-    subst (Tells now time (slice_index_or times other None)) (sym (set_other owns slot other o ne)) (tell other)
+    subst (TellsAlarm now time (slice_index_or times other None)) (sym (set_other owns slot other o ne)) (tell other)
 
 -- where the time of the process in one slot is looked for again, what is told of all is true
 pub noted_tell : (now time slot : ℕ) (times : List (Option ℕ)) (owns : List Own) (kept : Option ℕ) → slot < length times
-    → Tells now time kept (slice_get owns slot) → OthersTell slot now time times owns
+    → TellsAlarm now time kept (slice_get owns slot) → OthersTell slot now time times owns
     → AllTell now time (slice_set times slot kept) owns
 noted_tell now time slot times owns kept within tells others other = by_slot (other == slot) refl
   where
     by_slot : (b : Bool) → (other == slot) ≡ b
-        → Tells now time (slice_index_or (slice_set times slot kept) other None) (slice_get owns other)
+        → TellsAlarm now time (slice_index_or (slice_set times slot kept) other None) (slice_get owns other)
     by_slot true e =
         let same : slot ≡ other = sym (eqb-true other slot e) in
-        subst (λ (n : ℕ). Tells now time (slice_index_or (slice_set times slot kept) n None) (slice_get owns n)) same
-        (subst (λ (k : Option ℕ). Tells now time k (slice_get owns slot))
+        subst (λ (n : ℕ). TellsAlarm now time (slice_index_or (slice_set times slot kept) n None) (slice_get owns n))
+        same
+        (subst (λ (k : Option ℕ). TellsAlarm now time k (slice_get owns slot))
         (sym (get_or-set_same times slot kept None within)) tells)
     by_slot false e =
         let apart : other ≢ slot = λ same. false≢true (sym e ∙ eq-eqb other slot same) in
-        subst (λ (k : Option ℕ). Tells now time k (slice_get owns other))
+        subst (λ (k : Option ℕ). TellsAlarm now time k (slice_get owns other))
         (sym (get_or-set_other times slot other kept None apart)) (others other apart)
 
 -- and of all, where it keeps the same for the alarm
@@ -193,13 +194,13 @@ pub kept_tell : (now time slot : ℕ) (times : List (Option ℕ)) (owns : List O
 kept_tell now time slot times owns own o was grants lives tell other = by_slot (other == slot) refl
   where
     by_slot : (b : Bool) → (other == slot) ≡ b
-        → Tells now time (slice_index_or times other None) (slice_get (slice_set owns slot o) other)
+        → TellsAlarm now time (slice_index_or times other None) (slice_get (slice_set owns slot o) other)
     by_slot true e =
         let same : slot ≡ other = sym (eqb-true other slot e) in
-        subst (λ (n : ℕ). Tells now time (slice_index_or times n None) (slice_get (slice_set owns slot o) n)) same
-        (subst (Tells now time (slice_index_or times slot None)) (sym (set_same owns slot own o was))
+        subst (λ (n : ℕ). TellsAlarm now time (slice_index_or times n None) (slice_get (slice_set owns slot o) n)) same
+        (subst (TellsAlarm now time (slice_index_or times slot None)) (sym (set_same owns slot own o was))
         (same_tells now time (slice_index_or times slot None) own o grants lives
-        (subst (Tells now time (slice_index_or times slot None)) was (tell slot))))
+        (subst (TellsAlarm now time (slice_index_or times slot None)) was (tell slot))))
     by_slot false e =
         others_tell now time slot times owns o tell other (λ same. false≢true (sym e ∙ eq-eqb other slot same))
 
@@ -209,7 +210,7 @@ pub all_later : TimeBringsNearer → (start time passed : ℕ) (times : List (Op
     → AllTell (clock_at start (time + passed)) (time + passed) times owns
 all_later law start time passed times owns tell slot =
     let kept = slice_index_or times slot None in
-    subst (λ (now : ℕ). Tells now (time + passed) kept (slice_get owns slot)) (on_the_clock start time passed)
+    subst (λ (now : ℕ). TellsAlarm now (time + passed) kept (slice_get owns slot)) (on_the_clock start time passed)
     (later_tells law (clock_at start time) time passed kept (slice_get owns slot) (below start time) (tell slot))
   where
     on_the_clock : (start time passed : ℕ) → (clock_at start time + passed) % 2 ^ 32 ≡ clock_at start (time + passed)
@@ -228,7 +229,7 @@ pub fresh_tell : (now time : ℕ) (owns : List Own)
     → ((slot : ℕ) (own : Own) → slice_get owns slot ≡ Some own → own.grants ≡ [])
     → AllTell now time (replicate SLOT_COUNT None) owns
 fresh_tell now time owns none slot =
-    subst (λ (kept : Option ℕ). Tells now time kept (slice_get owns slot)) (sym (nothing_at SLOT_COUNT slot))
+    subst (λ (kept : Option ℕ). TellsAlarm now time kept (slice_get owns slot)) (sym (nothing_at SLOT_COUNT slot))
     (by_slot (slice_get owns slot) refl)
   where
     by_slot : (o : Option Own) → slice_get owns slot ≡ o → option_and_then (ticks_left_of now) o ≡ None

@@ -12,7 +12,7 @@ use Rattle.process_model.specs.Own.{Own}
 use Rattle.driver_model.specs.Alarm.{due_for, due_slot, has_due, nearer, next_left, ticks_left_in}
 use Rattle.driver_model.specs.Parts.{nearer_with}
 use Rattle.driver_model.specs.Laws.{IsDueWhereNoneAreLeft}
-use Rattle.alarm_capsule.specs.Times.{AllTell, Tells, nearer_kept, nearest_kept}
+use Rattle.alarm_capsule.specs.Times.{AllTell, TellsAlarm, nearer_kept, nearest_kept}
 use Rattle.alarm_capsule.proofs.KeptTimes.{left_ahead, soon}
 
 -- how long it is until a time, if there is one
@@ -78,7 +78,7 @@ module _ (now time : ℕ) (times : List (Option ℕ)) (owns : List Own) (tell : 
       ∙ nearer_until time least (slice_index_or times slot None))
       ∙ all_left slots (nearer least (slice_index_or times slot None)) at e ahead
     where
-      left : (kept : Option ℕ) → Tells now time kept (slice_get owns slot)
+      left : (kept : Option ℕ) → TellsAlarm now time kept (slice_get owns slot)
           → fold (nearer_kept times) (nearer least kept) slots ≡ Some at
           → ticks_left_in now owns slot ≡ until time kept
       left None tells f = tells
@@ -92,7 +92,7 @@ module _ (now time : ℕ) (times : List (Option ℕ)) (owns : List Own) (tell : 
   none_left [] e = refl
   none_left (slot ∷ slots) e = by_kept (slice_index_or times slot None) (tell slot) (none_left slots) e
     where
-      by_kept : (kept : Option ℕ) → Tells now time kept (slice_get owns slot)
+      by_kept : (kept : Option ℕ) → TellsAlarm now time kept (slice_get owns slot)
           → (fold (nearer_kept times) None slots ≡ None → fold (nearer_with now owns) None slots ≡ None)
           → fold (nearer_kept times) kept slots ≡ None
           → fold (nearer_with now owns) (ticks_left_in now owns slot) slots ≡ None
@@ -117,7 +117,7 @@ module _ (now time : ℕ) (times : List (Option ℕ)) (owns : List Own) (tell : 
       with_none None h = h
       with_none (Some x) h = h
 
-      by_kept : (kept : Option ℕ) → Tells now time kept (slice_get owns slot)
+      by_kept : (kept : Option ℕ) → TellsAlarm now time kept (slice_get owns slot)
           → fold (nearer_kept times) (nearer least kept) slots ≡ Some at
           → IfSome (nearer least kept) (λ x. x - time < 2 ^ 32)
       by_kept None tells f = with_none least near
@@ -240,11 +240,11 @@ module _ (times : List (Option ℕ)) (slot : ℕ) (due : Option ℕ) (within : s
 
 -- A slot whose time lies ahead, or of which none is kept, has no alarm that is due.
 pub not_due_yet : IsDueWhereNoneAreLeft → (now time slot : ℕ) (kept : Option ℕ) (owns : List Own)
-    → Tells now time kept (slice_get owns slot) → IfSome kept (λ at. time < at)
+    → TellsAlarm now time kept (slice_get owns slot) → IfSome kept (λ at. time < at)
     → false ≡ has_due now (slice_get owns slot)
 not_due_yet law now time slot kept owns tells ahead = by_due (has_due now (slice_get owns slot)) refl
   where
-    left : (kept : Option ℕ) → Tells now time kept (slice_get owns slot) → IfSome kept (λ at. time < at)
+    left : (kept : Option ℕ) → TellsAlarm now time kept (slice_get owns slot) → IfSome kept (λ at. time < at)
         → ticks_left_in now owns slot ≡ Some 0 → ⊥
     left None told h e = no_left 0 (sym told ∙ e)
     left (Some at) told h e =

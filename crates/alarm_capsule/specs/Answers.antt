@@ -1,27 +1,11 @@
 -- What the alarm answers (Tock's driver 0x0).
-use Rattle.std.specs.Prelude.{◌≡◌, ℕ, [], Option, None, Some, Result, Ok, Err}
-use Rattle.tk_base.specs.declared.call.CallRule.{CallRule}
+use Rattle.std.specs.Prelude.{◌≡◌, ℕ, Option, None, Some, Result, Ok, Err}
 use Rattle.tk_base.specs.declared.process.NotReady.{NotReady}
 use Rattle.board_devices.specs.declared.answer.Answer.{Answer}
-use Rattle.syscall_abi.specs.declared.reply.Reply.{Reply}
-use Rattle.process_model.specs.Own.{Own}
 use Rattle.grant_enter.specs.Homes.{Homes, own_of, ChangesOnly}
-use Rattle.driver_model.specs.Steps.{own_after, silently}
-use Rattle.driver_model.specs.Commands.{Commanded}
-use Rattle.driver_model.specs.Replies.{reply_of}
+use Rattle.driver_model.specs.Steps.{own_after}
 use Rattle.driver_model.specs.Alarm.{answered, due_for}
 use Rattle.driver_requests.specs.Answers.{kinds}
-
--- an answer and what is then the process's own, as what comes of a command; the alarm schedules nothing then, and asks
--- nothing of the board
-abbrev pub as_commanded : Result Reply CallRule → Own → Commanded
-as_commanded answer own = record { answer = answer; step = silently own; acts = [] }
-
--- The answer is the command's, as the process gets it, and so is what is then the process's own; it asks nothing of the
--- board.
-abbrev pub AlarmReplies : Commanded → Reply × Option CallRule → Own → Type 0
-AlarmReplies command answer own =
-    (answer ≡ reply_of command.answer) × (own ≡ own_after command.step) × (command.acts ≡ [])
 
 -- The lowest slot whose alarm is due, of those that are served, got its answer, and is told the tick, and nothing else
 -- changed; or none is due, and nothing changed.

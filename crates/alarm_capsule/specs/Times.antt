@@ -20,19 +20,19 @@ pub record BecomesDue (now time at : ℕ) (o : Option Own) : Type 0 where
 
 -- A time that is kept of the process in a slot, if there is one, tells of its alarm: where it lies ahead, the alarm
 -- becomes due then; none kept says that none is armed; a time that has come says nothing.
-abbrev pub Tells : ℕ → ℕ → Option ℕ → Option Own → Type 0
-Tells now time None o = option_and_then (ticks_left_of now) o ≡ None
-Tells now time (Some at) o = time < at → BecomesDue now time at o
+abbrev pub TellsAlarm : ℕ → ℕ → Option ℕ → Option Own → Type 0
+TellsAlarm now time None o = option_and_then (ticks_left_of now) o ≡ None
+TellsAlarm now time (Some at) o = time < at → BecomesDue now time at o
 
 -- so do those of all slots but one
 abbrev pub OthersTell : ℕ → ℕ → ℕ → List (Option ℕ) → List Own → Type 0
 OthersTell slot now time times owns = (other : ℕ) → other ≢ slot
-    → Tells now time (slice_index_or times other None) (slice_get owns other)
+    → TellsAlarm now time (slice_index_or times other None) (slice_get owns other)
 
 -- so does that of each slot
 abbrev pub AllTell : ℕ → ℕ → List (Option ℕ) → List Own → Type 0
 AllTell now time times owns =
-    (slot : ℕ) → Tells now time (slice_index_or times slot None) (slice_get owns slot)
+    (slot : ℕ) → TellsAlarm now time (slice_index_or times slot None) (slice_get owns slot)
 
 -- the nearest time so far, and then with that which is kept of one slot more
 abbrev pub nearer_kept : List (Option ℕ) → Option ℕ → ℕ → Option ℕ

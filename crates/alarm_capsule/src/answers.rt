@@ -17,7 +17,7 @@ use tk_base::{ProcessId, Slot};
 
 /// An alarm that is due, and whose it is.
 #[derive(Clone, Copy)]
-pub(crate) struct Due {
+pub struct Due {
     pub id: ProcessId,
     pub alarm: Armed,
 }

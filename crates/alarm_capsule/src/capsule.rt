@@ -2,17 +2,18 @@
 ghost use Rattle.std.specs.Prelude.{◌≡◌, ◌+◌, ◌<◌, ◌^◌, All, IfOk, None};
 ghost use Rattle.grant_enter.specs.Homes.{own_of, ChangesOnly};
 ghost use Rattle.driver_requests.specs.Asking.{IsPresent};
-ghost use Rattle.driver_model.specs.Alarm.{alarm_in, command};
-ghost use Rattle.alarm_capsule.specs.Answers.{AlarmAnswers, AlarmReplies};
+ghost use Rattle.driver_model.specs.Alarm.{alarm_in, commands};
+ghost use Rattle.driver_model.specs.Commands.{by_number};
+ghost use Rattle.driver_model.specs.Replies.{RepliesAlone};
+ghost use Rattle.alarm_capsule.specs.Answers.{AlarmAnswers};
 ghost use Rattle.alarm_capsule.specs.Times.{AllTell};
 
 use crate::answers::fire;
 use crate::commands::obey;
 use crate::times::AlarmTimes;
 use board_devices::Answer;
-use driver_model::reply_of;
 use grant_enter::Home;
-use syscall_abi::Reply;
+use syscall_abi::{Reply, reply_of};
 use tk_base::{CallRule, NotReady, ProcessId, Slot};
 
 /// The alarm. All that it keeps lies in the grants of processes.
@@ -39,7 +40,7 @@ impl AlarmCapsule {
         a3: u32,
     ) -> (Reply, Option<CallRule>)
         requires { IsPresent home.old id }
-        ensures answer { AlarmReplies (command now number a2 a3 (own_of home.old id.slot))
+        ensures answer { RepliesAlone (by_number (commands now a2 a3) number (own_of home.old id.slot))
             result (own_of home.new id.slot) }
         ensures rest { ChangesOnly id.slot home.old home.new }
     {

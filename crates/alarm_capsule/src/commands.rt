@@ -2,9 +2,9 @@
 ghost use Rattle.std.specs.Prelude.{◌≡◌, ◌+◌, ◌%◌, ◌<◌, ◌^◌, false, length, is_some};
 ghost use Rattle.grant_enter.specs.Homes.{own_of, ChangesOnly};
 ghost use Rattle.driver_requests.specs.Asking.{IsPresent};
-ghost use Rattle.driver_model.specs.Alarm.{alarm_in, arming, command, expiration, showing};
+ghost use Rattle.driver_model.specs.Alarm.{alarm_in, arming, commands, expiration, showing};
 ghost use Rattle.driver_model.specs.Alarm.{stopping};
-ghost use Rattle.alarm_capsule.specs.Answers.{as_commanded};
+ghost use Rattle.driver_model.specs.Commands.{as_commanded, by_number};
 
 use crate::visits::{Arm, Show, Stop, alarms};
 use grant_enter::Home;
@@ -61,7 +61,7 @@ fn show(home: &mut Home, id: ProcessId, now: u32)
 
 /// A command of the process of an id to the alarm, at a tick of the clock: the reply, or the rule
 /// that refuses it.
-#[tactic(auto, unfolding(driver_model::specs::Alarm::command, driver_model::specs::Alarm::commands))]
+#[tactic(auto, unfolding(driver_model::specs::Alarm::commands))]
 pub(crate) fn obey(
     home: &mut Home,
     now: u32,
@@ -72,7 +72,7 @@ pub(crate) fn obey(
 ) -> Result<Reply, CallRule>
     requires { IsPresent home.old id }
     ensures answer { as_commanded result (own_of home.new id.slot)
-        ≡ command now number a2 a3 (own_of home.old id.slot) }
+        ≡ by_number (commands now a2 a3) number (own_of home.old id.slot) }
     ensures rest { ChangesOnly id.slot home.old home.new }
 {
     match number {

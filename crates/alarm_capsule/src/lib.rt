@@ -9,5 +9,6 @@ mod standard;
 mod times;
 mod visits;
 
+pub use answers::Due;
 pub use capsule::AlarmCapsule;
 pub use times::{AlarmTimes, nearer_time};

@@ -9,7 +9,7 @@ ghost use Rattle.driver_model.specs.Alarm.{alarm_in, due_for, due_slot, has_due,
 ghost use Rattle.driver_model.specs.Alarm.{next_left};
 ghost use Rattle.driver_model.specs.Alarm.{ticks_left};
 ghost use Rattle.driver_model.specs.Alarm.{ticks_left_in};
-ghost use Rattle.alarm_capsule.specs.Times.{AllBehind, AllTell, NoneDueBelow, OthersTell, Tells};
+ghost use Rattle.alarm_capsule.specs.Times.{AllBehind, AllTell, NoneDueBelow, OthersTell, TellsAlarm};
 ghost use Rattle.alarm_capsule.specs.Times.{comes_before, nearest_kept};
 
 use crate::answers::{Due, expired_in};
@@ -56,7 +56,7 @@ fn due_time(home: &Home, slot: Slot, now: u32, time: u64) -> Option<u64>
     requires { time + 2 ^ 32 ≤ 2 ^ 64 }
     ensures is { result
         ≡ option_map (λ left. time + left) (ticks_left_in now home.now.owns slot) }
-    ensures tells { Tells now time result (slice_get home.now.owns slot) }
+    ensures tells { TellsAlarm now time result (slice_get home.now.owns slot) }
 {
     let id = home.id(slot)?;
     let alarm = alarm_of(home, &id)?;
@@ -208,46 +208,21 @@ impl AlarmTimes {
         }
     }
 
-    /// Whether an alarm is due of a process that lives, of any or of that in the one slot which is
-    /// served.
-    pub fn is_due(&self, home: &Home, now: u32, time: u64, only: Option<Slot>) -> bool
-        requires { AllTell now time self.now home.now.owns }
-        ensures { result ≡ is_some (due_for only now home.now.owns) }
-    {
-        self.due_alarm(home, now, time, only).is_some()
-    }
-
     /// The alarm of the lowest slot whose alarm is due at a time at which the clock shows `now`, or of
     /// the one slot which is served, where its alarm is, and whose it is. None exactly where no alarm
     /// of a process that lives and is served is due. It asks that the times that are kept tell of all
     /// alarms.
-    // Inlined, as are the two below: most often the nearest of the times lies ahead.
+    // Inlined: most often the nearest of the times lies ahead, and no slot is looked at before it has come.
     #[inline(always)]
-    pub(crate) fn due_alarm(
-        &self,
-        home: &Home,
-        now: u32,
-        time: u64,
-        only: Option<Slot>,
-    ) -> Option<Due>
+    pub fn due_alarm(&self, home: &Home, now: u32, time: u64, only: Option<Slot>) -> Option<Due>
         requires { AllTell now time self.now home.now.owns }
         ensures slot { option_map (λ due. due.id.slot) result ≡ due_for only now home.now.owns }
         ensures due { IfSome result (λ due. AlarmIsDue now due.id.slot home.now due) }
     {
-        match only {
-            None => self.first_due(home, now, time),
-            Some(slot) => self.due_in(home, slot, now, time),
-        }
-    }
-
-    /// That in the lowest slot. No slot is looked at before the nearest of the times has come.
-    #[inline(always)]
-    fn first_due(&self, home: &Home, now: u32, time: u64) -> Option<Due>
-        requires { AllTell now time self.now home.now.owns }
-        ensures slot { option_map (λ due. due.id.slot) result ≡ due_slot now home.now.owns }
-        ensures due { IfSome result (λ due. AlarmIsDue now due.id.slot home.now due) }
-    {
         an_alarm_is_due_where_no_ticks_are_left();
+        if let Some(slot) = only {
+            return self.due_in(home, slot, now, time);
+        }
         let at = self.nearest?;
         if time < at {
             return None;
@@ -257,7 +232,7 @@ impl AlarmTimes {
         self.first_due_from(home, from, now, time)
     }
 
-    /// The same, by a look at each slot from one on: it asks that none below that is due.
+    /// That in the lowest slot, by a look at each slot from one on: it asks that none below that is due.
     #[inline(never)]
     #[tactic(auto, unfolding(driver_model::specs::Alarm::due_slot), using(crate::proofs::Slots::passed))]
     fn first_due_from(&self, home: &Home, from: usize, now: u32, time: u64) -> Option<Due>
@@ -291,7 +266,7 @@ impl AlarmTimes {
 
     /// The ticks that are left of the alarm of the process in a slot.
     fn left_in(&self, home: &Home, slot: Slot, now: u32, time: u64) -> Option<u32>
-        requires { Tells now time (slice_index_or self.now slot None)
+        requires { TellsAlarm now time (slice_index_or self.now slot None)
             (slice_get home.now.owns slot) }
         ensures { result ≡ ticks_left_in now home.now.owns slot }
     {
@@ -311,18 +286,9 @@ impl AlarmTimes {
         requires { AllTell now time self.now home.now.owns }
         ensures { result ≡ left_for only now home.now.owns }
     {
-        match only {
-            None => self.next_of_any(home, now, time),
-            Some(slot) => self.left_in(home, slot, now, time),
+        if let Some(slot) = only {
+            return self.left_in(home, slot, now, time);
         }
-    }
-
-    /// The same of any.
-    #[inline(always)]
-    fn next_of_any(&self, home: &Home, now: u32, time: u64) -> Option<u32>
-        requires { AllTell now time self.now home.now.owns }
-        ensures { result ≡ next_left now home.now.owns }
-    {
         let at = self.nearest?;
         if at <= time {
             return self.next_of_all(home, now, time);
@@ -330,7 +296,7 @@ impl AlarmTimes {
         Some((at - time) as u32)
     }
 
-    /// The same, by a look at each slot.
+    /// That of any, by a look at each slot.
     #[inline(never)]
     #[tactic(auto, unfolding(driver_model::specs::Alarm::next_left))]
     fn next_of_all(&self, home: &Home, now: u32, time: u64) -> Option<u32>

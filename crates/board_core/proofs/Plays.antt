@@ -21,10 +21,11 @@ use Rattle.kernel_model.specs.Accounts.{IsAccountedFor}
 use Rattle.kernel_model.specs.Run.{printed}
 use Rattle.kernel_model.specs.Shown.{shown_by}
 use Rattle.kernel_model.proofs.Labels.{shown_by-printed}
-use Rattle.kernel_model.specs.Replay.{RecordIsReplay, after_all, history, replay}
+use Rattle.kernel_model.specs.Replay.{RecordIsReplay, RoundFollowsChoices, after_all, history, replay}
 use Rattle.kernel_model.specs.Choices.{Throughout, are_ready, labels_of_all, printed_by_all}
+use Rattle.kernel_histories.specs.Edges.{EachEdgeComesOnce}
 use Rattle.kernel_partitions.specs.Moments.{before, timed_history}
-use Rattle.kernel_partitions.specs.Partitions.{ASlotSeesItselfAlone}
+use Rattle.kernel_partitions.specs.Partitions.{ASlotSeesItselfAlone, SameRecordAtEachTime}
 use Rattle.board_opening.specs.Alone.{IsFirstAlone, first_alone}
 use Rattle.board_core.specs.Plays.{FailedAfter, ChoicesMade, PlayedAll, StoppedAt}
 
@@ -64,7 +65,25 @@ throughout-more w (d ∷ cs) c all one = (all.0, throughout-more (after w d) cs 
 -- the laws of runs that are known of the choices made
 pub record LawsOfRuns : Type 0 where
   pub replayed : RecordIsReplay
+  pub round : RoundFollowsChoices
+  pub edges : EachEdgeComesOnce
   pub partitioned : ASlotSeesItselfAlone
+  pub record_is : SameRecordAtEachTime
+
+pub laws_of_runs : RecordIsReplay → RoundFollowsChoices → EachEdgeComesOnce → ASlotSeesItselfAlone
+    → SameRecordAtEachTime → LawsOfRuns
+laws_of_runs replayed round edges partitioned record_is = record {
+  replayed = replayed;
+  round = round;
+  edges = edges;
+  partitioned = partitioned;
+  record_is = record_is;
+}
+
+-- a test that is not true is false
+pub unready_if_refused : (b : Bool) → (b ≡ true → false ≡ true) → b ≡ false
+unready_if_refused true e = sym (e refl)
+unready_if_refused false e = refl
 
 -- what choices that were made lead to, of each process by itself
 made_of : (old new : World) (cs : List Choice) → LawsOfRuns → are_ready old cs ≡ true → new ≡ after_all old cs
@@ -75,6 +94,7 @@ made_of old new cs laws ready world accounted =
       world = world;
       records = replayed;
       accounted = accounted;
+      edges = λ slot. laws.edges old slot cs;
       same = λ other others slot place settings first histories.
           laws.replayed other others place
           ∙ ap (λ (s : Settings). option_map (replay s (history place other others)) (slice_get other.records place))
@@ -89,6 +109,9 @@ made_of old new cs laws ready world accounted =
       partitioned = λ windows n is slot other alike m time reached there.
           ap (λ (ds : List Choice). before time (timed_history slot old ds)) is
           ∙ laws.partitioned slot old other windows alike n m time reached there;
+      record_is = λ windows n is slot other alike m time first there.
+          ap (λ (w : World). slice_get w.records slot) (world ∙ ap (after_all old) is ∙ sym (laws.round n old))
+          ∙ laws.record_is slot old other windows alike n m time first there;
     }
   where
     replayed : (slot : ℕ)

@@ -15,7 +15,7 @@ ghost use Rattle.board_opening.specs.Alone.{IsReplayed, OpensAlone};
 ghost use Rattle.board_opening.specs.Opening.{opening};
 ghost use Rattle.board_devices.specs.Arriving.{is_time};
 ghost use Rattle.board_drivers.specs.Tells.{tells_one};
-ghost use Rattle.board_state.specs.KnownEnds.{IsKnownEnd};
+ghost use Rattle.board_state.specs.KnownEnds.{IsKnownOfChoice};
 ghost use Rattle.board_state.specs.Makes.{MakesStep, act_meant};
 
 use alarm_capsule::AlarmTimes;
@@ -23,7 +23,7 @@ use arrayvec::ArrayVec;
 use board_drivers::{Drivers, Moment};
 use board_opening::{LoadedProcesses, first_crew, placed_in, unplaced};
 use board_state::{
-    BoardState, act_meant, hide, make_turn, operate, settings_of, show, summary, time_ahead,
+    BoardState, act_meant, clear, make_turn, operate, settings_of, show, summary, time_ahead,
 };
 use board_turns::{ActivePmp, Machine, ReadySlots};
 use driver_model::{lines_follow_answers, time_brings_an_alarm_nearer};
@@ -39,7 +39,7 @@ use std::alloc::Global;
 use std::marker::Model;
 use tk_base::{Choice, Dev, FLASH_LIMIT, NotReady, STEP_LIMIT, Slot};
 use tk_outside::NoMemory;
-use turn_scheduler::{Situated, next_choice_in, next_in_calm};
+use turn_scheduler::{Present, Situated, next_choice_in, next_in_calm};
 
 /// A board with its processes. Contracts see the world that it shows.
 #[derive(Drop)]
@@ -70,7 +70,8 @@ impl Situated for Board {
 
     #[inline(always)]
     fn device_is_ready(&self, device: Dev) -> bool {
-        self.state.machine.is_ready(device)
+        let machine = &self.state.machine;
+        machine.is_ready(&machine.moment.served(), device)
     }
 
     fn slot_is_ready(&self, slot: Slot) -> bool {
@@ -94,16 +95,12 @@ impl Situated for Board {
         self.state.machine.moment.time
     }
 
-    fn present(&self) -> Option<Slot> {
-        self.state.present
-    }
-
-    fn used(&self) -> u32 {
-        self.state.used
-    }
-
-    fn slice(&self) -> u32 {
-        self.state.slice
+    fn present(&self) -> Present {
+        Present {
+            slot: self.state.present,
+            used: self.state.used,
+            slice: self.state.slice,
+        }
     }
 }
 
@@ -160,19 +157,10 @@ impl Board {
         })
     }
 
-    /// A turn of the process in a slot.
-    #[inline(always)]
-    fn run(&mut self, slot: Slot, end: TurnEnd, emit: &mut Emit) -> Result<(), NotReady>
-        requires limit { self.old.clock.steps < STEP_LIMIT }
-        requires known { IsKnownEnd self.old end (Run slot) }
-        ensures { MakesStep (Run slot) self.old self.new emit.old emit.new result }
-    {
-        make_turn(&mut self.state, slot, end, emit)
-    }
-
     /// What is next to come in does: bytes on the serial line, an edge of a button, which every
     /// process is told that enabled it, or an operator's act, which changes nothing else where it
     /// means nobody.
+    #[inline(never)]
     fn arrive(&mut self, emit: &mut Emit) -> Result<(), NotReady>
         requires { self.old.clock.steps < STEP_LIMIT }
         ensures { MakesStep (Device Event) self.old self.new emit.old emit.new result }
@@ -197,13 +185,14 @@ impl Board {
             .drivers
             .arrive(&mut self.state.machine.home, slots);
         self.state.machine.look_at_all(&self.state.processes);
-        hide(emit);
+        clear(emit, None);
         self.state.machine.moment.steps += 1;
         self.state.machine.calm = self.state.machine.look_ahead();
         Ok(())
     }
 
     /// A device tells one process something.
+    #[inline(never)]
     fn tell(&mut self, device: Dev, emit: &mut Emit) -> Result<(), NotReady>
         requires tells { tells_one device ≡ true }
         requires limit { self.old.clock.steps < STEP_LIMIT }
@@ -222,20 +211,6 @@ impl Board {
         self.state.machine.forget_fired(served, device);
         self.state.machine.calm = self.state.machine.look_ahead();
         Ok(())
-    }
-
-    /// A device acts.
-    #[inline(never)]
-    fn act(&mut self, device: Dev, emit: &mut Emit) -> Result<(), NotReady>
-        requires { self.old.clock.steps < STEP_LIMIT }
-        ensures { MakesStep (Device device) self.old self.new emit.old emit.new result }
-    {
-        match device {
-            Dev::Event => self.arrive(emit),
-            Dev::Alarm | Dev::Uart | Dev::Receive | Dev::Random | Dev::Store => {
-                self.tell(device, emit)
-            }
-        }
     }
 
     /// Whether so many ticks may pass.
@@ -257,7 +232,7 @@ impl Board {
             return Err(NotReady);
         }
         time_brings_an_alarm_nearer();
-        hide(emit);
+        clear(emit, None);
         self.state.machine.moment.time += u64::from(ticks);
         self.state.machine.moment.steps += 1;
         Ok(())
@@ -311,7 +286,7 @@ impl Board {
         end: TurnEnd,
         emit: &mut Emit,
     ) -> Result<(), NotReady>
-        requires { IsKnownEnd self.old end choice }
+        requires { IsKnownOfChoice self.old end choice }
         ensures ready { IsOk result ↔ IsTrue (is_ready self.old choice) }
         ensures ok { OnOk result (self.new ≡ after self.old choice) }
         ensures shown { OnOk result (emit.new ≡ shown_by (labels self.old choice)) }
@@ -326,8 +301,13 @@ impl Board {
             return Err(NotReady);
         }
         match choice {
-            Choice::Run(slot) => self.run(slot, end, emit),
-            Choice::Device(device) => self.act(device, emit),
+            Choice::Run(slot) => make_turn(&mut self.state, slot, end, emit),
+            Choice::Device(device) => match device {
+                Dev::Event => self.arrive(emit),
+                Dev::Alarm | Dev::Uart | Dev::Receive | Dev::Random | Dev::Store => {
+                    self.tell(device, emit)
+                }
+            },
             Choice::Pass(ticks) => self.pass(ticks, emit),
         }
     }

@@ -1,6 +1,7 @@
 //! What there is to see of one process on a board, and of those that wait.
-ghost use Rattle.std.specs.Prelude.{◌≡◌, ◌-◌, All, map, slice_get};
-ghost use Rattle.grant_model.specs.Encoding.{encode_grants};
+ghost use Rattle.std.specs.Prelude.{◌≡◌, ℕ, ◌-◌, All, IfSome, map, slice_get};
+ghost use Rattle.std.specs.List.{AllByRecursion};
+ghost use Rattle.grant_model.specs.Encoding.{IsSound, encode_grants};
 ghost use Rattle.std.specs.Option.{option_copied, option_map};
 ghost use Rattle.process_model.specs.Own.{block_of, layout_of};
 ghost use Rattle.grant_enter.specs.Homes.{living};
@@ -80,6 +81,16 @@ impl Board {
         let layout = self.state.machine.home.layout(slot);
         let below = own_bytes(&layout);
         Some(self.state.machine.home.block(slot).split_at(below).1)
+    }
+
+    /// As always, each grant of a process is as the table of drivers has it. The function does
+    /// nothing.
+    #[inline(always)]
+    pub fn grants_are_sound(&self)
+        ensures { (slot : ℕ) → IfSome (slice_get self.now.records slot)
+            (λ r. AllByRecursion IsSound r.own.grants) }
+    {
+        self.state.machine.home.owns_lie_in_place();
     }
 
     /// The bytes of storage of the process in a slot.

@@ -2,6 +2,7 @@
 ghost use Rattle.board_core.specs.Plays.{Plays};
 
 use crate::board::Board;
+use kernel_histories::each_edge_comes_once;
 use kernel_model::a_record_is_the_replay_of_its_events;
 use kernel_partitions::a_partition_sees_itself_alone;
 use process_record::Emit;
@@ -29,14 +30,23 @@ impl Board {
     /// written is a front of what the choices made print, and they are as few as print more than
     /// that. No memory is taken.
     ///
+    /// Each edge of a button that comes meanwhile, while a process lives, has that button enabled
+    /// and knew the other state of it, schedules upcall 0 of the buttons for it once, in the order
+    /// of the script: the wait for that upcall alone is given, null or not; else a null one does
+    /// nothing, and another is put last, or dropped and counted where as many are pending as may
+    /// be. No other step schedules, gives or drops one of them ([`each_edge_comes_once`]; TRD 104,
+    /// "Subscribe", "Yield").
+    ///
     /// With time partitions and no operator who is to act, and where the choices are the board's own,
     /// what a slot's process does, and when, is the same in a run of any other world that is alike in
-    /// that slot, up to each time that both have reached ([`a_partition_sees_itself_alone`]).
+    /// that slot, up to each time that both have reached; and it has the same record where the two
+    /// first reach a time ([`a_partition_sees_itself_alone`]).
     pub fn play<K: Sink>(&mut self, choices: &[Choice], out: &mut K) -> Result<(), PlayEnd>
         ensures { Plays K.tells self.old self.new choices.now out.old out.new result }
     {
         writes_compose::<K>();
         a_record_is_the_replay_of_its_events();
+        each_edge_comes_once();
         a_partition_sees_itself_alone();
         let mut emit = Emit::new();
         for (place, choice) in choices.iter().enumerate() {

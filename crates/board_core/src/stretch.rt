@@ -7,7 +7,7 @@ ghost use Rattle.kernel_model.specs.Replay.{chosen};
 ghost use Rattle.kernel_model.specs.Run.{next};
 ghost use Rattle.kernel_model.specs.Stretch.{GoesOn, IsStretch};
 ghost use Rattle.kernel_model.specs.World.{is_ready};
-ghost use Rattle.board_state.specs.KnownEnds.{IsKnownEnd};
+ghost use Rattle.board_state.specs.KnownEnds.{IsKnownOfChoice};
 ghost use Rattle.board_core.specs.Stretches.{EndsStretch};
 
 use crate::board::Board;
@@ -50,7 +50,7 @@ impl Board {
         ensures more { result.is_over ≡ false → 0 < result.made }
         ensures next { result.is_over ≡ true → result.next_choice ≡ next self.new }
         ensures known { result.is_over ≡ true
-            → IfSome result.next_choice (IsKnownEnd self.new result.end) }
+            → IfSome result.next_choice (IsKnownOfChoice self.new result.end) }
     {
         round_is_stretch();
         next_is_ready();
@@ -126,7 +126,7 @@ impl Board {
         ensures accounted { Throughout IsAccountedFor self.old (chosen result.made self.old) }
         ensures ends { result.made < most → GoesOn self.new → ⊥ }
         ensures next { result.next_choice ≡ next self.new }
-        ensures known { IfSome result.next_choice (IsKnownEnd self.new result.end) }
+        ensures known { IfSome result.next_choice (IsKnownOfChoice self.new result.end) }
         ensures ready { IfSome result.next_choice
             (λ choice. self.new.clock.steps < STEP_LIMIT → IsTrue (is_ready self.new choice)) }
     {

@@ -116,18 +116,27 @@ fn state(board: &Board, slot: Slot) -> Option<State> {
     board.process(slot).map(|process| process.state)
 }
 
-/// Of each slot whether its process is the same on two boards, which differ in what the first
-/// application does, after fourteen turns; and how the second and the third process stand. None for
+/// What is seen of three processes beside another first one.
+#[derive(Clone, Copy, Debug, PartialEq, Eq)]
+struct BesideAnother {
+    /// Of each slot whether its process is the same on both boards.
+    is_alike: [bool; 3],
+    second: Option<State>,
+    third: Option<State>,
+}
+
+/// After fourteen turns on two boards, which differ in what the first application does. None for
 /// want of memory.
-fn beside_another(alloc: Global) -> Option<([bool; 3], [Option<State>; 2])> {
+fn beside_another(alloc: Global) -> Option<BesideAnother> {
     let mut board = board_beside(alloc, &SPIN)?;
     let mut other = board_beside(alloc, &COUNT)?;
     let _ = played(&mut board, alloc, &fourteen_turns());
     let _ = played(&mut other, alloc, &fourteen_turns());
-    Some((
-        alike(&board, &other),
-        [state(&other, Slot::new(1)), state(&other, Slot::new(2))],
-    ))
+    Some(BesideAnother {
+        is_alike: alike(&board, &other),
+        second: state(&other, Slot::new(1)),
+        third: state(&other, Slot::new(2)),
+    })
 }
 
 /// What choices come to on a board; None for want of memory.
@@ -136,17 +145,27 @@ fn played(board: &mut Board, alloc: Global, choices: &[Choice]) -> Option<PlayEn
     board.play(choices, &mut out).err()
 }
 
-/// Makes the round robin's next step, and answers whose turn it was, and what was denied in it.
-fn go_on(board: &mut Board) -> (Option<Slot>, Option<Denial>) {
+/// Whose turn a step was, if it was one, and what was denied in it.
+#[derive(Clone, Copy, Debug, PartialEq, Eq)]
+struct TurnSeen {
+    slot: Option<Slot>,
+    denial: Option<Denial>,
+}
+
+/// Makes the round robin's next step.
+fn go_on(board: &mut Board) -> TurnSeen {
     let mut emit = Emit::new();
     if let Some(choice) = board.next_choice() {
         let _ = board.step(choice, &mut emit);
     }
-    (emit.slot, emit.denial)
+    TurnSeen {
+        slot: emit.slot,
+        denial: emit.denial,
+    }
 }
 
 /// The same, with what a quiet stretch tells of the end of its instruction.
-fn go_on_with_end(board: &mut Board) -> (Option<Slot>, Option<Denial>) {
+fn go_on_with_end(board: &mut Board) -> TurnSeen {
     let mut emit = Emit::new();
     let quiet = board.run_quietly(10);
     let next_choice = quiet.next_choice;
@@ -154,7 +173,10 @@ fn go_on_with_end(board: &mut Board) -> (Option<Slot>, Option<Denial>) {
     if let Some(choice) = next_choice {
         let _ = board.step_with_end(choice, end, &mut emit);
     }
-    (emit.slot, emit.denial)
+    TurnSeen {
+        slot: emit.slot,
+        denial: emit.denial,
+    }
 }
 
 /// How many turns quiet stretches have: ten at the most from the first step on; then to the end of
@@ -172,8 +194,15 @@ fn is_stopped(board: &mut Board) -> bool {
         address: 0x8000_0000,
         rule: Rule::NoRegion,
     };
-    go_on_with_end(board) == (Some(Slot::new(1)), Some(stray))
-        && go_on(board) == (Some(Slot::new(0)), None)
+    let second = TurnSeen {
+        slot: Some(Slot::new(1)),
+        denial: Some(stray),
+    };
+    let first = TurnSeen {
+        slot: Some(Slot::new(0)),
+        denial: None,
+    };
+    go_on_with_end(board) == second && go_on(board) == first
 }
 
 /// Three turns of the first application, one of the second one, and one of the first one again.
@@ -183,21 +212,41 @@ fn five_turns() -> [Choice; 5] {
     choices
 }
 
-/// What is seen of the board, what comes of choices from outside then, and how many steps were
-/// made.
-fn seen(board: &mut Board, alloc: Global) -> ([u32; 3], bool, Option<PlayEnd>, u64) {
+/// What is seen of two applications.
+#[derive(Clone, Copy, Debug, PartialEq, Eq)]
+struct SeenOfTwo {
+    /// How many turns each of three quiet stretches has.
+    stretches: [u32; 3],
+    /// Whether the second application's store is denied then, and the first one goes on.
+    is_stopped: bool,
+    /// What comes of choices from outside then.
+    end: Option<PlayEnd>,
+    steps: u64,
+}
+
+fn see_two(board: &mut Board, alloc: Global) -> SeenOfTwo {
     let stretches = stretches(board);
     let is_stopped = is_stopped(board);
     let end = played(board, alloc, &five_turns());
-    (stretches, is_stopped, end, board.summary().steps)
+    SeenOfTwo {
+        stretches,
+        is_stopped,
+        end,
+        steps: board.summary().steps,
+    }
 }
 
 #[test]
 fn two_applications_go_on_as_was_worked_out(rt: HostRuntime) {
     let mut board = board_of(rt.alloc()).expect(&rt, "memory");
     assert_eq!(rt;
-        seen(&mut board, rt.alloc()),
-        ([10, 91, 0], true, Some(PlayEnd::NotReady(3)), 106)
+        see_two(&mut board, rt.alloc()),
+        SeenOfTwo {
+            stretches: [10, 91, 0],
+            is_stopped: true,
+            end: Some(PlayEnd::NotReady(3)),
+            steps: 106,
+        }
     );
 }
 
@@ -236,13 +285,14 @@ fn a_status_tells_the_choice_in_a_window(rt: HostRuntime) {
 
 #[test]
 fn a_process_is_the_same_beside_any_other(rt: HostRuntime) {
-    let seen = beside_another(rt.alloc()).expect(&rt, "memory");
+    let beside = beside_another(rt.alloc()).expect(&rt, "memory");
     assert_eq!(rt;
-        seen,
-        (
-            [false, true, true],
-            [Some(State::Faulted), Some(State::Terminated(7))]
-        )
+        beside,
+        BesideAnother {
+            is_alike: [false, true, true],
+            second: Some(State::Faulted),
+            third: Some(State::Terminated(7)),
+        }
     );
 }
 

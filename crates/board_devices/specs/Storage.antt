@@ -34,16 +34,16 @@ fresh_storage lanes size faults = record {
 }
 
 -- the lane of a slot: the one that there is, or its own
-abbrev pub lane_of : ℕ → StoredSlots → ℕ
-lane_of slot s = slot % length s.served
+abbrev pub storage_lane : ℕ → StoredSlots → ℕ
+storage_lane slot s = slot % length s.served
 
 -- how many requests were served in the lane of a slot
 abbrev pub served_at : ℕ → StoredSlots → ℕ
-served_at slot s = slice_index_or s.served (lane_of slot s) 0
+served_at slot s = slice_index_or s.served (storage_lane slot s) 0
 
 -- one more is
 abbrev pub with_served : ℕ → StoredSlots → StoredSlots
-with_served slot s = record s { served = slice_set s.served (lane_of slot s) (counted (served_at slot s)) }
+with_served slot s = record s { served = slice_set s.served (storage_lane slot s) (counted (served_at slot s)) }
 
 abbrev pub slot_bytes : StoredSlots → ℕ → List ℕ
 slot_bytes s slot = slice_index_or s.slots slot []

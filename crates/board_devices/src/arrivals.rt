@@ -1,5 +1,5 @@
 //! What is still to come in.
-ghost use Rattle.std.specs.Prelude.{◌≡◌, ◌<◌, drop, length, option_map, IfSome};
+ghost use Rattle.std.specs.Prelude.{◌≡◌, ◌<◌, ◌^◌, drop, length, option_map, IfSome};
 ghost use Rattle.script_text.specs.Kinds.{kind_of};
 ghost use Rattle.script_text.specs.Settings.{IsKind};
 ghost use Rattle.tk_base.specs.declared.limits.TheConstants.{BUTTON_LIMIT};
@@ -13,7 +13,7 @@ ghost use Rattle.board_devices.specs.Buttons.{told_by};
 use crate::buttons::{Buttons, Edge};
 use crate::lanes::Uarts;
 use arrayvec::ArrayVec;
-use script_text::{EventKind, EventList};
+use script_text::{EventKind, EventList, TimedEvent};
 use std::marker::Model;
 use tk_base::{NAME_LIMIT, Verb};
 
@@ -28,19 +28,21 @@ pub struct OperatorAct {
 /// operator. Contracts see the list of the events, the first one first.
 #[derive(Drop)]
 pub struct Arrivals {
-    events: EventList,
+    events: Vec<TimedEvent>,
     come: usize,
 }
 
 impl Model for Arrivals {
     ghost use Rattle.std.specs.Prelude.{List, ◌≤◌, drop, length};
-    ghost use Rattle.script_text.specs.Settings.{ScriptEvent};
+    ghost use Rattle.tk_base.specs.declared.limits.TheConstants.{BUTTON_LIMIT};
+    ghost use Rattle.script_text.specs.Settings.{ScriptEvent, EachIsKind};
 
     ghost Value = { List ScriptEvent };
 
-    ghost view = { λ a. drop a.come a.events };
+    ghost view = { λ a. drop a.come a.events.items };
 
-    ghost invariant = { λ a. a.come ≤ length a.events };
+    ghost invariant = { λ a. (a.come ≤ length a.events.items)
+        × EachIsKind BUTTON_LIMIT a.events.items };
 }
 
 /// Sets a button, and answers its change, if that is one.
@@ -110,15 +112,19 @@ impl Arrivals {
     pub fn new(events: EventList) -> Arrivals
         ensures { result ≡ events }
     {
-        Arrivals { events, come: 0 }
+        Arrivals {
+            events: events.into_vec(),
+            come: 0,
+        }
     }
 
     /// The time, in ticks, at which the next event comes in. None exactly where none is left.
-    pub fn next_time(&self) -> Option<u32>
-        ensures { result ≡ first_arrival_time self.now }
+    pub fn next_time(&self) -> Option<u64>
+        ensures at { result ≡ first_arrival_time self.now }
+        ensures near { IfSome result (λ at. at < 2 ^ 32) }
     {
-        let next = self.events.as_slice().get(self.come)?;
-        Some(next.time)
+        let next = self.events.get(self.come)?;
+        Some(u64::from(next.time))
     }
 
     /// Whether the next event comes in at a time.
@@ -126,7 +132,7 @@ impl Arrivals {
         ensures { result ≡ is_time time self.now }
     {
         match self.next_time() {
-            Some(at) => u64::from(at) <= time,
+            Some(at) => at <= time,
             None => false,
         }
     }
@@ -135,7 +141,7 @@ impl Arrivals {
     pub fn next_act(&self) -> Option<OperatorAct>
         ensures { option_map act_told result ≡ first_act self.now }
     {
-        let next = self.events.as_slice().get(self.come)?;
+        let next = self.events.get(self.come)?;
         act_in(&next.kind)
     }
 
@@ -152,7 +158,7 @@ impl Arrivals {
           pressed = pressed_after_first self.old buttons.old.pressed;
         } }
     {
-        let event = &self.events.as_slice()[self.come];
+        let event = &self.events[self.come];
         let edge = happen(&event.kind, uarts, buttons);
         self.come += 1;
         edge

@@ -112,7 +112,7 @@ impl Stores {
     ghost use Rattle.tk_outside.specs.Count.{counted};
     ghost use Rattle.board_devices.specs.Storage.{AreSized, fresh_storage, bytes_from, slot_bytes, with_slot_bytes};
     ghost use Rattle.board_devices.specs.Storage.{is_fault};
-    ghost use Rattle.board_devices.specs.Storage.{lane_of, served_at, with_served};
+    ghost use Rattle.board_devices.specs.Storage.{storage_lane, served_at, with_served};
 
     /// The storage of all slots with so many bytes each, which are 0xFF, before the first request in
     /// so many lanes. `faults` are the numbers of the requests that fail. It asks for one lane at
@@ -157,7 +157,7 @@ impl Stores {
 
     /// The place of the lane of a slot.
     fn lane(&self, slot: Slot) -> usize
-        ensures place { result ≡ lane_of slot self.now }
+        ensures place { result ≡ storage_lane slot self.now }
         ensures there { result < length self.now.served }
     {
         slot.index() % self.served.len()

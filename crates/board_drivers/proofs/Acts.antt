@@ -21,11 +21,11 @@ use Rattle.driver_model.specs.Steps.{own_after}
 use Rattle.driver_model.specs.Alarm.{answered, due_for}
 use Rattle.driver_model.specs.Laws.{DueSlotIsThere}
 use Rattle.alarm_capsule.specs.Answers as alarm_capsule
-use Rattle.random_capsule.specs.Answers.{answer_to as random_to}
+use Rattle.random_capsule.specs.Answers.{random_answer_to as random_to}
 use Rattle.storage_capsule.specs.Answers.{answer_to as storage_to}
 use Rattle.driver_requests.specs.Answers.{AnswersFirst}
 use Rattle.driver_requests.specs.Waiting.{first_of}
-use Rattle.console_capsule.specs.Answers.{cannot_give, cannot_send, received_by, sending_at, written_by}
+use Rattle.console_capsule.specs.Answers.{cannot_give, cannot_send, received_by, sending_at, write_answered}
 use Rattle.console_capsule.specs.declared.capsule.ConsoleCapsule.{ConsoleCapsule}
 use Rattle.random_capsule.specs.declared.capsule.RandomCapsule.{RandomCapsule}
 use Rattle.storage_capsule.specs.declared.capsule.StorageCapsule.{StorageCapsule}
@@ -85,7 +85,7 @@ abbrev ActsSent : (b : BoardParts) (o : Result Answer NotReady) (home : Homes) (
     (line : SerialLine) (before printed : ArrayVec ℕ) → SerialLine → Option ℕ → ℕ → Type 0
 ActsSent b o home capsule line before printed here only lane =
     is_ok o ≡ not (cannot_send only b.drivers.console.writes here b.moment.time)
-    → AnswersFirst only (written_by b.home) b.drivers.console.writes before b.home o capsule.writes printed home
+    → AnswersFirst only (write_answered b.home) b.drivers.console.writes before b.home o capsule.writes printed home
     → line ≡ sending_at b.moment.time printed.items here
     → capsule.reads ≡ b.drivers.console.reads
     → Acted b Uart o printed.items home (record b.drivers {

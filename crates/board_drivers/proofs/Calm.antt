@@ -2,7 +2,7 @@
 use Rattle.std.proofs.Common.{zero, suc, ◌*◌, ◌/◌}
 use Rattle.std.proofs.Common.{◌≡◌, ℕ, ◌+◌, ◌-◌, ◌%◌, ◌^◌, ◌<◌, ◌≤◌, ◌==◌, Bool, true, false, cond, not, ◌&&◌, nat_le}
 use Rattle.std.proofs.Common.{if◌then◌else◌, List, [], ◌∷◌, length, map, find, slice_get, slice_set, is_some}
-use Rattle.std.proofs.Common.{option_and_then, Option, None, Some, IfSome, refl, sym, ap, ap₂, subst, ◌∙◌, arith}
+use Rattle.std.proofs.Common.{option_and_then, Option, None, Some, IfSome, min, refl, sym, ap, ap₂, subst, ◌∙◌, arith}
 use Rattle.std.specs.List.{range_with_len}
 use Rattle.std.specs.Option.{option_map}
 use Rattle.std.proofs.Math.Seq.{map-set_same}
@@ -31,8 +31,38 @@ use Rattle.partition_turns.specs.Laws.{WindowsAreInTurn}
 use Rattle.partition_turns.specs.Windows.{window_end}
 use Rattle.tk_base.specs.declared.process.Dev.{Dev}
 use Rattle.board_drivers.specs.declared.drivers.Drivers.{Drivers}
-use Rattle.board_drivers.specs.Calm.{IsCalm, IsCalmAt, ServesNobody, end_at}
+use Rattle.board_drivers.specs.declared.moment.Moment.{Moment}
+use Rattle.board_drivers.specs.declared.served.Served.{Served}
+use Rattle.board_drivers.specs.Calm.{HasCome, IsCalm, IsCalmAt, ServesNobody, can_act_at_once, end_at, only_of}
+use Rattle.board_drivers.specs.Calm.{work_of_served, work_then}
 use Rattle.board_drivers.specs.Driven.{Drives, devices_of, slots_of}
+
+-- what there is to do for those who are served now
+pub served_now : (m : Moment) (served : Served) (owns : List Own) (d : Drivers) → served.only ≡ only_of m
+    → work_of_served m served owns d ≡ work_then m owns d
+served_now m served owns d is =
+    ap (λ (only : Option ℕ). work_at only m.time (clock_at m.settings.start m.time) owns (devices_of d)) is
+
+-- where none of the devices that act at once is ready for them, nobody is served at once
+pub serves_nobody : (m : Moment) (served : Served) (owns : List Own) (d : Drivers) → served.only ≡ only_of m
+    → (work_of_served m served owns d).ready Receive ≡ false → (work_of_served m served owns d).ready Random ≡ false
+    → (work_of_served m served owns d).ready Store ≡ false → ServesNobody (only_of m) d
+serves_nobody m served owns d is receive random store = record {
+  receive = ap (λ (only : Option ℕ). can_act_at_once only d Receive) (sym is) ∙ receive;
+  random = ap (λ (only : Option ℕ). can_act_at_once only d Random) (sym is) ∙ random;
+  store = ap (λ (only : Option ℕ). can_act_at_once only d Store) (sym is) ∙ store;
+}
+
+the_same : (x y : ℕ) → ◌≡◌ {A = Option ℕ} (Some x) (Some y) → x ≡ y
+the_same x y e = cc
+
+-- where the nearer of two times has come, and the second lies ahead, the first has come
+pub first_has_come : (time at : ℕ) (next end : Option ℕ) → Some at ≡ nearer next end → IfSome end (λ at. time < at)
+    → at ≤ time → HasCome time next
+first_has_come time at None None e ahead low = cc
+first_has_come time at None (Some y) e ahead low = absurd (omega (arith, ahead, low, the_same at y e))
+first_has_come time at (Some x) None e ahead low = omega (arith, low, the_same at x e)
+first_has_come time at (Some x) (Some y) e ahead low = omega (arith, ahead, low, the_same at (min x y) e)
 
 -- a time that follows another by some ticks, on the clock
 on_the_clock : (start from time : ℕ) → from ≤ time

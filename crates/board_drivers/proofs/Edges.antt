@@ -31,7 +31,7 @@ use Rattle.kernel_model.specs.Laws.{DevicesAnswerOne, edge_heard}
 use Rattle.kernel_model.specs.World.{Devices, Stepped, World, arrived, coming_in, device_step_of, done}
 use Rattle.kernel_model.specs.Parts.{acting_on}
 use Rattle.kernel_model.specs.Parts.{slot_of_name}
-use Rattle.alarm_capsule.specs.Times.{AllTell, Tells}
+use Rattle.alarm_capsule.specs.Times.{AllTell, TellsAlarm}
 use Rattle.alarm_capsule.proofs.KeptTimes.{same_tells}
 use Rattle.board_drivers.specs.declared.drivers.Drivers.{Drivers}
 use Rattle.board_drivers.specs.Calm.{AlarmsTell}
@@ -157,7 +157,7 @@ told_queue lines change queue ids owns line = record {
 told_tells : LinesFollowAnswers → (change : Option (ℕ × Bool)) (now time : ℕ) (times : List (Option ℕ))
     (owns : List Own) → AllTell now time times owns → AllTell now time times (owns_told change owns)
 told_tells lines change now time times owns tell slot =
-    subst (Tells now time (slice_index_or times slot None)) (sym (there owns slot))
+    subst (TellsAlarm now time (slice_index_or times slot None)) (sym (there owns slot))
     (by_slot (slice_get owns slot) (tell slot))
   where
     there_in : (xs : List Own) (i : ℕ)
@@ -170,8 +170,8 @@ told_tells lines change now time times owns tell slot =
         → slice_get (owns_told change xs) i ≡ option_map (told_of change) (slice_get xs i)
     there xs i = ap (λ (os : List Own). slice_get os i) (owns_each change xs) ∙ there_in xs i
 
-    by_slot : (o : Option Own) → Tells now time (slice_index_or times slot None) o
-        → Tells now time (slice_index_or times slot None) (option_map (told_of change) o)
+    by_slot : (o : Option Own) → TellsAlarm now time (slice_index_or times slot None) o
+        → TellsAlarm now time (slice_index_or times slot None) (option_map (told_of change) o)
     by_slot None t = t
     by_slot (Some own) t =
         same_tells now time (slice_index_or times slot None) own (told_of change own) (told_grants change own)

@@ -12,7 +12,7 @@ use Rattle.syscall_abi.specs.declared.reply.Reply.TheVariants.{Success}
 use Rattle.grant_values.specs.declared.drivers.Driver.{Driver}
 use Rattle.grant_values.specs.Drivers.{driver_of}
 use Rattle.process_model.specs.Own.{Own}
-use Rattle.driver_model.specs.Replies.{reply_of}
+use Rattle.syscall_abi.specs.Reply.{reply_of}
 use Rattle.driver_model.specs.Asked.{OneOf}
 use Rattle.driver_model.specs.Steps.{own_after, silently}
 use Rattle.driver_model.specs.Commands.{BoardRequest, Commanded, Waits, Leaves, Lights, Switch, On, Off, Toggle}
@@ -29,19 +29,20 @@ use Rattle.board_drivers.specs.Driven.{Commands, Drives, ids_waiting_in}
 -- a command of which every row leaves what is the process's own as it was does so, too
 rows_keep : (own : Own) (rows : List (ℕ × Commanded)) (number : ℕ) → AllByRecursion
     (λ row. own_after row.1.step ≡ own) rows
-    → own_after (by_number own rows number).step ≡ own
+    → own_after (by_number (λ o. rows) number own).step ≡ own
 rows_keep own [] number all = refl
 rows_keep own (row ∷ rows) number all = by_test (row.0 == number) (rows_keep own rows number all.1)
   where
-    by_test : (b : Bool) → own_after (by_number own rows number).step ≡ own
+    by_test : (b : Bool) → own_after (by_number (λ o. rows) number own).step ≡ own
         → own_after (unwrap_or (option_map (λ r. r.1) (cond b (Some row) (find (λ row. row.0 == number) rows)))
         (refusing NoCommand own)).step ≡ own
     by_test true others = all.0
     by_test false others = others
 
 -- so do the commands to the LEDs
-pub leds_keep : (count number led : ℕ) (own : Own) → own_after (leds.command count number led own).step ≡ own
-unfolding leds.command leds.commands
+pub leds_keep : (count number led : ℕ) (own : Own)
+    → own_after (by_number (leds.commands count led) number own).step ≡ own
+unfolding leds.commands
 leds_keep count number led own =
     rows_keep own (leds.commands count led own) number (
       refl,

@@ -10,11 +10,11 @@ use Rattle.process_model.specs.Flash.{HasObject, ReadsOwnFlash, flash_byte, obje
 use Rattle.process_model.specs.Handed.{HoldsInPlace, held}
 use Rattle.process_model.specs.Own.{Own}
 use Rattle.process_model.specs.Served.{bytes_at}
-use Rattle.driver_model.specs.Console.{console, console_writes, portion, sent, taking, unsent, write_completing}
-use Rattle.driver_model.specs.Requests.{waiting_in}
+use Rattle.driver_model.specs.Console.{console, console_writes, portion, sent, taking, write_completing}
+use Rattle.driver_model.specs.Requests.{unanswered, waiting_in}
 use Rattle.driver_model.specs.Storage as storage
-use Rattle.driver_model.specs.Storage.{StorageServed, storage_answer_of, answered, completing, moving, storage_served}
-use Rattle.driver_model.specs.Storage.{storages, unanswered}
+use Rattle.driver_model.specs.Storage.{StorageServed, finished, answered, completing, moving, storage_served}
+use Rattle.driver_model.specs.Storage.{storages}
 
 -- what of a write is printed
 pub sent_of_own : (flash : List ℕ) (own : Own) → ReadsOwnFlash
@@ -23,13 +23,13 @@ pub sent_of_own : (flash : List ℕ) (own : Own) → ReadsOwnFlash
 unfolding sent
 sent_of_own flash own law lies holds =
     ap (λ (bytes : List ℕ). unwrap_or (option_map (λ (write : WaitingWrite).
-    if portion write own == 0 then record { step = write_completing own write; printed = []; completed = true }
+    if portion write own == 0 then record { step = write_completing own write; moved = []; completed = true }
     else record {
       step = taking own write;
-      printed = take (portion write own) (drop write.taken bytes);
+      moved = take (portion write own) (drop write.taken bytes);
       completed = false;
     })
-    (waiting_in console_writes own)) (unsent own))
+    (waiting_in console_writes own)) (unanswered [] own))
     (law flash own (held ReadOnly console 1 own) lies (holds.each ReadOnly console 1))
 
 -- what is written over its storage
@@ -54,13 +54,13 @@ unfolding answered
 answered_alike fault flash object bytes own same = by_request (waiting_in storages own)
   where
     by_request : (o : Option StorageRequest)
-        → unwrap_or (option_map (λ (request : StorageRequest). storage_answer_of
-        (storage_served fault flash bytes request own)) o) (unanswered own)
-        ≡ unwrap_or (option_map (λ (request : StorageRequest). storage_answer_of
-        (storage_served fault object bytes request own)) o) (unanswered own)
+        → unwrap_or (option_map (λ (request : StorageRequest). finished
+        (storage_served fault flash bytes request own)) o) (unanswered None own)
+        ≡ unwrap_or (option_map (λ (request : StorageRequest). finished
+        (storage_served fault object bytes request own)) o) (unanswered None own)
     by_request None = refl
     by_request (Some request) =
-        ap (λ (m : StorageServed). storage_answer_of
+        ap (λ (m : StorageServed). finished
         (if fault then record { step = completing request.kind 0 1 own; written = None } else m))
         (moved_alike request.kind flash object bytes request own same)
 

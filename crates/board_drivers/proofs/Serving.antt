@@ -33,23 +33,23 @@ use Rattle.process_model.specs.Own.{Own}
 use Rattle.process_record.specs.declared.process.Process.{Process}
 use Rattle.driver_model.specs.Answers.{EventsTellSteps, LinesFollowAnswers, queue_left_by}
 use Rattle.driver_model.specs.Commands.{QueueName, Writes, Reads, Randoms, Stores, is_same}
-use Rattle.driver_model.specs.Console.{Received, Sent, console, console_writes, free_after, input, next_bytes, portion}
-use Rattle.driver_model.specs.Console.{received, sending, sent, taken, taking, unreceived, unsent, write_completing}
+use Rattle.driver_model.specs.Console.{console, console_writes, input, next_bytes, portion}
+use Rattle.driver_model.specs.Console.{received, sending, sent, taken, taking, write_completing}
 use Rattle.driver_model.specs.Console.{write_done}
-use Rattle.driver_model.specs.Requests.{waiting_in}
+use Rattle.driver_model.specs.Requests.{RequestAnswered, unanswered, waiting_in}
 use Rattle.driver_model.specs.Steps.{DriverStep, own_after}
 use Rattle.driver_model.specs.Told.{drawn_told, received_told, sent_told, stored_told}
 use Rattle.driver_model.specs.Alarm.{answered, due_for}
 use Rattle.driver_model.specs.Random as random
 use Rattle.driver_model.specs.Storage as storage
-use Rattle.random_capsule.specs.Answers.{answer_to as random_to}
+use Rattle.random_capsule.specs.Answers.{random_answer_to as random_to}
 use Rattle.storage_capsule.specs.Answers.{answer_to as storage_to}
-use Rattle.storage_capsule.specs.Serving.{store_fails_next, stored}
+use Rattle.storage_capsule.specs.Serving.{store_fails_next, storage_stored}
 use Rattle.grant_values.specs.declared.storage.StorageRequest.{StorageRequest}
 use Rattle.driver_requests.specs.Answers.{Answered, AnswersFirst, kinds}
 use Rattle.driver_requests.specs.Asking.{MayBeTold, in_life}
 use Rattle.driver_requests.specs.Waiting.{first_of, waiting_still}
-use Rattle.console_capsule.specs.Answers.{cannot_give, cannot_send, received_by, sending_at, written_by}
+use Rattle.console_capsule.specs.Answers.{cannot_give, cannot_send, received_by, sending_at, write_answered}
 use Rattle.grant_enter.specs.Homes.{Homes, ChangesOnly, nobody, own_of}
 use Rattle.kernel_model.specs.declared.settings.Settings.{Settings}
 use Rattle.kernel_model.specs.Record.{Record, record_with_step}
@@ -349,7 +349,8 @@ sent_applied settings false r step e = ap (record_with_step r) (sym e)
 
 -- the UART is free soon after it took some bytes
 free_soon : (time ticks free : ℕ) (printed : List ℕ) → ticks ≤ BYTE_TICKS_LIMIT → length printed ≤ PRINT_LIMIT
-    → free ≤ time + SENDING_LIMIT → free_after time ticks printed free ≤ time + SENDING_LIMIT
+    → free ≤ time + SENDING_LIMIT
+    → (if length printed == 0 then free else time + length printed * ticks) ≤ time + SENDING_LIMIT
 free_soon time ticks free printed few short soon = by_length (length printed == 0)
   where
     sending : length printed * ticks ≤ SENDING_LIMIT
@@ -360,13 +361,13 @@ free_soon time ticks free printed few short soon = by_length (length printed == 
     by_length false = omega (arith, sending)
 
 -- one step of a write, which is finished or has bytes left
-abbrev portioned : (ℕ → ℕ) → Own → Bool → WaitingWrite → Sent
+abbrev portioned : (ℕ → ℕ) → Own → Bool → WaitingWrite → RequestAnswered (List ℕ)
 portioned flash own finished write =
-    if finished then record { step = write_completing own write; printed = []; completed = true }
-    else record { step = taking own write; printed = next_bytes flash write own; completed = false }
+    if finished then record { step = write_completing own write; moved = []; completed = true }
+    else record { step = taking own write; moved = next_bytes flash write own; completed = false }
 
 -- it takes so many bytes at most
-sent_few : (flash : ℕ → ℕ) (own : Own) → length (sent flash own).printed ≤ PRINT_LIMIT
+sent_few : (flash : ℕ → ℕ) (own : Own) → length (sent flash own).moved ≤ PRINT_LIMIT
 unfolding sent
 sent_few flash own = by_write (waiting_in console_writes own)
   where
@@ -376,7 +377,7 @@ sent_few flash own = by_write (waiting_in console_writes own)
     take_few (suc n) (x ∷ xs) = omega (arith, take_few n xs)
 
     by_portion : (finished : Bool) (write : WaitingWrite)
-        → length (portioned flash own finished write).printed ≤ PRINT_LIMIT
+        → length (portioned flash own finished write).moved ≤ PRINT_LIMIT
     by_portion true write = omega arith
     by_portion false write =
         omega (
@@ -386,7 +387,7 @@ sent_few flash own = by_write (waiting_in console_writes own)
         )
 
     by_write : (o : Option WaitingWrite)
-        → length (unwrap_or (option_map (sending flash own) o) (unsent own)).printed ≤ PRINT_LIMIT
+        → length (unwrap_or (option_map (sending flash own) o) (unanswered [] own)).moved ≤ PRINT_LIMIT
     by_write None = omega arith
     by_write (Some write) = by_portion (portion write own == 0) write
 
@@ -395,7 +396,7 @@ abbrev pub sends : BoardParts → Answering (ArrayVec ℕ)
 sends b = record {
   device = Uart;
   here = Writes;
-  answer_to = written_by b.home;
+  answer_to = write_answered b.home;
   after = λ ids printed.
       record b.drivers {
         console = record { writes = ids; reads = b.drivers.console.reads };
@@ -410,16 +411,16 @@ pub serves_sent : (b : BoardParts) (h : AreBoardParts b) → LinesFollowAnswers 
 serves_sent b h lines events law lent id is_there first =
     let own : Own = own_of b.home id.slot in
     let r : Record = its_record b h id is_there in
-    let s : Sent = sent (flash_of r) own in
-    let same : in_life id.life own (sent (flash_byte b.home.flash) own) (unsent own) ≡ s =
-    in_its_life id.life own _ (unsent own) is_there.1
+    let s : RequestAnswered (List ℕ) = sent (flash_of r) own in
+    let same : in_life id.life own (sent (flash_byte b.home.flash) own) (unanswered [] own) ≡ s =
+    in_its_life id.life own _ (unanswered [] own) is_there.1
     ∙ sent_of_own b.home.flash own law (its_object b h id is_there) (lent id.slot is_there.0)
     ∙ ap (λ (o : _). sent (object_byte o (object_in b.home.flash o)) own) (its_seat b h id is_there).own.object_is in
-    subst (λ (x : Sent). ServesFirst b h id is_there (sends b)
+    subst (λ (x : RequestAnswered (List ℕ)). ServesFirst b h id is_there (sends b)
     (record {
       kind = sent_told kinds x;
       step = x.step;
-      device = record { items = x.printed };
+      device = record { items = x.moved };
       completed =
           x.completed;
     })) (sym same)
@@ -429,8 +430,8 @@ serves_sent b h lines events law lent id is_there first =
       lines = elim [ Writes ↦ refl | Reads ↦ refl | Randoms ↦ refl | Stores ↦ refl ];
       leds = refl;
       buttons = refl;
-      lines_ready = uart_changes b h id is_there (sending_at b.moment.time s.printed (line_on b)) refl
-          (λ ticks. free_soon b.moment.time (line_on b).ticks (line_on b).free s.printed ticks
+      lines_ready = uart_changes b h id is_there (sending_at b.moment.time s.moved (line_on b)) refl
+          (λ ticks. free_soon b.moment.time (line_on b).ticks (line_on b).free s.moved ticks
           (sent_few (flash_of r) own));
       words_left = refl;
       bytes = bytes_of b.drivers.stores.slots id.slot;
@@ -439,11 +440,11 @@ serves_sent b h lines events law lent id is_there first =
       leaves = λ other. sent_leaves s.completed;
       deed = first_deed (transmitting (lane_on b) b.moment.time (devices_of b.drivers)) (world_shown b) (only_on b)
           Writes (ids_waiting_in b.drivers) (ids_waiting_in ((sends b).after
-          (waiting_still s.completed id.slot b.drivers.console.writes) (record { items = s.printed }))) id r
-          s.completed (λ (slots : WaitingSlots). telling (if s.completed then WriteDone else Taken) s.printed
+          (waiting_still s.completed id.slot b.drivers.console.writes) (record { items = s.moved }))) id r
+          s.completed (λ (slots : WaitingSlots). telling (if s.completed then WriteDone else Taken) s.moved
           (record (devices_of b.drivers) {
             waiting = slots;
-            lines = with_line b (sending_at b.moment.time s.printed (line_on b));
+            lines = with_line b (sending_at b.moment.time s.moved (line_on b));
           }))
           first (its_record_was b h id is_there)
           (elim [ Writes ↦ refl | Reads ↦ refl | Randoms ↦ refl | Stores ↦ refl ]) refl;
@@ -475,14 +476,14 @@ serves_received b h lines events id is_there first =
     let own : Own = own_of b.home id.slot in
     let r : Record = its_record b h id is_there in
     let ring : List ℕ = (line_on b).ring in
-    let s : Received = received ring own in
-    subst (λ (x : Received). ServesFirst b h id is_there (receives b)
+    let s : RequestAnswered (List ℕ) = received ring own in
+    subst (λ (x : RequestAnswered (List ℕ)). ServesFirst b h id is_there (receives b)
     (record {
       kind = received_told kinds x;
       step = x.step;
       device = record (line_on b) { ring = drop (length x.moved) ring };
       completed = x.completed;
-    })) (sym (in_its_life id.life own s (unreceived own) is_there.1))
+    })) (sym (in_its_life id.life own s (unanswered [] own) is_there.1))
     (record {
       left = queue_left_by Reads s.completed;
       follows = lines.reads ring own;
@@ -535,14 +536,14 @@ serves_drawn b h lines events id is_there first =
     let r : Record = its_record b h id is_there in
     let words : List ℕ = words_on b in
     let word : Option ℕ = slice_get words 0 in
-    let s : random.RandomAnswered = random.answered word own in
-    subst (λ (x : random.RandomAnswered). ServesFirst b h id is_there (draws b)
+    let s : RequestAnswered (Option ℕ) = random.answered word own in
+    subst (λ (x : RequestAnswered (Option ℕ)). ServesFirst b h id is_there (draws b)
     (record {
-      kind = drawn_told kinds x.drawn;
+      kind = drawn_told kinds x.moved;
       step = x.step;
-      device = random.words_after x.drawn words;
+      device = random.words_after x.moved words;
       completed = x.completed;
-    })) (sym (in_its_life id.life own s (random.unanswered own) is_there.1))
+    })) (sym (in_its_life id.life own s (unanswered None own) is_there.1))
     (record {
       left = queue_left_by Randoms s.completed;
       follows = lines.randoms word own;
@@ -550,45 +551,45 @@ serves_drawn b h lines events id is_there first =
       leds = refl;
       buttons = refl;
       lines_ready = uarts_stay b h id is_there;
-      words_left = length-set b.drivers.words (lane_on b) (random.words_after s.drawn words);
+      words_left = length-set b.drivers.words (lane_on b) (random.words_after s.moved words);
       bytes = bytes_of b.drivers.stores.slots id.slot;
       stores = stores_stay b h id is_there;
-      event = drawn_event s.drawn;
-      leaves = λ other. drawn_leaves s.drawn;
+      event = drawn_event s.moved;
+      leaves = λ other. drawn_leaves s.moved;
       deed = first_deed (random_step (lane_on b) (devices_of b.drivers)) (world_shown b) (only_on b) Randoms
           (ids_waiting_in b.drivers) (ids_waiting_in ((draws b).after
-          (waiting_still s.completed id.slot b.drivers.random.waiting) (random.words_after s.drawn words))) id r
-          s.completed (λ (slots : WaitingSlots). telling (drawn_event s.drawn) []
+          (waiting_still s.completed id.slot b.drivers.random.waiting) (random.words_after s.moved words))) id r
+          s.completed (λ (slots : WaitingSlots). telling (drawn_event s.moved) []
           (record (devices_of b.drivers) {
             waiting = slots;
-            words = with_words b (random.words_after s.drawn words);
+            words = with_words b (random.words_after s.moved words);
           }))
           first (its_record_was b h id is_there)
           (elim [ Writes ↦ refl | Reads ↦ refl | Randoms ↦ refl | Stores ↦ refl ]) refl;
-      tells = drawn_applied b.moment.settings s.drawn r s.step (events.randoms word own);
+      tells = drawn_applied b.moment.settings s.moved r s.step (events.randoms word own);
     })
 
 -- the answer to a request, if there is one
-abbrev answer_to : Bool → (ℕ → ℕ) → List ℕ → Own → Option StorageRequest → storage.StorageAnswered
+abbrev answer_to : Bool → (ℕ → ℕ) → List ℕ → Own → Option StorageRequest → RequestAnswered (Option (ℕ × List ℕ))
 answer_to fault flash bytes own o =
-    unwrap_or (option_map (λ (request : StorageRequest). storage.storage_answer_of
-    (storage.storage_served fault flash bytes request own)) o) (storage.unanswered own)
+    unwrap_or (option_map (λ (request : StorageRequest). storage.finished
+    (storage.storage_served fault flash bytes request own)) o) (unanswered None own)
 
 -- nothing is written for a request that did not complete
 not_written : (fault : Bool) (flash : ℕ → ℕ) (bytes : List ℕ) (own : Own)
-    → let a = storage.answered fault flash bytes own in a.completed ≡ false → a.written ≡ None
+    → let a = storage.answered fault flash bytes own in a.completed ≡ false → a.moved ≡ None
 unfolding storage.answered
 not_written fault flash bytes own e = by_request (waiting_in storage.storages own) e
   where
     by_request : (o : Option StorageRequest) → (answer_to fault flash bytes own o).completed ≡ false
-        → (answer_to fault flash bytes own o).written ≡ None
+        → (answer_to fault flash bytes own o).moved ≡ None
     by_request None e = refl
     by_request (Some request) e = absurd (false≢true (sym e))
 
 -- the bytes of the slots after an answer
 slots_after : (s : StoredSlots) (slot : ℕ) (completed : Bool) (written : Option (ℕ × List ℕ))
     → (completed ≡ false → written ≡ None)
-    → (if completed then stored slot written s else s).slots
+    → (if completed then storage_stored slot written s else s).slots
     ≡ slice_set s.slots slot (written_over (bytes_of s.slots slot) written)
 slots_after s slot true None none = sym (set-get_or s.slots slot [])
 slots_after s slot true (Some written) none = refl
@@ -598,7 +599,7 @@ slots_after s slot false written none =
 
 -- what else the storage has
 kept_beside : (s : StoredSlots) (slot : ℕ) (completed : Bool) (written : Option (ℕ × List ℕ))
-    → let s' : StoredSlots = if completed then stored slot written s else s in
+    → let s' : StoredSlots = if completed then storage_stored slot written s else s in
     (s'.size ≡ s.size) × (s'.faults ≡ s.faults)
 kept_beside s slot true None = (refl, refl)
 kept_beside s slot true (Some written) = (refl, refl)
@@ -607,7 +608,7 @@ kept_beside s slot false written = (refl, refl)
 -- how many requests were served in each lane
 served_then : (s : StoredSlots) (slot lane : ℕ) (completed : Bool) (written : Option (ℕ × List ℕ))
     → slot % length s.served ≡ lane → slice_index_or s.served lane 0 < 2 ^ 32
-    → (if completed then stored slot written s else s).served
+    → (if completed then storage_stored slot written s else s).served
     ≡ (let count = slice_index_or s.served lane 0 in
     slice_set s.served lane (if completed then count + 1 else count))
 served_then s slot lane false written is few = sym (set-get_or s.served lane 0)
@@ -616,14 +617,14 @@ served_then s slot lane true written is few =
     ∙ ap (λ (l : ℕ). slice_set s.served l (counted (slice_index_or s.served l 0))) is
     ∙ ap (slice_set s.served lane) (counted_next (slice_index_or s.served lane 0) few)
   where
-    by_written : (o : Option (ℕ × List ℕ)) → (stored slot o s).served ≡ (with_served slot s).served
+    by_written : (o : Option (ℕ × List ℕ)) → (storage_stored slot o s).served ≡ (with_served slot s).served
     by_written None = refl
     by_written (Some w) = refl
 
 stored_applied : (settings : Settings) (fails : Bool) (r : Record)
     → let a = storage.answered fails (flash_of r) r.storage r.own in
     apply settings (Stored (not fails)) r ≡ record
-    (record_with_step r a.step) { storage = written_over r.storage a.written }
+    (record_with_step r a.step) { storage = written_over r.storage a.moved }
 unfolding apply
 stored_applied settings true r = refl
 stored_applied settings false r = refl
@@ -654,25 +655,25 @@ serves_stored b h lines law lent id is_there first =
     (omega (arith, is_there.0, h.owns, h.few)) in
     let fails : Bool = is_fault s.faults (count + 1) in
     let bytes : List ℕ = bytes_of s.slots id.slot in
-    let a : storage.StorageAnswered = storage.answered fails (flash_of r) bytes own in
+    let a : RequestAnswered (Option (ℕ × List ℕ)) = storage.answered fails (flash_of r) bytes own in
     let flash : ℕ → ℕ = flash_byte b.home.flash in
     let answered = storage.answered (store_fails_next id.slot s) flash bytes own in
-    let same : in_life id.life own answered (storage.unanswered own) ≡ a =
-    in_its_life id.life own answered (storage.unanswered own) is_there.1
+    let same : in_life id.life own answered (unanswered None own) ≡ a =
+    in_its_life id.life own answered (unanswered None own) is_there.1
     ∙ ap (λ (n : ℕ). storage.answered (is_fault s.faults n) flash bytes own)
     (ap (λ (l : ℕ). counted (slice_index_or s.served l 0)) lane_is ∙ counted_next count few)
     ∙ answered_of_own fails b.home.flash bytes own law (its_object b h id is_there) (lent id.slot is_there.0)
     ∙ ap (λ (o : _). storage.answered fails (object_byte o (object_in b.home.flash o)) bytes own)
     (its_seat b h id is_there).own.object_is in
-    let s' : StoredSlots = if a.completed then stored id.slot a.written s else s in
-    let kept = kept_beside s id.slot a.completed a.written in
-    let served = served_then s id.slot lane a.completed a.written lane_is few in
-    subst (λ (x : storage.StorageAnswered). ServesFirst b h id is_there (stores b)
+    let s' : StoredSlots = if a.completed then storage_stored id.slot a.moved s else s in
+    let kept = kept_beside s id.slot a.completed a.moved in
+    let served = served_then s id.slot lane a.completed a.moved lane_is few in
+    subst (λ (x : RequestAnswered (Option (ℕ × List ℕ))). ServesFirst b h id is_there (stores b)
     (record {
       kind = stored_told kinds (store_fails_next id.slot s);
       step = x.step;
       device =
-          if x.completed then stored id.slot x.written s else s;
+          if x.completed then storage_stored id.slot x.moved s else s;
       completed = x.completed;
     }))
     (sym same)
@@ -684,7 +685,7 @@ serves_stored b h lines law lent id is_there first =
       buttons = refl;
       lines_ready = uarts_stay b h id is_there;
       words_left = refl;
-      bytes = written_over bytes a.written;
+      bytes = written_over bytes a.moved;
       stores = record {
         size = kept.0;
         lanes = ap length served ∙ length-set s.served lane (if a.completed then count + 1 else count);
@@ -694,7 +695,7 @@ serves_stored b h lines law lent id is_there first =
             (All-weaker (λ n. n ≤ b.moment.steps) (λ n. n ≤ b.moment.steps + 1) (λ n few. omega (arith, few))
             s.served h.served));
         slots =
-            slots_after s id.slot a.completed a.written (not_written fails (flash_of r) bytes own);
+            slots_after s id.slot a.completed a.moved (not_written fails (flash_of r) bytes own);
       };
       event = Stored (not fails);
       leaves = λ other. refl;

@@ -52,8 +52,8 @@ abbrev pub AlarmsTell : Moment → List (Option ℕ) → List Own → Type 0
 AlarmsTell m times owns = AllTell (clock_at m.settings.start m.time) m.time times owns
 
 -- what there is to do for the devices at a moment, for those who are served
-abbrev pub work_for : Moment → Served → List Own → Drivers → Work
-work_for m served owns d = work_at served.only m.time (clock_at m.settings.start m.time) owns (devices_of d)
+abbrev pub work_of_served : Moment → Served → List Own → Drivers → Work
+work_of_served m served owns d = work_at served.only m.time (clock_at m.settings.start m.time) owns (devices_of d)
 
 -- the time at which the next alarm of those who are served becomes due
 abbrev pub due_time_for : Moment → Served → List Own → Option ℕ
@@ -61,8 +61,8 @@ due_time_for m served owns =
     option_map (λ left. m.time + left) (left_for served.only (clock_at m.settings.start m.time) owns)
 
 -- and for those who are served then
-abbrev pub work_in : Moment → List Own → Drivers → Work
-work_in m owns d = work_at (only_of m) m.time (clock_at m.settings.start m.time) owns (devices_of d)
+abbrev pub work_then : Moment → List Own → Drivers → Work
+work_then m owns d = work_at (only_of m) m.time (clock_at m.settings.start m.time) owns (devices_of d)
 
 -- there is a time, and it has come by another
 abbrev pub HasCome : ℕ → Option ℕ → Type 0

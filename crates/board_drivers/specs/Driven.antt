@@ -13,7 +13,7 @@ use Rattle.process_model.specs.Own.{Own}
 use Rattle.driver_model.specs.Steps.{own_after}
 use Rattle.driver_model.specs.Commands.{BoardRequest, QueueName, Writes, Reads, Randoms, Stores}
 use Rattle.driver_model.specs.Drivers.{CommandHandler, handler_of}
-use Rattle.driver_model.specs.Replies.{reply_of}
+use Rattle.syscall_abi.specs.Reply.{reply_of}
 use Rattle.driver_model.specs.Requests.{request_in}
 use Rattle.driver_model.specs.Lines.{IsWithin, has_waiting, kind_in}
 use Rattle.tk_base.specs.Bits.{bits_of}

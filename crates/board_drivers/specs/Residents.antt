@@ -58,8 +58,8 @@ can_turn_in None = false
 can_turn_in (Some r) = resident_turns r
 
 -- the line of the process in a slot
-abbrev pub line_in : List ℕ → Resident → SlotLine
-line_in flash r = record {
+abbrev pub resident_line : List ℕ → Resident → SlotLine
+resident_line flash r = record {
   name = record { items = name_of (object_in flash r.0.object) };
   state = r.0.state;
   held = r.0.held;

@@ -1,13 +1,11 @@
 //! The drivers of the board.
 ghost use Rattle.std.specs.Prelude.{◌≡◌, ◌+◌, ◌*◌, ◌<◌, ◌≤◌, ◌^◌, ◌↔◌, ℕ, true, false, [], length};
 ghost use Rattle.std.specs.Prelude.{All, IfOk, IfSome, None, replicate};
-ghost use Rattle.board_devices.specs.Arriving.{first_arrival_time};
 ghost use Rattle.driver_model.specs.Alarm.{alarm_in};
 ghost use Rattle.driver_model.specs.Commands.{leaving_all};
 ghost use Rattle.grant_enter.specs.Homes.{own_of, ChangesOnly};
 ghost use Rattle.grant_enter.specs.Visits.{is_stale};
-ghost use Rattle.kernel_model.specs.World.{can_act_at, lane_count, sending_time};
-ghost use Rattle.tk_base.specs.declared.process.Dev.TheVariants.{Receive};
+ghost use Rattle.kernel_model.specs.World.{lane_count, sending_time};
 ghost use Rattle.board_drivers.specs.Calm.{AlarmsTell};
 ghost use Rattle.board_drivers.specs.Residents.{HasLost};
 ghost use Rattle.board_drivers.specs.Tells.{Acts, Arrives, is_alarm, tells_one};
@@ -104,34 +102,17 @@ impl Drivers {
         self.storage.gone(*id);
     }
 
-    /// The time at which the next event comes in, if one is to.
-    pub fn arrival_time(&self) -> Option<u64>
-        ensures at { result ≡ first_arrival_time self.now.arrivals }
-        ensures near { IfSome result (λ at. at < 2 ^ 32) }
-    {
-        let at = self.arrivals.next_time()?;
-        Some(u64::from(at))
-    }
-
     /// The time from which on the UART is free in the lane of whom it serves, if a write waits for it
     /// that is served.
     #[tactic(auto, using(crate::proofs::Waiting::waits_if_first))]
     pub fn sending_time(&self, served: &Served) -> Option<u64>
         ensures { result ≡ sending_time served.now.only (devices_of self.now) }
     {
-        if self.console.writes.has_one(served.only()) {
+        if self.console.writes.has_one(served.only) {
             Some(self.uarts.free(served.lane()))
         } else {
             None
         }
-    }
-
-    /// Whether a read waits that is served, and bytes came in on its lane.
-    #[tactic(auto, using(crate::proofs::Waiting::waits_if_first))]
-    pub fn can_receive(&self, served: &Served) -> bool
-        ensures { result ≡ can_act_at served.now.only 0 0 [] (devices_of self.now) Receive }
-    {
-        self.console.reads.has_one(served.only()) && self.uarts.held(served.lane()) > 0
     }
 
     /// The next event comes in, of which it asks that there is one: bytes, which the UART holds

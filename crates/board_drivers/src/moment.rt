@@ -1,6 +1,5 @@
 //! The moment of a step.
-ghost use Rattle.std.specs.Prelude.{◌≡◌, ◌+◌, ◌-◌, ◌*◌, ◌<◌, ◌≤◌, ◌^◌, IfSome};
-ghost use Rattle.std.specs.Option.{option_map};
+ghost use Rattle.std.specs.Prelude.{◌≡◌, ◌-◌, ◌*◌, ◌<◌, ◌≤◌, ◌^◌, IfSome};
 ghost use Rattle.tk_base.specs.declared.limits.TheConstants.{STEP_LIMIT};
 ghost use Rattle.board_devices.specs.Clock.{clock_at};
 ghost use Rattle.kernel_model.specs.World.{lane_count};
@@ -57,16 +56,5 @@ impl Moment {
         ensures { result ≡ clock_at self.now.settings.start self.now.time }
     {
         Clock::new(self.settings.start).now(self.time)
-    }
-
-    /// The time after so many ticks, if that is a number of ticks.
-    #[inline(always)]
-    pub fn after(&self, ticks: Option<u32>) -> Option<u64>
-        requires { self.now.time + 2 ^ 32 ≤ 2 ^ 64 }
-        ensures at { result ≡ option_map (λ n. self.now.time + n) ticks }
-        ensures near { IfSome result (λ at. at - self.now.time < 2 ^ 32) }
-    {
-        let ticks = ticks?;
-        Some(self.time + u64::from(ticks))
     }
 }

@@ -8,18 +8,11 @@ use tk_base::Slot;
 /// Whom device steps serve: all slots, or with time partitions one alone.
 #[derive(Clone, Copy, Debug)]
 pub struct Served {
+    /// The one slot that is served, if it is one alone.
     pub only: Option<Slot>,
 }
 
 impl Served {
-    /// The one slot that is served, if it is one alone.
-    #[inline(always)]
-    pub fn only(&self) -> Option<Slot>
-        ensures { result ≡ self.now.only }
-    {
-        self.only
-    }
-
     /// The lane by which devices serve: the one that there is, or that of the slot that alone is
     /// served.
     #[inline(always)]

@@ -39,8 +39,10 @@ pub fn deliveries_from_boot_are_of_the_last()
 
 /// Whatever choices are made after a boot: what came in, and then what is still to come in, is what
 /// the script says. Each edge of a button of which a process is told, which lives then and has the
-/// button enabled, schedules upcall 0 of the buttons for it once, in the order of the script, and
-/// nothing else schedules one of them (TRD 104, "Subscribe", "Yield").
+/// button enabled, schedules upcall 0 of the buttons for it once, in the order of the script: the
+/// wait for that upcall alone is given, null or not; else a null one does nothing, and another is
+/// put last, or dropped and counted where as many are pending as may be. No other step schedules,
+/// gives or drops one of them (TRD 104, "Subscribe", "Yield").
 pub fn edges_from_boot_come_once()
     ensures { EdgesFromBootComeOnce }
 {

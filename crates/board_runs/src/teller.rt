@@ -1,5 +1,5 @@
 //! What is told of a run while it goes on.
-ghost use Rattle.std.specs.Prelude.{◌≡◌, ◌+◌, ◌<◌, ◌≤◌, ◌^◌, [], true, OnOk};
+ghost use Rattle.std.specs.Prelude.{◌≡◌, ◌+◌, ◌<◌, ◌≤◌, ◌^◌, [], OnOk};
 ghost use Rattle.tk_base.specs.declared.limits.TheConstants.{PRINT_LIMIT};
 ghost use Rattle.tk_outside.specs.Writes.{Writes};
 ghost use Rattle.gathered_output.specs.Puts.{Puts};
@@ -77,57 +77,24 @@ impl RunWriter {
             ≤ counted_bytes self.old + PRINT_LIMIT) }
     {
         puts_compose::<K>();
-        // Of most steps nothing is told, and they pay for nothing.
-        if self.is_silent(step) {
-            self.keep(board, step);
-            return Ok(());
-        }
-        self.tell_any(board, step, buffer, out)
-    }
-
-    /// Whether nothing is written of a step, as far as a look tells.
-    fn is_silent(self, step: &Emit) -> bool
-        ensures { result ≡ true → told_text self step.now ≡ [] }
-    {
-        match self {
-            RunWriter::Boot => step.printed.is_empty(),
-            RunWriter::Trace { .. } => false,
-            RunWriter::Soak { .. } => true,
-        }
-    }
-
-    /// The same of any step, out of the loop's way.
-    #[inline(never)]
-    fn tell_any<K: Sink>(
-        &mut self,
-        board: &Board,
-        step: &Emit,
-        buffer: &mut OutputBuffer,
-        out: &mut K,
-    ) -> Result<(), Failed>
-        requires { counted_bytes self.old + PRINT_LIMIT < 2 ^ 64 }
-        ensures text { Puts K.tells out.old out.new buffer.old buffer.new
-            (told_text self.old step.now) result }
-        ensures kept { OnOk result (self.new ≡ told_on self.old board.now step.now) }
-        ensures count { OnOk result (counted_bytes self.new
-            ≤ counted_bytes self.old + PRINT_LIMIT) }
-    {
         let writer = *self;
-        buffer.put(&StepText { writer, step }, out)?;
-        self.keep(board, step);
-        Ok(())
-    }
-
-    /// Keeps what is asked later of a step that led to this board.
-    fn keep(&mut self, board: &Board, step: &Emit)
-        requires { counted_bytes self.old + PRINT_LIMIT < 2 ^ 64 }
-        ensures kept { self.new ≡ told_on self.old board.now step.now }
-        ensures count { counted_bytes self.new ≤ counted_bytes self.old + PRINT_LIMIT }
-    {
         match self {
-            RunWriter::Boot => {}
-            RunWriter::Trace { time } => *time = board.time(),
-            RunWriter::Soak { tally } => tally.add(&step.printed),
+            RunWriter::Boot => {
+                // Of most steps nothing is told, and they pay for nothing.
+                if step.printed.is_empty() {
+                    return Ok(());
+                }
+                buffer.put(&StepText { writer, step }, out)
+            }
+            RunWriter::Trace { time } => {
+                buffer.put(&StepText { writer, step }, out)?;
+                *time = board.time();
+                Ok(())
+            }
+            RunWriter::Soak { tally } => {
+                tally.add(&step.printed);
+                Ok(())
+            }
         }
     }
 

@@ -28,7 +28,7 @@ use Rattle.board_drivers.specs.Tells.{Arrives}
 use Rattle.board_drivers.proofs.Edges as parts
 use Rattle.board_turns.specs.Guards.{GuardsOnly}
 use Rattle.board_state.specs.Makes.{act_meant}
-use Rattle.board_state.specs.PartsOf.{parts_of}
+use Rattle.board_state.specs.PartsOf.{board_parts}
 use Rattle.board_state.specs.Shows.{IsBoard, world_of}
 use Rattle.board_state.proofs.Changes.{a_step_later, with_step}
 use Rattle.board_state.proofs.PartsOf.{are_parts}
@@ -68,7 +68,7 @@ module _ (b : BoardState) (home : Homes) (d : Drivers) (came : Arrives b.machine
       ≡ (carried_out (world_of b) (Device dev.Event)).after
   unfolding carried_out
   world_arrived may none law =
-      sym (parts.world_arrived (parts_of b) law home d came may
+      sym (parts.world_arrived (board_parts b) law home d came may
       (means_nobody b.machine.drivers.arrivals (world_of b).records none))
 
   -- nothing is shown
@@ -77,19 +77,19 @@ module _ (b : BoardState) (home : Homes) (d : Drivers) (came : Arrives b.machine
       → nothing ≡ shown_by (carried_out (world_of b) (Device dev.Event)).labels
   unfolding carried_out
   arrived_shown may none law =
-      sym (parts.arrived_shown (parts_of b) law may
+      sym (parts.arrived_shown (board_parts b) law may
       (means_nobody b.machine.drivers.arrivals (world_of b).records none))
 
   module _ (lines : LinesFollowAnswers) (h : IsBoard b) (below : b.machine.moment.steps < STEP_LIMIT) where
     -- what holds of the board's parts then
-    pub parts_then : AreBoardParts (parts.parts_with (parts_of b) home d)
-    parts_then = parts.arrived_parts (parts_of b) lines (are_parts b h) below home d came
+    pub parts_then : AreBoardParts (parts.parts_with (board_parts b) home d)
+    parts_then = parts.arrived_parts (board_parts b) lines (are_parts b h) below home d came
 
     -- each slot's layout stays, so whom the registers protect they protect still
     guards_then : GuardsOnly b.machine.guard home
     guards_then = record {
       protects = λ slot is. subst (Protect b.machine.guard.pmp)
-          (sym (ap (λ (o : Own). o.layout) (parts.arrived_remains (parts_of b) lines home d came slot)))
+          (sym (ap (λ (o : Own). o.layout) (parts.arrived_remains (board_parts b) lines home d came slot)))
           (h.machine.guard.protects slot is);
     }
 
@@ -115,7 +115,7 @@ module _ (b : BoardState) (home : Homes) (d : Drivers) (came : Arrives b.machine
         steps = parts_then.steps;
         time = parts_then.time;
         calm = quiet;
-        alarms = parts.arrived_alarms (parts_of b) lines home d came b.machine.alarms h.machine.alarms;
+        alarms = parts.arrived_alarms (board_parts b) lines home d came b.machine.alarms h.machine.alarms;
       };
       seated = parts_then.seated;
       owns = parts_then.owns;

@@ -45,7 +45,7 @@ use Rattle.driver_model.specs.Alarm.{nearer}
 use Rattle.board_drivers.specs.Calm.{end_at, only_of}
 use Rattle.kernel_model.specs.Shown.{summary_of}
 use Rattle.board_state.specs.declared.state.BoardState.{BoardState}
-use Rattle.board_drivers.specs.Residents.{Resident, resident_turns, can_turn_in, line_in}
+use Rattle.board_drivers.specs.Residents.{Resident, resident_turns, can_turn_in, resident_line}
 use Rattle.board_state.specs.Shows.{IsBoard, recorded, world_of, residents}
 use Rattle.board_drivers.proofs.Records.{beside_get, reads_shown, owns_shown}
 use Rattle.board_drivers.proofs.Pairs.{zip-get, get_or-zip, length-firsts}
@@ -56,16 +56,34 @@ pub has_storage : (b : BoardState) → IsBoard b → length (residents b) ≤ le
 has_storage b board =
     omega (arith, board.few, board.machine.driven.slots, length-firsts b.processes.items b.machine.home.owns board.owns)
 
+-- the own of each process is the one in the home
+shown_own : (b : BoardState) → IsBoard b → (slot : ℕ) (r : Record) → slice_get (world_of b).records slot ≡ Some r
+    → slice_get b.machine.home.owns slot ≡ Some r.own
+shown_own b board slot r is =
+    ap (λ (owns : List Own). slice_get owns slot)
+    (sym (owns_shown b.machine.home.flash b.machine.drivers.buttons.pressed b.processes.items b.machine.home.owns
+    b.machine.drivers.stores.slots board.owns (has_storage b board)))
+    ∙ slice_get-map (λ (x : Record). x.own) (world_of b).records slot ∙ ap (option_map (λ (x : Record). x.own)) is
+
+-- what holds of each own in the home holds of that of each process
+pub shown_of_each : (P : Own → Type 0) (b : BoardState) → IsBoard b
+    → ((slot : ℕ) → slot < length b.machine.home.owns → P (own_of b.machine.home slot))
+    → (slot : ℕ) → IfSome (slice_get (world_of b).records slot) (λ (r : Record). P r.own)
+shown_of_each P b board holds slot = by_record (slice_get (world_of b).records slot) refl
+  where
+    by_record : (o : Option Record) → slice_get (world_of b).records slot ≡ o → IfSome o (λ (r : Record). P r.own)
+    by_record None is = tt
+    by_record (Some r) is =
+        let there = shown_own b board slot r is in
+        subst P (get_or_from_slice_get b.machine.home.owns slot r.own nobody there)
+        (holds slot (slice_get_within b.machine.home.owns slot r.own there))
+
 -- what is the own of each process is whole, as it is in the home
 pub shown_whole : (b : BoardState) → IsBoard b
     → ((slot : ℕ) → slot < length b.machine.home.owns → HoldsInPlace (own_of b.machine.home slot))
     → ((slot : ℕ) → slot < length b.machine.home.owns → IsInPlace (own_of b.machine.home slot)) → AreWhole (world_of b)
 shown_whole b board holds lies slot r is =
-    let there : slice_get b.machine.home.owns slot ≡ Some r.own
-    = ap (λ (owns : List Own). slice_get owns slot)
-    (sym (owns_shown b.machine.home.flash b.machine.drivers.buttons.pressed b.processes.items b.machine.home.owns
-    b.machine.drivers.stores.slots board.owns (has_storage b board)))
-    ∙ slice_get-map (λ (x : Record). x.own) (world_of b).records slot ∙ ap (option_map (λ (x : Record). x.own)) is in
+    let there : slice_get b.machine.home.owns slot ≡ Some r.own = shown_own b board slot r is in
     let within = slice_get_within b.machine.home.owns slot r.own there in
     let same : own_of b.machine.home slot ≡ r.own = get_or_from_slice_get b.machine.home.owns slot r.own nobody there in
     record {
@@ -162,7 +180,7 @@ status_shown b ready devices nearest e f g =
 
 -- its summary
 pub summary_shown : (b : BoardState) (lines : ArrayVec SlotLine) (unplaced : ArrayVec Unplaced) (leds : ℕ) → IsBoard b
-    → lines.items ≡ map (line_in b.machine.home.flash) (residents b) → unplaced.items ≡ b.unplaced.items
+    → lines.items ≡ map (resident_line b.machine.home.flash) (residents b) → unplaced.items ≡ b.unplaced.items
     → leds ≡ bits_of b.machine.drivers.leds
     → ◌≡◌ {A = Summary} (record {
       slots = lines;
@@ -177,7 +195,7 @@ unfolding summary_of
 summary_shown b lines unplaced leds board e f lit =
     let s = summary_of (world_of b) in
     ap (λ (xs : List SlotLine). record s { slots = record { items = xs }; unplaced = unplaced; leds = leds })
-    (e ∙ sym (reads_shown slot_line_of (line_in b.machine.home.flash) b.machine.home.flash
+    (e ∙ sym (reads_shown slot_line_of (resident_line b.machine.home.flash) b.machine.home.flash
     b.machine.drivers.buttons.pressed (residents b) b.machine.drivers.stores.slots (has_storage b board) (λ p. refl)))
     ∙ ap₂ (λ (xs : List Unplaced) (bits : ℕ). record s { unplaced = record { items = xs }; leds = bits }) f lit
 
@@ -195,7 +213,7 @@ pub line_is : (home : Homes) (ps : List Process) (p : Process) (slot known : ℕ
       restarts = p.restarts;
       dropped = dropped;
     }
-    ≡ line_in home.flash (slice_index_or ps slot p, slice_index_or home.owns slot nobody)
+    ≡ resident_line home.flash (slice_index_or ps slot p, slice_index_or home.owns slot nobody)
 line_is home ps p slot known flash name wait dropped at named here is waits count =
     let title : name ≡ name_of (object_in home.flash p.object) =
     named ∙ ap (λ (f : List ℕ). name_of (object_in f p.object)) here in
@@ -203,10 +221,10 @@ line_is home ps p slot known flash name wait dropped at named here is waits coun
     waits ∙ ap (λ (k : ℕ). (own_of home k).inbox.wait) is in
     let counted : dropped ≡ (slice_index_or home.owns slot nobody).inbox.dropped =
     count ∙ ap (λ (k : ℕ). (own_of home k).inbox.dropped) is in
-    let line = line_in home.flash (p, slice_index_or home.owns slot nobody) in
+    let line = resident_line home.flash (p, slice_index_or home.owns slot nobody) in
     ap (λ (n : List ℕ). record line { name = record { items = n }; wait = wait; dropped = dropped }) title
     ∙ ap₂ (λ (v : Wait) (d : ℕ). record line { wait = v; dropped = d }) waited counted
-    ∙ ap (λ (q : Process). line_in home.flash (q, slice_index_or home.owns slot nobody)) at
+    ∙ ap (λ (q : Process). resident_line home.flash (q, slice_index_or home.owns slot nobody)) at
 
 -- whether the process of a slot can have a turn, by its place
 pub turns_at : (home : Homes) (ps : List Process) (p : Process) (slot known : ℕ) (answer : Bool)

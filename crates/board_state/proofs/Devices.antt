@@ -60,7 +60,7 @@ use Rattle.board_drivers.proofs.Records.{beside, bytes_of}
 use Rattle.board_state.proofs.Changes.{still_seated, with_step}
 use Rattle.board_state.proofs.Ready.{is_carried_out}
 use Rattle.board_drivers.proofs.Records.{lost_there, seated_there}
-use Rattle.board_state.specs.PartsOf.{parts_of}
+use Rattle.board_state.specs.PartsOf.{board_parts}
 
 -- each slot's layout stays, so whom the registers protect they protect still
 pub still_guards : (guard : ActivePmp) (home home_after : Homes) (slot : ℕ) → ChangesOnly slot home home_after
@@ -182,7 +182,7 @@ remains_seated flash steps process own o rest s =
     })
 
 module _ (b : BoardState) (device : Dev) (slot : ℕ) (printed : List ℕ) (home : Homes) (d : Drivers)
-    (t : DeviceTold (parts_of b) device slot printed home d) (h : IsBoard b) where
+    (t : DeviceTold (board_parts b) device slot printed home d) (h : IsBoard b) where
   own_was : slice_get b.machine.home.owns slot ≡ Some (own_of b.machine.home slot)
   own_was = slice_get-get_or b.machine.home.owns slot nobody t.there
 

@@ -15,10 +15,10 @@ use Rattle.board_drivers.proofs.Records.{beside, record_found}
 use Rattle.board_turns.specs.Turning.{IsKnownEnd as IsKnownOf, IsKnownEndAt}
 use Rattle.board_state.specs.declared.state.BoardState.{BoardState}
 use Rattle.board_state.specs.Shows.{IsBoard, world_of}
-use Rattle.board_state.specs.KnownEnds.{EndsSo, IsKnownEnd}
+use Rattle.board_state.specs.KnownEnds.{EndsSo, IsKnownOfChoice}
 
 -- nothing is known of any choice
-pub nothing_known : (w : World) (choice : Choice) → IsKnownEnd w Went choice
+pub nothing_known : (w : World) (choice : Choice) → IsKnownOfChoice w Went choice
 nothing_known w (Run slot) = of_record (slice_get w.records slot)
   where
     of_record : (o : Option Record) → IfSome o (EndsSo Went)
@@ -28,12 +28,12 @@ nothing_known w (Device device) = tt
 nothing_known w (Pass ticks) = tt
 
 -- nor of the next one, if there is one
-pub nothing_known_next : (w : World) (next : Option Choice) → IfSome next (IsKnownEnd w Went)
+pub nothing_known_next : (w : World) (next : Option Choice) → IfSome next (IsKnownOfChoice w Went)
 nothing_known_next w None = tt
 nothing_known_next w (Some choice) = nothing_known w choice
 
 -- what is known of a turn's instruction is known of that of the process in the slot
-pub known_at : (b : BoardState) (slot : ℕ) (end : TurnEnd) → IsBoard b → IsKnownEnd (world_of b) end (Run slot)
+pub known_at : (b : BoardState) (slot : ℕ) (end : TurnEnd) → IsBoard b → IsKnownOfChoice (world_of b) end (Run slot)
     → IsKnownEndAt slot end b.machine.home b.processes.items
 known_at b slot end board known = by_process (slice_get b.processes.items slot) refl
   where

@@ -53,7 +53,7 @@ use Rattle.board_drivers.proofs.Lines.{line_after}
 use Rattle.board_drivers.proofs.Records.{bytes_of, owns_shown, seated_there}
 use Rattle.board_drivers.proofs.Routing.{drives_shown}
 use Rattle.board_turns.specs.declared.machine.Machine.{Machine}
-use Rattle.board_turns.specs.Operating.{OperatesAt, acts_for}
+use Rattle.board_turns.specs.Operating.{OperatesAt, verb_acts}
 use Rattle.board_turns.specs.Turning.{MayTurnAt}
 use Rattle.board_state.specs.declared.state.BoardState.{BoardState}
 use Rattle.board_state.specs.Makes.{act_meant, shown_act}
@@ -257,7 +257,8 @@ module _ (b : BoardState) (slot : ℕ) (verb : Verb) (c : ActComes b.machine.dri
       ∙ ap (slice_set w.records slot) (sym tells) in
       ap (λ (rs : List Record). with_step b rs (devices_of x.drivers) m b.present b.used) records
       ∙ ap (λ (ds : Devices). with_step b (slice_set w.records slot (operated verb acted_on)) ds m b.present b.used)
-      (drives_shown (id_of slot t.at.before.1) (acts_for verb t.at.before.0) (let_in b.machine c.rest).drivers x.drivers
+      (drives_shown (id_of slot t.at.before.1) (verb_acts verb t.at.before.0) (let_in b.machine c.rest).drivers
+      x.drivers
       t.drives)
       ∙ sym (ap (λ (s : Stepped). s.after) (acts_so law))
 
@@ -279,9 +280,9 @@ module _ (b : BoardState) (slot : ℕ) (verb : Verb) (c : ActComes b.machine.dri
   own_is : (operated verb acted_on).own ≡ t.at.after.1
   own_is = ap (λ (r : Record). r.own) tells
 
-  keeps : KeepsLines b.machine.moment.settings.storage t.at.before.1 t.at.after.1 (acts_for verb t.at.before.0)
+  keeps : KeepsLines b.machine.moment.settings.storage t.at.before.1 t.at.after.1 (verb_acts verb t.at.before.0)
   keeps = subst (λ (o : Own). KeepsLines b.machine.moment.settings.storage t.at.before.1 o
-      (acts_for verb t.at.before.0)) own_is
+      (verb_acts verb t.at.before.0)) own_is
       (act_keeps b.machine.moment.settings.storage verb acted_on
       (can_start_again t.at.before.0.object.address t.at.before.1.layout (header_reading acted_on.object)
       seat.own.object.application))
@@ -295,7 +296,8 @@ module _ (b : BoardState) (slot : ℕ) (verb : Verb) (c : ActComes b.machine.dri
       subst (λ (xs : List ProcessId). IsQueueOf queue xs (slice_set b.machine.home.owns slot t.at.after.1))
       (sym (t.drives.queues queue))
       (line_after queue (ids_waiting_in b.machine.drivers queue) b.machine.home.owns slot t.at.before.1 t.at.after.1
-      (acts_for verb t.at.before.0) (h.machine.driven.queues queue) t.at.own_was (keeps.lines queue) (keeps.life queue))
+      (verb_acts verb t.at.before.0) (h.machine.driven.queues queue) t.at.own_was (keeps.lines queue)
+      (keeps.life queue))
 
   -- who waits has a request then, and no other
   pub operated_driven : AreDriven b.machine.moment.settings b.machine.moment.time x.home.owns x.drivers

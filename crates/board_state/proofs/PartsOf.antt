@@ -1,10 +1,10 @@
 -- What holds of a board holds of its parts.
 use Rattle.board_drivers.specs.Parts.{AreBoardParts}
 use Rattle.board_state.specs.declared.state.BoardState.{BoardState}
-use Rattle.board_state.specs.PartsOf.{parts_of}
+use Rattle.board_state.specs.PartsOf.{board_parts}
 use Rattle.board_state.specs.Shows.{IsBoard}
 
-pub are_parts : (b : BoardState) → IsBoard b → AreBoardParts (parts_of b)
+pub are_parts : (b : BoardState) → IsBoard b → AreBoardParts (board_parts b)
 are_parts b board = record {
   seated = board.seated;
   lost = board.machine.lost;

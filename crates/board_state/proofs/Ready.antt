@@ -4,7 +4,7 @@ use Rattle.tk_base.specs.declared.limits.TheConstants.{STEP_LIMIT}
 use Rattle.alarm_capsule.proofs.KeptTimes.{all_later}
 use Rattle.driver_model.specs.Laws.{TimeBringsNearer}
 use Rattle.std.proofs.Common.{◌≡◌, ℕ, ◌+◌, Bool, true, false, cond, List, [], ◌∷◌, map, Ok, Some, IsTrue, refl, sym, ap}
-use Rattle.std.proofs.Common.{◌<◌, ◌^◌, ◌∙◌, arith}
+use Rattle.std.proofs.Common.{Option, ◌<◌, ◌^◌, ◌∙◌, arith}
 use Rattle.process_model.specs.Own.{Own}
 use Rattle.tk_base.specs.declared.process.Choice.{Choice}
 use Rattle.tk_base.specs.declared.process.Choice.TheVariants.{Pass}
@@ -21,7 +21,10 @@ use Rattle.turn_scheduler.specs.RoundRobin.{device_order, device_place}
 use Rattle.turn_scheduler.specs.Parts.{place_is_ready}
 use Rattle.board_state.specs.declared.state.BoardState.{BoardState}
 use Rattle.kernel_laws.specs.Windows.{due_time}
-use Rattle.board_drivers.specs.Calm.{IsCalmAt, due_time_for, work_for, work_in}
+use Rattle.std.specs.Option.{option_map}
+use Rattle.board_devices.specs.Clock.{clock_at}
+use Rattle.driver_model.specs.Alarm.{left_for}
+use Rattle.board_drivers.specs.Calm.{IsCalmAt, due_time_for, work_of_served, work_then}
 use Rattle.board_drivers.proofs.Calm.{later_calm}
 use Rattle.board_drivers.proofs.Lanes.{few_still, later_free}
 use Rattle.board_turns.proofs.Turns.{rests_seated}
@@ -62,10 +65,10 @@ module _ (b : BoardState) (board : IsBoard b) where
       b.machine.drivers.stores.slots board.owns (has_storage b board)
 
   -- what there is to do for the devices, for those who are served
-  pub work_shown : (served : Served) → work_for b.machine.moment served b.machine.home.owns b.machine.drivers
+  pub work_shown : (served : Served) → work_of_served b.machine.moment served b.machine.home.owns b.machine.drivers
       ≡ work_at served.only b.machine.moment.time (now_in (world_of b)) (owns_in (world_of b)) (world_of b).devices
   work_shown served =
-      ap (λ (owns : List Own). work_for b.machine.moment served owns b.machine.drivers) (sym owns_in_world)
+      ap (λ (owns : List Own). work_of_served b.machine.moment served owns b.machine.drivers) (sym owns_in_world)
 
   -- when the alarm of the process in a slot becomes due
   pub due_shown : (slot : ℕ) → due_time_for b.machine.moment (record { only = Some slot }) b.machine.home.owns
@@ -73,9 +76,19 @@ module _ (b : BoardState) (board : IsBoard b) where
   due_shown slot =
       ap (due_time_for b.machine.moment (record { only = Some slot })) (sym owns_in_world)
 
+  -- the same by the ticks that are left
+  pub due_by : (slot tick : ℕ) (left : Option ℕ)
+      → tick ≡ clock_at b.machine.moment.settings.start b.machine.moment.time
+      → left ≡ left_for (Some slot) tick b.machine.home.owns
+      → option_map (λ n. b.machine.moment.time + n) left ≡ due_time (world_of b) slot
+  due_by slot tick left shows is =
+      ap (option_map (λ n. b.machine.moment.time + n))
+      (is ∙ ap (λ (now : ℕ). left_for (Some slot) now b.machine.home.owns) shows)
+      ∙ due_shown slot
+
   -- and for those who are served then
-  pub next_shown : (work_in b.machine.moment b.machine.home.owns b.machine.drivers).next ≡ (work_of (world_of b)).next
-  next_shown = ap (λ (owns : List Own). (work_in b.machine.moment owns b.machine.drivers).next) (sym owns_in_world)
+  pub next_shown : (work_then b.machine.moment b.machine.home.owns b.machine.drivers).next ≡ (work_of (world_of b)).next
+  next_shown = ap (λ (owns : List Own). (work_then b.machine.moment owns b.machine.drivers).next) (sym owns_in_world)
 
   -- which device steps are ready
   pub devices_shown : ready_in b.machine.moment b.machine.home.owns b.machine.drivers ≡ ready_devices (world_of b)

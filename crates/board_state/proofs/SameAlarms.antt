@@ -11,7 +11,7 @@ use Rattle.driver_model.specs.Alarm.{alarm_in, due_for, due_slot, has_due, if_du
 use Rattle.board_devices.specs.Clock.{clock_at}
 use Rattle.kernel_alarms.specs.Acting.{HasSameAlarm}
 use Rattle.kernel_model.specs.World.{only_at}
-use Rattle.alarm_capsule.specs.Times.{AllTell, Tells}
+use Rattle.alarm_capsule.specs.Times.{AllTell, TellsAlarm}
 use Rattle.alarm_capsule.proofs.KeptTimes.{others_tell}
 use Rattle.board_drivers.specs.declared.drivers.Drivers.{Drivers}
 use Rattle.board_drivers.specs.Calm.{IsCalm}
@@ -19,7 +19,7 @@ use Rattle.board_turns.proofs.TurnsKept.{set_other, set_same}
 
 -- what is told of its alarm stays true
 same_alarm_tells : (now time : ℕ) (kept : Option ℕ) (own o : Own) → HasSameAlarm own o
-    → Tells now time kept (Some own) → Tells now time kept (Some o)
+    → TellsAlarm now time kept (Some own) → TellsAlarm now time kept (Some o)
 same_alarm_tells now time None own o same_alarm tells =
     ap₂ (λ b a. cond b (option_map (ticks_left now) a) None) same_alarm.1 same_alarm.0 ∙ tells
 same_alarm_tells now time (Some at) own o same_alarm tells = λ ahead.
@@ -42,13 +42,14 @@ same_alarm_tells now time (Some at) own o same_alarm tells = λ ahead.
 module _ (slot : ℕ) (owns : List Own) (own o : Own) (was : slice_get owns slot ≡ Some own)
     (same_alarm : HasSameAlarm own o) where
   tells_there : (now time : ℕ) (times : List (Option ℕ)) → AllTell now time times owns → (other : ℕ) (b : Bool)
-      → (other == slot) ≡ b → Tells now time (slice_index_or times other None) (slice_get (slice_set owns slot o) other)
+      → (other == slot) ≡ b → TellsAlarm now time (slice_index_or times other None)
+      (slice_get (slice_set owns slot o) other)
   tells_there now time times tell other true e =
       let same : slot ≡ other = sym (eqb-true other slot e) in
-      subst (λ (n : ℕ). Tells now time (slice_index_or times n None) (slice_get (slice_set owns slot o) n)) same
-      (subst (Tells now time (slice_index_or times slot None)) (sym (set_same owns slot own o was))
+      subst (λ (n : ℕ). TellsAlarm now time (slice_index_or times n None) (slice_get (slice_set owns slot o) n)) same
+      (subst (TellsAlarm now time (slice_index_or times slot None)) (sym (set_same owns slot own o was))
       (same_alarm_tells now time (slice_index_or times slot None) own o same_alarm
-      (subst (Tells now time (slice_index_or times slot None)) was (tell slot))))
+      (subst (TellsAlarm now time (slice_index_or times slot None)) was (tell slot))))
   tells_there now time times tell other false e =
       others_tell now time slot times owns o tell other (λ same. false≢true (sym e ∙ eq-eqb other slot same))
 

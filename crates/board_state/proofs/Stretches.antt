@@ -41,7 +41,7 @@ use Rattle.kernel_model.specs.World.{World, is_let, only_in, owns_in}
 use Rattle.kernel_model.specs.Parts.{work_of}
 use Rattle.kernel_model.specs.Named.{can_run}
 use Rattle.kernel_laws.proofs.Turns.{turn_is_free, turn_is_let, turn_is_ready}
-use Rattle.board_drivers.specs.Calm.{AlarmsTell, HasCome, IsCalm, ServesNobody, only_of, work_in}
+use Rattle.board_drivers.specs.Calm.{AlarmsTell, HasCome, IsCalm, ServesNobody, only_of, work_then}
 use Rattle.board_state.specs.declared.state.BoardState.{BoardState}
 use Rattle.board_drivers.specs.declared.drivers.Drivers.{Drivers}
 use Rattle.board_drivers.specs.declared.moment.Moment.{Moment}
@@ -49,7 +49,7 @@ use Rattle.board_drivers.specs.Driven.{AreDriven, devices_of, ids_waiting_in}
 use Rattle.board_state.specs.Makes.{ready_in}
 use Rattle.board_state.specs.Shows.{IsBoard, recorded, residents, world_of}
 use Rattle.board_drivers.specs.Residents.{HasLost, IsResident, Resident, record_of, resident_turns}
-use Rattle.board_state.specs.KnownEnds.{EndsSo, IsKnownEnd}
+use Rattle.board_state.specs.KnownEnds.{EndsSo, IsKnownOfChoice}
 use Rattle.board_state.specs.Stretches.{is_running, slot_runs}
 use Rattle.board_turns.specs.Quiet.{QuietAt}
 use Rattle.board_drivers.proofs.Calm.{kept_calm, later_calm}
@@ -218,7 +218,7 @@ module _ (b : BoardState) (board : IsBoard b) where
   -- a board of which nobody is served at once, and no device step is to come by now, has one that is ready
   pub nothing_comes : GoesOn (world_of b) → NextLiesAhead
       → (ServesNobody (only_of b.machine.moment) b.machine.drivers
-      → HasCome b.machine.moment.time (work_in b.machine.moment b.machine.home.owns b.machine.drivers).next) → ⊥
+      → HasCome b.machine.moment.time (work_then b.machine.moment b.machine.home.owns b.machine.drivers).next) → ⊥
   nothing_comes g law comes =
       let none = chosen_in_calm (world_of b) g.slot g.chosen in
       let idle = served_by_none _ _ _ _ _ _ (ap ready_device (devices_shown b board) ∙ none) in
@@ -334,9 +334,9 @@ module _ (b : BoardState) (board : IsBoard b) where
             ∙ ap Some (get_or-set_same rs slot after after h)
 
     -- what was told of the end of its next instruction is known then
-    pub end_known : (ticks : ℕ) → ticks ≡ k → IsKnownEnd (world_after_ticks ticks) end (Run slot)
+    pub end_known : (ticks : ℕ) → ticks ≡ k → IsKnownOfChoice (world_after_ticks ticks) end (Run slot)
     end_known ticks is =
-        subst (λ (n : ℕ). IsKnownEnd (world_after_ticks n) end (Run slot)) (sym is)
+        subst (λ (n : ℕ). IsKnownOfChoice (world_after_ticks n) end (Run slot)) (sym is)
         (subst (λ (o : Option Record). IfSome o (EndsSo end)) (sym after_there)
         (λ stops. q.quiet.ends stops pressed storage))
 

@@ -12,7 +12,7 @@ abbrev pub EndsSo : TurnEnd → Record → Type 0
 EndsSo end r = end ≢ Went → (instruction r).end ≡ end
 
 -- this is known of a choice: of a turn the end of its instruction, and of any other nothing
-abbrev pub IsKnownEnd : World → TurnEnd → Choice → Type 0
-IsKnownEnd w end (Run slot) = IfSome (slice_get w.records slot) (EndsSo end)
-IsKnownEnd w end (Device device) = Unit
-IsKnownEnd w end (Pass ticks) = Unit
+abbrev pub IsKnownOfChoice : World → TurnEnd → Choice → Type 0
+IsKnownOfChoice w end (Run slot) = IfSome (slice_get w.records slot) (EndsSo end)
+IsKnownOfChoice w end (Device device) = Unit
+IsKnownOfChoice w end (Pass ticks) = Unit

@@ -14,7 +14,7 @@ use Rattle.kernel_model.specs.Shown.{shown_by}
 use Rattle.tk_base.specs.declared.process.NotReady.{NotReady}
 use Rattle.board_drivers.specs.declared.drivers.Drivers.{Drivers}
 use Rattle.board_drivers.specs.declared.moment.Moment.{Moment}
-use Rattle.board_drivers.specs.Calm.{work_in}
+use Rattle.board_drivers.specs.Calm.{work_then}
 
 -- A choice that may be made is made: the world is the next one, and what it tells is shown. Any other is refused, and
 -- nothing changes.
@@ -48,4 +48,4 @@ act_meant w =
 
 -- which device steps are ready at a moment
 abbrev pub ready_in : Moment → List Own → Drivers → List Bool
-ready_in m owns d = map (work_in m owns d).ready device_order
+ready_in m owns d = map (work_then m owns d).ready device_order

@@ -4,8 +4,8 @@ use Rattle.board_state.specs.declared.state.BoardState.{BoardState}
 use Rattle.board_state.specs.Shows.{world_of}
 
 -- those of a board
-abbrev pub parts_of : BoardState → BoardParts
-parts_of b = record {
+abbrev pub board_parts : BoardState → BoardParts
+board_parts b = record {
   processes = b.processes.items;
   home = b.machine.home;
   drivers = b.machine.drivers;

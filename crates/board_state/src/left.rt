@@ -21,7 +21,7 @@ pub(crate) fn is_ready_alone(state: &BoardState, slot: Slot, device: Dev) -> boo
     ensures { result ≡ (work_for (world_of state.now) slot).ready device }
 {
     let served = Served { only: Some(slot) };
-    state.machine.is_ready_for(&served, device)
+    state.machine.is_ready(&served, device)
 }
 
 /// Whether one is that looks at the time.
@@ -61,7 +61,7 @@ fn has_next_alone(state: &BoardState, slot: Slot) -> bool
     ensures { result ≡ is_some (work_for (world_of state.now) slot).next }
 {
     let served = Served { only: Some(slot) };
-    state.machine.next_time_for(&served).is_some()
+    state.machine.next_time(&served).is_some()
 }
 
 /// Whether a device step is ready for a slot, or becomes so.
@@ -111,8 +111,9 @@ pub fn time_ahead(state: &BoardState) -> Option<u64>
     ensures at { result ≡ next_time (world_of state.now) }
     ensures near { IfSome result (λ at. at - (world_of state.now).clock.time < 2 ^ 32) }
 {
-    let next = state.machine.next_time();
-    let Some(end) = state.machine.moment.window_end() else {
+    let moment = &state.machine.moment;
+    let next = state.machine.next_time(&moment.served());
+    let Some(end) = moment.window_end() else {
         return next;
     };
     if !is_left(state) {

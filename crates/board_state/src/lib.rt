@@ -17,7 +17,7 @@ pub use left::time_ahead;
 pub use lines::summary;
 pub use operator::{act_meant, operate};
 pub use settings::settings_of;
-pub use shown::{hide, show};
+pub use shown::{clear, show};
 pub use slices::{is_over, present_after, runs, turn_in, turns_left, used_before};
 pub use standard::{devices_ready, lanes};
 pub use state::BoardState;

@@ -5,7 +5,7 @@ ghost use Rattle.tk_base.specs.declared.limits.TheConstants.{OBJECT_LIMIT, SLOT_
 ghost use Rattle.process_record.specs.Name.{name_of};
 ghost use Rattle.process_model.specs.Flash.{object_in};
 ghost use Rattle.kernel_model.specs.Shown.{summary_of};
-ghost use Rattle.board_drivers.specs.Residents.{InFlash, line_in};
+ghost use Rattle.board_drivers.specs.Residents.{InFlash, resident_line};
 ghost use Rattle.board_state.specs.Shows.{IsBoard, world_of};
 
 use crate::state::BoardState;
@@ -43,7 +43,7 @@ fn slot_lines(home: &Home, processes: &[Process]) -> ArrayVec<SlotLine, SLOT_COU
     requires few { length processes.now ≤ SLOT_COUNT }
     requires owns { length home.now.owns ≡ length processes.now }
     requires objects { All (InFlash home.now.flash) processes.now }
-    ensures { result.items ≡ map (line_in home.now.flash) (zip processes.now home.now.owns) }
+    ensures { result.items ≡ map (resident_line home.now.flash) (zip processes.now home.now.owns) }
 {
     let mut lines = ArrayVec::new();
     for (place, process) in processes.iter().enumerate() {

@@ -7,12 +7,14 @@ use arrayvec::ArrayVec;
 use process_record::Emit;
 use tk_base::{PRINT_LIMIT, Slot, Verb};
 
-/// Takes back what the last step told, but for whose turn it was. What it printed, an act, a call
-/// or a denial is seldom there, and writing it takes time.
+/// Takes back what the last step told: of this one it is told whose turn it is, if it is one, and
+/// nothing else so far. What was printed, an act, a call or a denial is seldom there, and writing it
+/// takes time.
 #[inline(always)]
-pub(crate) fn clear(emit: &mut Emit)
-    ensures { emit.new ≡ record nothing { slot = emit.old.slot } }
+pub fn clear(emit: &mut Emit, slot: Option<Slot>)
+    ensures { emit.new ≡ record nothing { slot = slot } }
 {
+    emit.slot = slot;
     emit.printed.clear();
     if emit.act.is_some() {
         emit.act = None;
@@ -25,19 +27,11 @@ pub(crate) fn clear(emit: &mut Emit)
     }
 }
 
-/// The step shows nothing.
-pub fn hide(emit: &mut Emit)
-    ensures { emit.new ≡ nothing }
-{
-    clear(emit);
-    emit.slot = None;
-}
-
 /// The step printed bytes for a slot's process, if it printed any.
 pub fn show(emit: &mut Emit, slot: Slot, printed: ArrayVec<u8, PRINT_LIMIT>)
     ensures { emit.new ≡ shown_printed slot printed.items }
 {
-    hide(emit);
+    clear(emit, None);
     if !printed.is_empty() {
         emit.slot = Some(slot);
         emit.printed = printed;
@@ -48,8 +42,7 @@ pub fn show(emit: &mut Emit, slot: Slot, printed: ArrayVec<u8, PRINT_LIMIT>)
 pub(crate) fn show_act(emit: &mut Emit, slot: Slot, verb: Verb, printed: ArrayVec<u8, PRINT_LIMIT>)
     ensures { emit.new ≡ shown_act slot verb printed.items }
 {
-    hide(emit);
-    emit.slot = Some(slot);
+    clear(emit, Some(slot));
     emit.act = Some((slot, verb));
     emit.printed = printed;
 }

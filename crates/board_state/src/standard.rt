@@ -27,13 +27,14 @@ pub fn devices_ready(state: &BoardState) -> ArrayVec<bool, 6>
         state.now.machine.drivers }
 {
     let machine = &state.machine;
+    let served = machine.moment.served();
     ArrayVec::from([
-        machine.is_ready(Dev::Event),
-        machine.is_ready(Dev::Alarm),
-        machine.is_ready(Dev::Uart),
-        machine.is_ready(Dev::Receive),
-        machine.is_ready(Dev::Random),
-        machine.is_ready(Dev::Store),
+        machine.is_ready(&served, Dev::Event),
+        machine.is_ready(&served, Dev::Alarm),
+        machine.is_ready(&served, Dev::Uart),
+        machine.is_ready(&served, Dev::Receive),
+        machine.is_ready(&served, Dev::Random),
+        machine.is_ready(&served, Dev::Store),
     ])
 }
 
@@ -82,8 +83,16 @@ fn due_time(state: &BoardState, slot: Slot) -> Option<u64>
     requires { IsBoard state.now }
     ensures { result ≡ due_time (world_of state.now) slot }
 {
-    let served = Served { only: Some(slot) };
-    state.machine.due_time(&served)
+    let machine = &state.machine;
+    let time = machine.moment.time;
+    let tick = machine.moment.tick();
+    match machine
+        .alarms
+        .next_due(&machine.home, tick, time, Some(slot))
+    {
+        Some(ticks) => Some(time + u64::from(ticks)),
+        None => None,
+    }
 }
 
 /// That of each slot.
@@ -128,7 +137,7 @@ pub fn lanes(state: &BoardState) -> Option<Lanes>
         n: moment.window,
         slots: turns_ready(state),
         event_ready: state.machine.drivers.arrivals.is_time(moment.time),
-        event_at: state.machine.drivers.arrival_time(),
+        event_at: state.machine.drivers.arrivals.next_time(),
         devices: lane_flags(state),
         alarm_at: due_times(state),
         uart_at: sending_times(state),

@@ -2,8 +2,7 @@
 ghost use Rattle.std.specs.Prelude.{◌≡◌, ◌<◌};
 ghost use Rattle.tk_base.specs.declared.limits.TheConstants.{STEP_LIMIT};
 ghost use Rattle.tk_base.specs.declared.process.Choice.TheVariants.{Run};
-ghost use Rattle.kernel_model.specs.World.{is_ready};
-ghost use Rattle.board_state.specs.KnownEnds.{IsKnownEnd};
+ghost use Rattle.board_state.specs.KnownEnds.{IsKnownOfChoice};
 ghost use Rattle.board_state.specs.Makes.{MakesStep};
 ghost use Rattle.board_state.specs.Shows.{IsBoard, world_of};
 
@@ -17,15 +16,6 @@ use rv32_model::TurnEnd;
 use tk_base::{NotReady, STEP_LIMIT, Slot};
 use turn_scheduler::used_after;
 
-/// Whether the process in a slot may have the next turn.
-fn may_run(state: &BoardState, slot: Slot) -> bool
-    requires board { IsBoard state.now }
-    requires limit { (world_of state.now).clock.steps < STEP_LIMIT }
-    ensures { result ≡ is_ready (world_of state.now) (Run slot) }
-{
-    state.machine.ready.has(slot)
-}
-
 /// A turn of the process in a slot; `NotReady` where it can have none, and nothing has changed then.
 /// When its alarm becomes due is looked at again where the turn may have armed one, and when a
 /// device step is ready where it may have acted.
@@ -38,7 +28,7 @@ pub fn make_turn(
 ) -> Result<(), NotReady>
     requires board { IsBoard state.old }
     requires limit { (world_of state.old).clock.steps < STEP_LIMIT }
-    requires known { IsKnownEnd (world_of state.old) end (Run slot) }
+    requires known { IsKnownOfChoice (world_of state.old) end (Run slot) }
     ensures board { IsBoard state.new }
     ensures step { MakesStep (Run slot) (world_of state.old) (world_of state.new) emit.old emit.new
         result }
@@ -47,11 +37,10 @@ pub fn make_turn(
     turns_keep_lines();
     alarms_change_at_their_commands();
     time_brings_an_alarm_nearer();
-    if !may_run(state, slot) {
+    if !state.machine.ready.has(slot) {
         return Err(NotReady);
     }
-    clear(emit);
-    emit.slot = Some(slot);
+    clear(emit, Some(slot));
     state.machine.turn_at(&mut state.processes, slot, end, emit);
     state.machine.look_at(&state.processes, slot);
     state.used = used_after(state.present, state.used, state.slice, slot);

@@ -18,7 +18,7 @@ use Rattle.board_drivers.specs.Residents.{IsResident}
 use Rattle.board_turns.specs.declared.guard.ActivePmp.{ActivePmp}
 use Rattle.board_turns.specs.declared.machine.Machine.{Machine}
 use Rattle.board_turns.specs.Guards.{GuardsOnly, GuardsOthers}
-use Rattle.board_turns.specs.Operating.{Operates, OperatesAt, OperatesOn}
+use Rattle.board_turns.specs.Operating.{OperatesOnResident, OperatesAt, OperatesOn}
 use Rattle.board_turns.specs.Turning.{LeavesOn, MayTurnAt}
 use Rattle.board_turns.proofs.Tables.{changed_at}
 
@@ -58,7 +58,7 @@ same_object flash p q own beside same =
 -- what the console does to a process is what the act leaves of its record
 pub operates : (verb : Verb) (flash : List ℕ) (p q : Process) (own own_after : Own)
     → KeepsObject p q → Acts verb (object_in flash p.object) (p, own) (q, own_after)
-    → Operates verb flash (p, own) (q, own_after)
+    → OperatesOnResident verb flash (p, own) (q, own_after)
 operates verbs.List flash p q own own_after keeps acts = λ beside.
     ap₂ (λ (x : Process) (y : Own). record_in flash x y beside) (sym acts.0) (sym acts.1)
 operates verbs.Stop flash p q own own_after keeps acts = λ beside.

@@ -18,7 +18,7 @@ use Rattle.board_devices.specs.Clock.{clock_at}
 use Rattle.driver_model.specs.Steps.{own_after}
 use Rattle.driver_model.specs.Commands.{Commanded}
 use Rattle.driver_model.specs.Drivers.{CommandContext, CommandHandler, handler_of}
-use Rattle.driver_model.specs.Replies.{reply_of}
+use Rattle.syscall_abi.specs.Reply.{reply_of}
 use Rattle.driver_model.specs.Laws.{CommandsStayInPlace, StaysInPlace}
 use Rattle.tk_base.specs.declared.process.ProcessId.{ProcessId}
 use Rattle.grant_enter.specs.Homes.{Homes, living, nobody, own_of}

@@ -2,7 +2,7 @@
 use Rattle.std.proofs.Common.{◌≡◌, ◌<◌, ℕ, false, List, length, slice_get, slice_set, slice_index_or, Option, Some}
 use Rattle.std.specs.Prelude.{IfSome}
 use Rattle.rv32_model.specs.declared.turn_end.TurnEnd.{TurnEnd}
-use Rattle.std.proofs.Common.{sym, ap, subst, ◌∙◌, arith}
+use Rattle.std.proofs.Common.{refl, sym, ap, subst, ◌∙◌, arith}
 use Rattle.std.specs.List.{zip}
 use Rattle.std.proofs.lemmas.Option.{get_or_from_slice_get, slice_get-get_or, slice_get_within}
 use Rattle.process_record.specs.declared.process.Process.{Process}
@@ -14,6 +14,8 @@ use Rattle.board_turns.specs.Turning.{ChangesSlot, IsFreeAt, IsKnownEnd, IsKnown
 use Rattle.board_turns.specs.Turning.{TurnsAt, TurnsOn}
 use Rattle.board_turns.specs.Quiet.{QuietAt, Quietly}
 use Rattle.board_drivers.proofs.Pairs.{zip-get}
+use Rattle.board_turns.proofs.Stopped.{same_home}
+use Rattle.board_turns.proofs.Turns.{rests_seated_on}
 
 -- The process in a slot of the tables, which was looked up there: its turns may be made, and what they leave of it is
 -- what they leave of the tables.
@@ -74,6 +76,17 @@ module _ (turns slot index : ℕ) (x : Machine) (processes : List Process) (proc
     seated = leaves.left.seated;
     guard = leaves.guard;
     rest = leaves.rest;
+  }
+
+  -- a turn in which nothing is done
+  pub rested_at : (shown : Shown) → TurnsOn slot x x process process shown
+      → TurnsAt slot x x processes (slice_set processes index process) shown
+  rested_at shown rested = record {
+    at = changed_at x process (same_home slot x.home);
+    turns = rested;
+    seated = rests_seated_on x.home.flash x.moment.steps 1 (resident x.home slot process) may_turn.seated;
+    guard = may.guard;
+    rest = record { moment = refl; alarms = refl; calm = refl; ready = refl };
   }
 
   pub quiet_at : (made : ℕ) (end : TurnEnd) (y : Machine) (after : Process) → LeavesOn made slot x y after

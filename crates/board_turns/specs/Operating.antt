@@ -16,26 +16,26 @@ use Rattle.board_turns.specs.Guards.{GuardsOnly}
 use Rattle.board_turns.specs.Turning.{ChangesSlot, KeepsRest}
 
 -- what the drivers do for a process on which an operator acts
-abbrev pub acts_for : Verb → Process → List BoardRequest
-acts_for verb process = if ends_by verb process then leaving_all else []
+abbrev pub verb_acts : Verb → Process → List BoardRequest
+verb_acts verb process = if ends_by verb process then leaving_all else []
 
 -- what an operator's act does to a process, whatever it has beside
-abbrev pub Operates : Verb → List ℕ → Resident → Resident → Type 0
-Operates verb flash old new =
+abbrev pub OperatesOnResident : Verb → List ℕ → Resident → Resident → Type 0
+OperatesOnResident verb flash old new =
     (beside : Beside) → operated verb (record_in flash old.0 old.1 beside) ≡ record_in flash new.0 new.1 beside
 
 -- what it does on a machine, and what the drivers do for it
 pub record OperatesOn (verb : Verb) (slot : ℕ) (old new : Machine) (process process_after : Process) : Type 0 where
   pub operates :
-      Operates verb old.home.flash (resident old.home slot process) (resident new.home slot process_after)
-  pub drives : Drives (id_of slot (own_of old.home slot)) (acts_for verb process) old.drivers new.drivers
+      OperatesOnResident verb old.home.flash (resident old.home slot process) (resident new.home slot process_after)
+  pub drives : Drives (id_of slot (own_of old.home slot)) (verb_acts verb process) old.drivers new.drivers
 
 -- an act on the process in a slot of the tables, and on no other
 pub record OperatesAt (verb : Verb) (slot : ℕ) (old new : Machine) (processes processes_after : List Process) : Type 0
   where
     pub at : ChangesSlot slot old.home new.home processes processes_after
-    pub operates : Operates verb old.home.flash at.before at.after
-    pub drives : Drives (id_of slot at.before.1) (acts_for verb at.before.0) old.drivers new.drivers
+    pub operates : OperatesOnResident verb old.home.flash at.before at.after
+    pub drives : Drives (id_of slot at.before.1) (verb_acts verb at.before.0) old.drivers new.drivers
     pub seated : IsResident old.home.flash (old.moment.steps + 1) at.after
     pub guard : GuardsOnly new.guard new.home
     pub rest : KeepsRest old new

@@ -13,34 +13,11 @@ ghost use Rattle.board_drivers.specs.Driven.{AreFreeSoon};
 ghost use Rattle.board_turns.specs.Machines.{IsCalmUntil, KeepsAlarms, KeepsOtherAlarms, work_now};
 ghost use Rattle.board_turns.specs.ReadySlots.{NoneBeyond, OtherTurnsTell, TurnsTell};
 
+use crate::after_calls::{may_have_acted, may_have_armed};
 use crate::machine::Machine;
-use kernel_alarms::{may_act, may_arm};
+use crate::ready_slots::can_run;
 use process_record::{Emit, Process};
 use tk_base::{Dev, Slot};
-
-/// Whether the call of a turn, if it showed one, may have asked anything of the devices, changed what
-/// its process keeps for the alarm, or ended a life of it.
-#[inline(always)]
-fn call_may_have_acted(emit: &Emit) -> bool
-    ensures { result ≡ may_have_acted emit.now.made None }
-{
-    match &emit.made {
-        Some(made) => may_act(made),
-        None => false,
-    }
-}
-
-/// Whether the call of a turn, if it showed one, may have changed what its process keeps for the
-/// alarm, or ended a life of it.
-#[inline(always)]
-fn call_may_have_armed(emit: &Emit) -> bool
-    ensures { result ≡ may_have_armed emit.now.made None }
-{
-    match &emit.made {
-        Some(made) => may_arm(made),
-        None => false,
-    }
-}
 
 impl Machine {
     /// Looks again whether the process in a slot can have a turn. It asks that what is kept of all
@@ -53,7 +30,7 @@ impl Machine {
         ensures tell { TurnsTell self.new.ready (zip processes.now self.old.home.owns) }
         ensures rest { self.new ≡ record self.old { ready = self.new.ready } }
     {
-        self.ready.look(&self.home, processes, slot);
+        self.ready.note(slot, can_run(&self.home, processes, slot));
     }
 
     /// The same of every process. It asks that there is one for no other slot.
@@ -97,7 +74,7 @@ impl Machine {
     {
         if emit.denial.is_some() {
             self.alarms.forget(slot);
-        } else if call_may_have_armed(emit) {
+        } else if may_have_armed(emit) {
             self.note_alarm(slot);
         }
     }
@@ -129,7 +106,7 @@ impl Machine {
             → IsCalmUntil self.now self.now.calm }
         ensures { IsCalmUntil self.now result }
     {
-        if call_may_have_acted(emit) {
+        if may_have_acted(emit) {
             return self.look_ahead();
         }
         self.calm

@@ -1,13 +1,11 @@
 //! Device steps on a machine: a device tells one process something.
-ghost use Rattle.std.specs.Prelude.{◌≡◌, ◌<◌, [], true, None, IfOk};
+ghost use Rattle.std.specs.Prelude.{◌≡◌, ◌<◌, [], true};
 ghost use Rattle.tk_base.specs.declared.limits.TheConstants.{STEP_LIMIT};
 ghost use Rattle.board_devices.specs.Clock.{clock_at};
-ghost use Rattle.grant_enter.specs.Homes.{own_of};
-ghost use Rattle.driver_model.specs.Alarm.{alarm_in};
 ghost use Rattle.alarm_capsule.specs.Answers.{AlarmAnswers};
 ghost use Rattle.board_drivers.specs.Calm.{only_of};
-ghost use Rattle.board_drivers.specs.Tells.{Acts, is_alarm, tells_one};
-ghost use Rattle.board_turns.specs.Machines.{IsMachine};
+ghost use Rattle.board_drivers.specs.Tells.{Acts, tells_one};
+ghost use Rattle.board_turns.specs.Machines.{Disarms, IsDisarmed, IsMachine};
 
 use crate::machine::Machine;
 use alarm_capsule::AlarmCapsule;
@@ -26,11 +24,10 @@ impl Machine {
         ensures answers { AlarmAnswers (only_of self.old.moment)
             (clock_at self.old.moment.settings.start self.old.moment.time) self.old.home result
             self.new.home }
-        ensures disarmed { IfOk result
-            (λ answer. alarm_in (own_of self.new.home answer.to.slot) ≡ None) }
+        ensures disarmed { IsDisarmed result self.new.home }
         ensures rest { self.new ≡ record self.old { home = self.new.home } }
     {
-        let only = self.moment.served().only();
+        let only = self.moment.served().only;
         let tick = self.moment.tick();
         AlarmCapsule.answer_by(&mut self.home, &self.alarms, tick, self.moment.time, only)
     }
@@ -51,8 +48,7 @@ impl Machine {
         requires empty { printed.old.items ≡ [] }
         ensures acts { Acts device self.old.moment self.old.home self.old.drivers result
             printed.new.items self.new.home self.new.drivers }
-        ensures disarmed { is_alarm device ≡ true → IfOk result
-            (λ answer. alarm_in (own_of self.new.home answer.to.slot) ≡ None) }
+        ensures disarmed { Disarms device result self.new.home }
         ensures rest { self.new
             ≡ record self.old { home = self.new.home; drivers = self.new.drivers } }
     {
@@ -62,7 +58,7 @@ impl Machine {
         reads_own_flash();
         self.home.held_buffers_lie_in_place();
         let served = self.moment.served();
-        let only = served.only();
+        let only = served.only;
         let lane = served.lane();
         match device {
             Dev::Event => Err(NotReady),

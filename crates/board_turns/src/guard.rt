@@ -1,9 +1,9 @@
 //! The one protection register file.
-ghost use Rattle.std.specs.Prelude.{◌≡◌, ◌<◌, None, length, true};
+ghost use Rattle.std.specs.Prelude.{◌≡◌, ◌<◌, None, length};
 ghost use Rattle.process_layout.specs.Bounds.{bounds_of};
 ghost use Rattle.board_memory.specs.Registers.{Protect};
 ghost use Rattle.grant_enter.specs.Homes.{own_of};
-ghost use Rattle.board_turns.specs.Guards.{GuardsOnly, GuardsOthers, HasSameAccess, IsSetFor};
+ghost use Rattle.board_turns.specs.Guards.{GuardsOnly, GuardsOthers, IsSetFor};
 
 use grant_enter::Home;
 use pmp_regions::Pmp;
@@ -18,17 +18,6 @@ pub struct ActivePmp {
     pub slot: Option<Slot>,
 }
 
-/// Whether two layouts have the same accessible flash and RAM.
-#[inline(always)]
-fn has_same_access(layout: &Layout, before: &Layout) -> bool
-    ensures { result ≡ true → HasSameAccess (bounds_of layout.now) (bounds_of before.now) }
-{
-    let same_flash = layout.flash_start == before.flash_start
-        && layout.flash_end == before.flash_end;
-    let same_ram = layout.start == before.start && layout.brk == before.brk;
-    same_flash && same_ram
-}
-
 impl ActivePmp {
     /// The registers when the board starts: they permit nothing, and are set for no process.
     pub fn new() -> ActivePmp
@@ -41,22 +30,8 @@ impl ActivePmp {
     }
 
     /// Sets the registers for the process in a slot, where they are set for another one or for
-    /// none.
+    /// none, and has its instructions decoded, if they were not yet.
     // Inlined: most turns are those of the slot that had the last one.
-    #[inline(always)]
-    pub fn switch_to(&mut self, home: &Home, slot: Slot)
-        requires slot { slot < length home.now.owns }
-        requires guards { GuardsOnly self.old home.now }
-        ensures { IsSetFor slot self.new home.now }
-    {
-        let set = self.slot;
-        if set != Some(slot) {
-            home.protect(slot, &mut self.pmp);
-            self.slot = Some(slot);
-        }
-    }
-
-    /// The same for a process that is to execute instructions, which are decoded where they were not yet.
     #[inline(always)]
     pub fn bring_in(&mut self, home: &mut Home, slot: Slot)
         requires slot { slot < length home.old.owns }
@@ -64,10 +39,12 @@ impl ActivePmp {
         ensures home { home.new ≡ home.old }
         ensures set { IsSetFor slot self.new home.new }
     {
-        if self.slot != Some(slot) {
+        let set = self.slot;
+        if set != Some(slot) {
             home.decode(slot);
+            home.protect(slot, &mut self.pmp);
+            self.slot = Some(slot);
         }
-        self.switch_to(home, slot);
     }
 
     /// Sets the registers again where they are set for the process in a slot, whose layout may have
@@ -91,7 +68,11 @@ impl ActivePmp {
         ensures slot { self.new.slot ≡ self.old.slot }
         ensures protect { Protect self.new.pmp (own_of home.now slot).layout }
     {
-        if !has_same_access(&home.layout(slot), before) {
+        let layout = home.layout(slot);
+        let same_flash = layout.flash_start == before.flash_start
+            && layout.flash_end == before.flash_end;
+        let same_ram = layout.start == before.start && layout.brk == before.brk;
+        if !(same_flash && same_ram) {
             home.protect(slot, &mut self.pmp);
         }
     }

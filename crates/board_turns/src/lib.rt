@@ -4,6 +4,7 @@
 //! ready.
 #![tactic(auto)]
 
+mod after_calls;
 mod ahead;
 mod devices;
 mod guard;
@@ -17,4 +18,4 @@ mod turn;
 pub use guard::ActivePmp;
 pub use machine::Machine;
 pub use ready_slots::{ReadySlots, can_run};
-pub use turn::{Shown, can_turn};
+pub use turn::Shown;

@@ -2,7 +2,7 @@
 ghost use Rattle.std.specs.Prelude.{◌≡◌, ℕ};
 ghost use Rattle.process_record.specs.Operator.{ends_by};
 ghost use Rattle.board_drivers.specs.Driven.{Drives};
-ghost use Rattle.board_turns.specs.Operating.{OperatesAt, OperatesOn, acts_for};
+ghost use Rattle.board_turns.specs.Operating.{OperatesAt, OperatesOn, verb_acts};
 ghost use Rattle.board_turns.specs.Turning.{LeavesOn, MayTurnAt, MayTurnOn};
 
 use crate::machine::Machine;
@@ -25,7 +25,7 @@ impl Machine {
     /// The process in a slot waits in no list any more, where a verb ends a life of it.
     fn let_go(&mut self, process: &Process, slot: Slot, verb: Verb)
         ensures drives { (life : ℕ) → Drives (record { slot = slot; life = life })
-            (acts_for verb process.now) self.old.drivers self.new.drivers }
+            (verb_acts verb process.now) self.old.drivers self.new.drivers }
         ensures rest { self.new ≡ record self.old { drivers = self.new.drivers } }
     {
         if ends(process, verb) {

@@ -1,8 +1,7 @@
 //! Turns of the process in a slot that only execute an instruction.
 ghost use Rattle.std.specs.Prelude.{◌≡◌, ◌+◌, ◌≤◌};
-ghost use Rattle.board_drivers.specs.Residents.{resident};
-ghost use Rattle.board_turns.specs.Turning.{LeavesOn, MayTurnAt, MayTurnOn};
-ghost use Rattle.board_turns.specs.Quiet.{QuietAt, Quietly};
+ghost use Rattle.board_turns.specs.Turning.{MayTurnAt};
+ghost use Rattle.board_turns.specs.Quiet.{QuietAt};
 
 use crate::machine::Machine;
 use process_record::Process;
@@ -10,26 +9,9 @@ use rv32_step::Stretch;
 use tk_base::Slot;
 
 impl Machine {
-    /// As many turns of the process in a slot as only execute an instruction, at most `most`: how
-    /// many they were, and how the next instruction ends, where it does not go. The registers are
-    /// set, and memory is lent, once for all of them.
-    pub fn take_turns(&mut self, process: &mut Process, slot: Slot, most: u32) -> Stretch
-        requires { MayTurnOn most slot self.old process.old }
-        ensures most { result.went ≤ most }
-        ensures quiet { Quietly result.went most result.end self.old.home.flash
-            (resident self.old.home slot process.old) (resident self.new.home slot process.new) }
-        ensures leaves { LeavesOn result.went slot self.old self.new process.new }
-        ensures drivers { self.new.drivers ≡ self.old.drivers }
-    {
-        self.guard.bring_in(&mut self.home, slot);
-        let made = self
-            .home
-            .instruct_quietly(slot, &self.guard.pmp, &mut process.regs, most);
-        process.turns += made.went;
-        made
-    }
-
-    /// The same of the process at its place in the table.
+    /// As many turns of the process in a slot of the table as only execute an instruction, at most
+    /// `most`: how many they were, and how the next instruction ends, where it does not go. The
+    /// registers are set, and memory is lent, once for all of them.
     pub fn turns_at(&mut self, processes: &mut Vec<Process>, slot: Slot, most: u32) -> Stretch
         requires { MayTurnAt most slot self.old processes.old.items }
         ensures most { result.went ≤ most }
@@ -38,6 +20,11 @@ impl Machine {
         ensures drivers { self.new.drivers ≡ self.old.drivers }
     {
         let process = &mut processes[slot.index()];
-        self.take_turns(process, slot, most)
+        self.guard.bring_in(&mut self.home, slot);
+        let made = self
+            .home
+            .instruct_quietly(slot, &self.guard.pmp, &mut process.regs, most);
+        process.turns += made.went;
+        made
     }
 }

@@ -1,9 +1,7 @@
 //! Which device steps are ready on a machine, and up to when none is.
-ghost use Rattle.std.specs.Prelude.{◌≡◌, ◌+◌, ◌-◌, ◌*◌, ◌<◌, ◌≤◌, ◌^◌, ◌↔◌, IfSome, false};
-ghost use Rattle.std.specs.Prelude.{nat_le, unwrap_or};
-ghost use Rattle.std.specs.Option.{option_map};
+ghost use Rattle.std.specs.Prelude.{◌≡◌, ◌+◌, ◌-◌, ◌*◌, ◌<◌, ◌≤◌, ◌^◌, IfSome};
 ghost use Rattle.tk_base.specs.declared.limits.TheConstants.{STEP_LIMIT};
-ghost use Rattle.board_drivers.specs.Calm.{HasCome, ServesNobody, due_time_for, only_of};
+ghost use Rattle.board_drivers.specs.Calm.{HasCome, ServesNobody, only_of};
 ghost use Rattle.board_drivers.specs.Driven.{AreFreeSoon};
 ghost use Rattle.board_turns.specs.Machines.{IsCalmUntil, KeepsAlarms, work_for_served, work_now};
 
@@ -14,16 +12,6 @@ use driver_model::no_alarm_is_due_before_the_next;
 use partition_turns::windows_are_in_turn;
 use tk_base::Dev;
 
-/// Whether there is a time that has come.
-fn has_come(at: Option<u64>, time: u64) -> bool
-    ensures { result ≡ unwrap_or (option_map (λ at. nat_le at time) at) false }
-{
-    match at {
-        Some(at) => at <= time,
-        None => false,
-    }
-}
-
 impl Machine {
     /// Whether a device step is ready for those who are served: something is to come in; an alarm is
     /// due; a write waits and the UART is free; a read waits and bytes came in; a request for random
@@ -31,7 +19,7 @@ impl Machine {
     // Inlined, as is what finds the next time: the device is known where they are called.
     #[inline(always)]
     #[tactic(auto, using(board_drivers::proofs::Waiting::waits_if_first))]
-    pub fn is_ready_for(&self, served: &Served, device: Dev) -> bool
+    pub fn is_ready(&self, served: &Served, device: Dev) -> bool
         requires { KeepsAlarms self.now }
         ensures { result ≡ (work_for_served self.now served.now).ready device }
     {
@@ -40,76 +28,42 @@ impl Machine {
             Dev::Alarm => {
                 let tick = self.moment.tick();
                 self.alarms
-                    .is_due(&self.home, tick, self.moment.time, served.only())
+                    .due_alarm(&self.home, tick, self.moment.time, served.only)
+                    .is_some()
             }
-            Dev::Uart => has_come(self.drivers.sending_time(served), self.moment.time),
-            Dev::Receive => self.drivers.can_receive(served),
-            Dev::Random => self.drivers.random.waiting.has_one(served.only()),
-            Dev::Store => self.drivers.storage.waiting.has_one(served.only()),
+            Dev::Uart => match self.drivers.sending_time(served) {
+                Some(at) => at <= self.moment.time,
+                None => false,
+            },
+            Dev::Receive => {
+                self.drivers.console.reads.has_one(served.only)
+                    && self.drivers.uarts.held(served.lane()) > 0
+            }
+            Dev::Random => self.drivers.random.waiting.has_one(served.only),
+            Dev::Store => self.drivers.storage.waiting.has_one(served.only),
         }
-    }
-
-    /// Whether a device step is ready ([`Machine::is_ready_for`]) for those who are served now.
-    #[inline(always)]
-    pub fn is_ready(&self, device: Dev) -> bool
-        requires { KeepsAlarms self.now }
-        ensures { result ≡ (work_now self.now).ready device }
-    {
-        self.is_ready_for(&self.moment.served(), device)
-    }
-
-    /// Whether a device is ready that looks neither at the time nor at what processes keep: it acts
-    /// at once.
-    fn is_busy(&self) -> bool
-        requires { KeepsAlarms self.now }
-        ensures { (result ≡ false) ↔ ServesNobody (only_of self.now.moment) self.now.drivers }
-    {
-        self.is_ready(Dev::Receive) || self.is_ready(Dev::Random) || self.is_ready(Dev::Store)
-    }
-
-    /// The time at which the next alarm of those who are served becomes due.
-    #[inline(always)]
-    pub fn due_time(&self, served: &Served) -> Option<u64>
-        requires alarms { KeepsAlarms self.now }
-        requires time { self.now.moment.time + 2 ^ 32 ≤ 2 ^ 64 }
-        ensures at { result ≡ due_time_for self.now.moment served.now self.now.home.owns }
-        ensures near { IfSome result (λ at. at - self.now.moment.time < 2 ^ 32) }
-    {
-        let tick = self.moment.tick();
-        self.moment.after(
-            self.alarms
-                .next_due(&self.home, tick, self.moment.time, served.only()),
-        )
     }
 
     /// The nearest time at which a device step becomes ready by itself for those who are served:
     /// something comes in, an alarm becomes due, or the UART is free for a write that waits. None
     /// exactly where none of these is to come.
     #[inline(always)]
-    pub fn next_time_for(&self, served: &Served) -> Option<u64>
+    pub fn next_time(&self, served: &Served) -> Option<u64>
         requires alarms { KeepsAlarms self.now }
         requires time { self.now.moment.time + 2 ^ 32 ≤ 2 ^ 64 }
         requires free { AreFreeSoon self.now.moment.time self.now.drivers }
         ensures at { result ≡ (work_for_served self.now served.now).next }
         ensures near { IfSome result (λ at. at - self.now.moment.time < 2 ^ 32) }
     {
-        let alarm = self.due_time(served);
+        let (tick, time) = (self.moment.tick(), self.moment.time);
+        let alarm = match self.alarms.next_due(&self.home, tick, time, served.only) {
+            Some(ticks) => Some(time + u64::from(ticks)),
+            None => None,
+        };
         nearer_time(
-            self.drivers.arrival_time(),
+            self.drivers.arrivals.next_time(),
             nearer_time(alarm, self.drivers.sending_time(served)),
         )
-    }
-
-    /// The nearest such time ([`Machine::next_time_for`]) for those who are served now.
-    #[inline(always)]
-    pub fn next_time(&self) -> Option<u64>
-        requires alarms { KeepsAlarms self.now }
-        requires time { self.now.moment.time + 2 ^ 32 ≤ 2 ^ 64 }
-        requires free { AreFreeSoon self.now.moment.time self.now.drivers }
-        ensures at { result ≡ (work_now self.now).next }
-        ensures near { IfSome result (λ at. at - self.now.moment.time < 2 ^ 32) }
-    {
-        self.next_time_for(&self.moment.served())
     }
 
     /// A time up to which no device step is ready: that of the next one, or of the window's end where
@@ -127,10 +81,14 @@ impl Machine {
     {
         no_alarm_is_due_before_the_next();
         windows_are_in_turn();
-        if self.is_busy() {
+        let served = self.moment.served();
+        if self.is_ready(&served, Dev::Receive)
+            || self.is_ready(&served, Dev::Random)
+            || self.is_ready(&served, Dev::Store)
+        {
             return self.moment.time;
         }
-        match nearer_time(self.next_time(), self.moment.window_end()) {
+        match nearer_time(self.next_time(&served), self.moment.window_end()) {
             Some(at) => at,
             None => u64::MAX,
         }

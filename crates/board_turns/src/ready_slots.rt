@@ -4,22 +4,29 @@ ghost use Rattle.std.specs.Prelude.{nat_lt, slice_set};
 ghost use Rattle.std.specs.List.{zip};
 ghost use Rattle.tk_base.specs.declared.limits.TheConstants.{SLOT_COUNT};
 ghost use Rattle.board_drivers.specs.Residents.{can_turn_in};
-ghost use Rattle.board_turns.specs.ReadySlots.{NoneBeyond, OtherTurnsTell, TurnsTell, how_many};
+ghost use Rattle.board_turns.specs.ReadySlots.{NoneBeyond, TurnsTell, how_many};
 
-use crate::turn::can_turn;
 use grant_enter::Home;
-use process_record::Process;
+use process_record::{Process, State};
 use std::marker::Model;
 use tk_base::{SLOT_COUNT, Slot};
 
-/// Whether a slot can have a turn.
+/// Whether the process in a slot can have a turn, if there is one: no operator holds it, and it
+/// runs, or it has yielded and something is due to it.
 pub fn can_run(home: &Home, processes: &[Process], slot: Slot) -> bool
     requires { length home.now.owns ≡ length processes.now }
     ensures { result ≡ can_turn_in (slice_get (zip processes.now home.now.owns) slot) }
 {
-    match processes.get(slot.index()) {
-        Some(process) => can_turn(home, process, slot),
-        None => false,
+    let Some(process) = processes.get(slot.index()) else {
+        return false;
+    };
+    if process.held {
+        return false;
+    }
+    match process.state {
+        State::Running => true,
+        State::Yielded => home.is_due(slot),
+        State::Faulted | State::Terminated(_) => false,
     }
 }
 
@@ -72,7 +79,7 @@ impl ReadySlots {
 
     /// Notes whether the process in a slot can have a turn.
     #[inline(always)]
-    fn note(&mut self, slot: Slot, can: bool)
+    pub(crate) fn note(&mut self, slot: Slot, can: bool)
         ensures there { slot < length self.old }
         ensures noted { self.new ≡ slice_set self.old slot can }
     {
@@ -88,18 +95,8 @@ impl ReadySlots {
         }
     }
 
-    /// Looks again whether the process in a slot can have a turn: after a step in which that may
-    /// have changed. It asks that what is kept of all others holds.
-    #[inline(always)]
-    pub fn look(&mut self, home: &Home, processes: &[Process], slot: Slot)
-        requires owns { length home.now.owns ≡ length processes.now }
-        requires others { OtherTurnsTell slot self.old (zip processes.now home.now.owns) }
-        ensures { TurnsTell self.new (zip processes.now home.now.owns) }
-    {
-        self.note(slot, can_run(home, processes, slot));
-    }
-
-    /// The same of every process. It asks that there is one for no other slot.
+    /// Looks again whether the process in each slot can have a turn. It asks that there is a process
+    /// for no other slot.
     #[inline(never)]
     pub fn look_at_all(&mut self, home: &Home, processes: &[Process])
         requires owns { length home.now.owns ≡ length processes.now }

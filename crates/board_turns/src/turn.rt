@@ -1,5 +1,5 @@
 //! One turn of the process in a slot.
-ghost use Rattle.std.specs.Prelude.{◌≡◌, ◌≢◌, ◌+◌, ◌<◌, [], length, true, false, None, Some};
+ghost use Rattle.std.specs.Prelude.{◌≡◌, ◌+◌, ◌<◌, [], length, true, false, None, Some};
 ghost use Rattle.process_record.specs.declared.process.State.TheVariants.{Running, Yielded};
 ghost use Rattle.process_model.specs.Own.{own_ended};
 ghost use Rattle.process_record.specs.Parts.{after_fault};
@@ -13,13 +13,12 @@ ghost use Rattle.kernel_model.specs.Calls.{restart};
 ghost use Rattle.kernel_model.specs.Turn.{arguments, made};
 ghost use Rattle.kernel_model.specs.Parts.{unknown_call};
 ghost use Rattle.board_turns.specs.Guards.{IsSetFor};
-ghost use Rattle.board_drivers.specs.Residents.{id_of, resident, resident_turns};
+ghost use Rattle.board_drivers.specs.Residents.{id_of, resident};
 ghost use Rattle.board_turns.specs.Turning.{InTurn, InTurnOn, FinishesOn, IsMade, LeavesOn};
 ghost use Rattle.board_turns.specs.Turning.{KeepsRest, LeavesSlot, MayServeOn, MayTurn, MayTurnOn};
 ghost use Rattle.board_turns.specs.Turning.{ServesCallOn, Settles, TurnsOn, next_instruction};
 ghost use Rattle.board_turns.specs.Turning.{nothing_shown, told_in_emit, with_shown, MayTurnAt, ReplyStands};
 ghost use Rattle.board_turns.specs.Turning.{IsFreeAt, IsKnownEnd, IsKnownEndAt, TurnsAt};
-ghost use Rattle.rv32_model.specs.declared.turn_end.TurnEnd.TheVariants.{Went};
 
 use crate::guard::ActivePmp;
 use crate::machine::Machine;
@@ -67,22 +66,6 @@ fn call_shown(before: &Regs, outcome: Outcome, after: &Regs) -> CallMade
         args: arguments_of(before),
         reply,
         rule,
-    }
-}
-
-/// Whether the process in a slot can have a turn: no operator holds it, and it runs, or it has
-/// yielded and something is due to it.
-pub fn can_turn(home: &Home, process: &Process, slot: Slot) -> bool
-    requires { slot < length home.now.owns }
-    ensures { result ≡ resident_turns (resident home.now slot process.now) }
-{
-    if process.held {
-        return false;
-    }
-    match process.state {
-        State::Running => true,
-        State::Yielded => home.is_due(slot),
-        State::Faulted | State::Terminated(_) => false,
     }
 }
 
@@ -140,54 +123,8 @@ fn is_gone(outcome: Outcome) -> bool
     matches!(outcome, Outcome::Ended | Outcome::Again)
 }
 
-/// The next instruction of the process in a slot, which counts as a turn, and is known not to go: so
-/// it leaves registers and memory as they are.
-fn count_instruction(
-    home: &Home,
-    process: &mut Process,
-    guard: &mut ActivePmp,
-    slot: Slot,
-    moment: &Moment,
-)
-    requires turn { MayTurn 1 moment.now slot home.now process.old guard.old }
-    requires runs { process.old.state ≡ Running }
-    requires stops { (next_instruction home.now.flash (resident home.now slot process.old)).end
-        ≢ Went }
-    ensures made { IsMade slot home.now home.now process.old process.new }
-    ensures turn { InTurn moment.now slot home.now process.new }
-    ensures rest { ChangesOnly slot home.now home.now }
-    ensures guard { IsSetFor slot guard.new home.now }
-{
-    stopped_turns_change_nothing();
-    writes_are_listed();
-    guard.switch_to(home, slot);
-    process.count_turn();
-}
-
-/// One instruction of the process in a slot, which counts as a turn.
-fn make_instruction(
-    home: &mut Home,
-    process: &mut Process,
-    guard: &mut ActivePmp,
-    slot: Slot,
-    moment: &Moment,
-) -> TurnEnd
-    requires turn { MayTurn 1 moment.now slot home.old process.old guard.old }
-    requires runs { process.old.state ≡ Running }
-    ensures end { result
-        ≡ (next_instruction home.old.flash (resident home.old slot process.old)).end }
-    ensures made { IsMade slot home.old home.new process.old process.new }
-    ensures turn { InTurn moment.now slot home.new process.new }
-    ensures rest { ChangesOnly slot home.old home.new }
-    ensures guard { IsSetFor slot guard.new home.new }
-{
-    guard.bring_in(home, slot);
-    process.count_turn();
-    home.instruct(slot, &guard.pmp, &mut process.regs)
-}
-
 /// How the next instruction of the process in a slot ends, which counts as a turn. Where it is known
-/// that it does not go, and how it ends, it is not made again.
+/// that it does not go, and how it ends, it is not made: it leaves registers and memory as they are.
 #[inline(always)]
 fn end_instruction(
     home: &mut Home,
@@ -207,12 +144,13 @@ fn end_instruction(
     ensures rest { ChangesOnly slot home.old home.new }
     ensures guard { IsSetFor slot guard.new home.new }
 {
+    stopped_turns_change_nothing();
+    writes_are_listed();
+    guard.bring_in(home, slot);
+    process.count_turn();
     match known {
-        TurnEnd::Went => make_instruction(home, process, guard, slot, moment),
-        TurnEnd::Call | TurnEnd::Trap(_) => {
-            count_instruction(home, process, guard, slot, moment);
-            known
-        }
+        TurnEnd::Went => home.instruct(slot, &guard.pmp, &mut process.regs),
+        TurnEnd::Call | TurnEnd::Trap(_) => known,
     }
 }
 
@@ -371,36 +309,16 @@ impl Machine {
         ensures turns { TurnsOn slot self.old self.new process.old process.new nothing_shown }
         ensures leaves { LeavesOn 1 slot self.old self.new process.new }
     {
-        self.guard.switch_to(&self.home, slot);
+        self.guard.bring_in(&mut self.home, slot);
         if self.home.is_due(slot) {
             process.count_turn();
             deliver(&mut self.home, process, slot);
         }
     }
 
-    /// One turn of the process in a slot, which tells in `emit` what it shows. One that has ended
-    /// has none, and nothing changes. Where it is known how the turn's instruction ends, and it is
-    /// not `Went`, that is not found out again.
-    pub fn take_turn(&mut self, process: &mut Process, slot: Slot, known: TurnEnd, emit: &mut Emit)
-        requires turn { MayTurnOn 1 slot self.old process.old }
-        requires free { process.old.held ≡ false }
-        requires known { IsKnownEnd known self.old.home.flash
-            (resident self.old.home slot process.old) }
-        requires may { MayServeOn slot self.old }
-        requires quiet { told_in_emit emit.old ≡ nothing_shown }
-        ensures turns { TurnsOn slot self.old self.new process.old process.new
-            (told_in_emit emit.new) }
-        ensures leaves { LeavesOn 1 slot self.old self.new process.new }
-        ensures emit { emit.new ≡ with_shown emit.old (told_in_emit emit.new) }
-    {
-        match process.state {
-            State::Running => self.run_on(process, slot, known, emit),
-            State::Yielded => self.wake(process, slot),
-            State::Faulted | State::Terminated(_) => {}
-        }
-    }
-
-    /// The same of the process at its place in the table.
+    /// One turn of the process in a slot of the table, which tells in `emit` what it shows. One that
+    /// has ended has none, and nothing changes. Where it is known how the turn's instruction ends, and
+    /// it is not `Went`, that is not found out again.
     pub fn turn_at(
         &mut self,
         processes: &mut Vec<Process>,
@@ -418,6 +336,10 @@ impl Machine {
         ensures emit { emit.new ≡ with_shown emit.old (told_in_emit emit.new) }
     {
         let process = &mut processes[slot.index()];
-        self.take_turn(process, slot, known, emit);
+        match process.state {
+            State::Running => self.run_on(process, slot, known, emit),
+            State::Yielded => self.wake(process, slot),
+            State::Faulted | State::Terminated(_) => {}
+        }
     }
 }

@@ -14,7 +14,8 @@ use Rattle.board_views.specs.declared.goal.Goal.{Goal}
 use Rattle.board_views.specs.declared.going.Stop.{Stop}
 use Rattle.board_views.specs.declared.searches.Found.{Found}
 use Rattle.board_views.specs.Goals.{before_stop, changed_at, step_stop, stop_after, watched_bytes}
-use Rattle.board_views.specs.Searches.{PassesNothing, Reached, Searched, by_choice, choice_in, finds, goes_on, halts}
+use Rattle.board_views.specs.Searches.{PassesNothing, Reached, Searched, by_choice, choice_in, finds, after_one_step}
+use Rattle.board_views.specs.Searches.{halts}
 use Rattle.board_views.specs.Searches.{kept_after, last_before, search, search_step, seen_after}
 use Rattle.board_views.specs.Searches.{seen_before, stop_before}
 use Rattle.board_views.specs.Searches.{until, until_goal}
@@ -52,19 +53,19 @@ module _ (on : World → Reached) (goal : Goal) (kept : List ℕ) (begun : Bool)
   -- it stops before the step, or after it, or goes on
   by-before : (stop : Stop) → stop_before goal begun w c ≡ Some stop
       → by_choice on goal kept begun w c ≡ record { world = w; stop = stop }
-  by-before stop e = ap (goes_on (goes_on (on (after w c)) (after w c) (step_stop goal kept w c)) w) e
+  by-before stop e = ap (after_one_step (after_one_step (on (after w c)) (after w c) (step_stop goal kept w c)) w) e
 
   by-step : stop_before goal begun w c ≡ None
-      → by_choice on goal kept begun w c ≡ goes_on (on (after w c)) (after w c) (step_stop goal kept w c)
-  by-step e = ap (goes_on (goes_on (on (after w c)) (after w c) (step_stop goal kept w c)) w) e
+      → by_choice on goal kept begun w c ≡ after_one_step (on (after w c)) (after w c) (step_stop goal kept w c)
+  by-step e = ap (after_one_step (after_one_step (on (after w c)) (after w c) (step_stop goal kept w c)) w) e
 
   by-after : (stop : Stop) → stop_before goal begun w c ≡ None → step_stop goal kept w c ≡ Some stop
       → by_choice on goal kept begun w c ≡ record { world = after w c; stop = stop }
-  by-after stop e f = by-step e ∙ ap (goes_on (on (after w c)) (after w c)) f
+  by-after stop e f = by-step e ∙ ap (after_one_step (on (after w c)) (after w c)) f
 
   by-on : stop_before goal begun w c ≡ None → step_stop goal kept w c ≡ None
       → by_choice on goal kept begun w c ≡ on (after w c)
-  by-on e f = by-step e ∙ ap (goes_on (on (after w c)) (after w c)) f
+  by-on e f = by-step e ∙ ap (after_one_step (on (after w c)) (after w c)) f
 
 -- it stops there for this
 stops_there : World → Stop → Reached

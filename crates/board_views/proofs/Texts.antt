@@ -1,11 +1,14 @@
 -- Texts in parts, as loops write them.
-use Rattle.std.proofs.Common.{◌≡◌, ℕ, zero, suc, ◌+◌, ◌-◌, ◌<◌, List, ◌++◌, map, length, take, drop, get_or}
+use Rattle.std.proofs.Common.{◌≡◌, ℕ, zero, suc, ◌+◌, ◌-◌, ◌<◌, List, [], ◌∷◌, ◌++◌, map, length, take, drop}
+use Rattle.std.proofs.Common.{get_or}
 use Rattle.std.proofs.Common.{sym, ap, ◌∙◌, arith, append_assoc, append-nil}
+use Rattle.std.proofs.lemmas.List.{take_more}
+use Rattle.std.proofs.lemmas.List.Concat.{flat_map-append}
 use Rattle.std.proofs.lemmas.List.Folds.{flat_map-map}
 use Rattle.std.specs.List.{flat_map, range_with_len}
 use Rattle.tk_base.specs.declared.process.ProcessId.{ProcessId}
 use Rattle.board_report.proofs.Parts.{texts_around}
-use Rattle.board_views.specs.Places.{word_text}
+use Rattle.board_views.specs.Lines.{word_text}
 
 -- the texts of a range in two parts
 range_texts-add : (f : ℕ → List ℕ) (from n m : ℕ) → flat_map f (range_with_len from (n + m))
@@ -68,3 +71,10 @@ pub element_around : {X : Type 0} (text : X → List ℕ) (xs : List X) (i : ℕ
 element_around {X} text xs i x h e =
     texts_around text xs i x h
     ∙ ap (λ (y : X). flat_map text (take i xs) ++ (text y ++ flat_map text (drop (i + 1) xs))) (sym e)
+
+-- the texts of one element more
+pub element_more : {X : Type 0} (text : X → List ℕ) (xs : List X) (i : ℕ) (d : X) → i < length xs
+    → flat_map text (take (i + 1) xs) ≡ flat_map text (take i xs) ++ text (get_or xs i d)
+element_more {X} text xs i d h =
+    ap (flat_map text) (take_more xs i d h) ∙ flat_map-append text (take i xs) (get_or xs i d ∷ [])
+    ∙ ap (λ (t : List ℕ). flat_map text (take i xs) ++ t) (append-nil (text (get_or xs i d)))

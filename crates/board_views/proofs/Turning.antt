@@ -1,68 +1,101 @@
 -- A board that goes on until a process had so many turns.
-use Rattle.std.proofs.Common.{◌≡◌, ◌≢◌, ℕ, zero, suc, ◌-◌, ◌==◌, ◌<◌, ◌≤◌, min, Bool, true, false, cond, None}
-use Rattle.std.proofs.Common.{refl, sym, ap, ◌∙◌, arith}
-use Rattle.std.proofs.lemmas.Bool.{ne_eqb}
-use Rattle.kernel_model.specs.World.{World}
+use Rattle.std.proofs.Common.{◌≡◌, ℕ, zero, suc, ◌+◌, ◌-◌, ◌<◌, ◌≤◌, nat_le, min, Bool, true, false, cond, Option, None}
+use Rattle.std.proofs.Common.{Some, refl, sym, ap, ◌∙◌, arith}
+use Rattle.std.proofs.lemmas.Bool.Decides.{nat_tests}
+use Rattle.tk_base.specs.declared.process.Choice.{Choice}
+use Rattle.kernel_model.specs.World.{World, after}
 use Rattle.kernel_model.specs.Run.{next, round}
-use Rattle.board_views.specs.Stops.{turned, turns_of, until_turns}
-use Rattle.board_views.proofs.Stretches.{lead-stop}
+use Rattle.board_views.specs.Stops.{turns_of, until_turns}
+use Rattle.board_views.proofs.Stretches.{lead-step, lead-stop, lead-zero}
+use Rattle.board_views.proofs.TurnCounts.{one_turn}
 
--- what is made where so many steps are made at once, and then more
-go_by : (more n slot turns : ℕ) → World → ℕ → World
-go_by more n slot turns w k = cond (k == 0) w (turned more (n - k) slot turns (round k w).world)
+has_them : (turns had : ℕ) → turns ≤ had → nat_le turns had ≡ true
+has_them turns had h = grind (arith, nat_tests)
 
-turned-by : (more n slot turns k : ℕ) (w : World) → k ≡ min n (turns - turns_of w slot)
-    → turned (suc more) n slot turns w ≡ go_by more n slot turns w k
-unfolding turned go_by
-turned-by more n slot turns k w e =
-    ap (λ (j : ℕ). cond (j == 0) w (turned more (n - j) slot turns (round j w).world)) (sym e)
+lacks_some : (turns had : ℕ) → had < turns → nat_le turns had ≡ false
+lacks_some turns had h = grind (arith, nat_tests)
 
-turned-step : (more n slot turns k : ℕ) (w : World) → k ≡ min n (turns - turns_of w slot) → 0 < k
-    → turned (suc more) n slot turns w ≡ turned more (n - k) slot turns (round k w).world
-unfolding go_by
-turned-step more n slot turns k w e h =
-    turned-by more n slot turns k w e
-    ∙ ap (λ (b : Bool). cond b w (turned more (n - k) slot turns (round k w).world)) (ne_eqb k 0 (some k h))
+-- as many turns were had, or no steps are left
+turned-none : (n slot turns : ℕ) (w : World) → min n (turns - turns_of w slot) ≡ 0 → until_turns n slot turns w ≡ w
+unfolding until_turns
+turned-none zero slot turns w z = refl
+turned-none (suc n) slot turns w z =
+    ap (λ (b : Bool). cond b w (until_turns n slot turns (round 1 w).world))
+    (has_them turns (turns_of w slot) (enough n turns (turns_of w slot) z))
   where
-    some : (k : ℕ) → 0 < k → k ≢ 0
-    some k h = λ e. omega (arith, h, e)
+    enough : (n turns had : ℕ) → min (suc n) (turns - had) ≡ 0 → turns ≤ had
+    enough n turns had z = omega (arith, z)
 
-turned-none : (more n slot turns k : ℕ) (w : World) → k ≡ min n (turns - turns_of w slot) → k ≡ 0
-    → turned more n slot turns w ≡ w
-unfolding turned go_by
-turned-none zero n slot turns k w e z = refl
-turned-none (suc more) n slot turns k w e z =
-    turned-by more n slot turns k w e ∙ ap (go_by more n slot turns w) z
+-- fewer were had
+turned-more : (n slot turns : ℕ) (w : World) → turns_of w slot < turns
+    → until_turns (suc n) slot turns w ≡ until_turns n slot turns (round 1 w).world
+unfolding until_turns
+turned-more n slot turns w h =
+    ap (λ (b : Bool). cond b w (until_turns n slot turns (round 1 w).world)) (lacks_some turns (turns_of w slot) h)
 
-turned-over : (more n slot turns : ℕ) (w : World) → next w ≡ None → turned more n slot turns w ≡ w
-unfolding turned go_by
-turned-over zero n slot turns w e = refl
-turned-over (suc more) n slot turns w e =
-    by_test (min n (turns - turns_of w slot)) (min n (turns - turns_of w slot) == 0)
-    (λ k. turned-over more (n - k) slot turns w e)
+turned-over : (n slot turns : ℕ) (w : World) → next w ≡ None → until_turns n slot turns w ≡ w
+unfolding until_turns
+turned-over zero slot turns w e = refl
+turned-over (suc n) slot turns w e = by_test (nat_le turns (turns_of w slot)) (turned-over n slot turns w e)
   where
-    by_test : (k : ℕ) (b : Bool) → ((j : ℕ) → turned more (n - j) slot turns w ≡ w)
-        → cond b w (turned more (n - k) slot turns (round k w).world) ≡ w
-    by_test k true later = refl
-    by_test k false later = ap (turned more (n - k) slot turns) (lead-stop k w e) ∙ later k
+    by_test : (b : Bool) → until_turns n slot turns w ≡ w
+        → cond b w (until_turns n slot turns (round 1 w).world) ≡ w
+    by_test true later = refl
+    by_test false later = ap (until_turns n slot turns) (lead-stop 1 w e) ∙ later
 
--- With so many steps left: it goes on as from the beginning, as often as it may still have to.
+-- a step first, and then so many
+one_then : (k : ℕ) (w : World) → (round k (round 1 w).world).world ≡ (round (suc k) w).world
+one_then k w = by_next (next w) refl
+  where
+    by_next : (o : Option Choice) → next w ≡ o → (round k (round 1 w).world).world ≡ (round (suc k) w).world
+    by_next None e =
+        ap (λ (v : World). (round k v).world) (lead-stop 1 w e) ∙ lead-stop k w e ∙ sym (lead-stop (suc k) w e)
+    by_next (Some c) e =
+        ap (λ (v : World). (round k v).world) (lead-step zero w c e ∙ lead-zero (after w c)) ∙ sym (lead-step k w c e)
+
+-- As many steps may be made at once as turns are wanted still: each gives one at most, so that before the last of them
+-- as many were not had.
+leap : (k m n slot turns : ℕ) (w : World) → m ≡ k + n → k ≤ turns - turns_of w slot
+    → until_turns m slot turns w ≡ until_turns n slot turns (round k w).world
+leap zero m n slot turns w e h =
+    ap (λ (j : ℕ). until_turns j slot turns w) (whole m n e) ∙ ap (until_turns n slot turns) (sym (lead-zero w))
+  where
+    whole : (m n : ℕ) → m ≡ zero + n → m ≡ n
+    whole m n e = omega (arith, e)
+leap (suc k) zero n slot turns w e h = absurd (none k n e)
+  where
+    none : (k n : ℕ) → zero ≡ suc k + n → ⊥
+    none k n e = omega (arith, e)
+leap (suc k) (suc m) n slot turns w e h =
+    turned-more m slot turns w (below k turns (turns_of w slot) h)
+    ∙ leap k m n slot turns (round 1 w).world (rest k m n e)
+    (fewer k turns (turns_of w slot) (turns_of (round 1 w).world slot) h (one_turn w slot))
+    ∙ ap (until_turns n slot turns) (one_then k w)
+  where
+    below : (k turns had : ℕ) → suc k ≤ turns - had → had < turns
+    below k turns had h = omega (arith, h)
+
+    fewer : (k turns had later : ℕ) → suc k ≤ turns - had → later ≤ had + 1 → k ≤ turns - later
+    fewer k turns had later h one = omega (arith, h, one)
+
+    rest : (k m n : ℕ) → suc m ≡ suc k + n → m ≡ k + n
+    rest k m n e = omega (arith, e)
+
+-- With so many steps left it goes on as from the beginning.
 pub record TurnsOn (most slot turns left : ℕ) (from here : World) : Type 0 where
-  pub more : ℕ
-  pub enough : left ≤ more
-  pub leads : until_turns most slot turns from ≡ turned more left slot turns here
+  pub leads : until_turns most slot turns from ≡ until_turns left slot turns here
 
 pub begins : (most slot turns : ℕ) (w : World) → TurnsOn most slot turns most w w
-begins most slot turns w = record { more = most; enough = omega arith; leads = refl }
+begins most slot turns w = record { leads = refl }
 
 module _ {most slot turns left : ℕ} {from here : World} (r : TurnsOn most slot turns left from here) where
   -- as many turns were had
   pub had : (k : ℕ) → k ≡ min left (turns - turns_of here slot) → k ≡ 0 → here ≡ until_turns most slot turns from
-  had k e z = sym (r.leads ∙ turned-none r.more left slot turns k here e z)
+  had k e z = sym (r.leads ∙ turned-none left slot turns here (sym e ∙ z))
 
   -- nothing is left to do
   pub over : next here ≡ None → here ≡ until_turns most slot turns from
-  over e = sym (r.leads ∙ turned-over r.more left slot turns here e)
+  over e = sym (r.leads ∙ turned-over left slot turns here e)
 
   -- no steps are left
   pub none_left : left ≡ 0 → here ≡ until_turns most slot turns from
@@ -74,20 +107,15 @@ module _ {most slot turns left : ℕ} {from here : World} (r : TurnsOn most slot
   -- so many steps more
   pub more_steps : (k : ℕ) (then : World) → k ≡ min left (turns - turns_of here slot) → 0 < k
       → then ≡ (round k here).world → TurnsOn most slot turns (left - k) from then
-  more_steps k then e h f = by_number r.more r.enough r.leads
+  more_steps k then e h f = record {
+    leads = r.leads
+        ∙ leap k left (left - k) slot turns here (parts left k (turns - turns_of here slot) e)
+        (within left k (turns - turns_of here slot) e)
+        ∙ ap (until_turns (left - k) slot turns) (sym f);
+  }
     where
-      by_number : (m : ℕ) → left ≤ m → until_turns most slot turns from ≡ turned m left slot turns here
-          → TurnsOn most slot turns (left - k) from then
-      by_number zero l p = absurd (none left k (turns - turns_of here slot) l e h)
-        where
-          none : (n k m : ℕ) → n ≤ 0 → k ≡ min n m → 0 < k → ⊥
-          none n k m l e h = omega (arith, l, e, h)
-      by_number (suc m) l p = record {
-        more = m;
-        enough = fewer left k m l h;
-        leads = p ∙ turned-step m left slot turns k here e h
-            ∙ ap (turned m (left - k) slot turns) (sym f);
-      }
-        where
-          fewer : (n k m : ℕ) → n ≤ suc m → 0 < k → n - k ≤ m
-          fewer n k m l h = omega (arith, l, h)
+      parts : (n k m : ℕ) → k ≡ min n m → n ≡ k + (n - k)
+      parts n k m e = omega (arith, e)
+
+      within : (n k m : ℕ) → k ≡ min n m → k ≤ m
+      within n k m e = omega (arith, e)

@@ -15,7 +15,7 @@ use Rattle.process_record.specs.declared.process.State.{State}
 use Rattle.process_record.specs.declared.process.State.TheVariants.{Running, Yielded, Faulted, Terminated}
 use Rattle.kernel_model.specs.Shown.{shown_by}
 use Rattle.kernel_model.specs.World.{World, after, labels}
-use Rattle.board_views.specs.Memories.{bytes_at}
+use Rattle.board_views.specs.Memories.{memory_at}
 use Rattle.board_views.specs.declared.goal.Goal.{Goal}
 use Rattle.board_views.specs.declared.goal.Watched.{Watched}
 use Rattle.board_views.specs.declared.going.Stop.{Stop}
@@ -23,7 +23,7 @@ use Rattle.board_views.specs.declared.going.Stop.TheVariants.{Address, Range, Ch
 
 -- the bytes of a watched place; of its slot the last four bits count
 abbrev pub watched_at : World → Watched → List ℕ
-watched_at w place = bytes_at w (place.slot % SLOT_COUNT) place.at place.count
+watched_at w place = memory_at w (place.slot % SLOT_COUNT) place.at place.count
 
 -- those of watched places, one place after another
 abbrev pub watched_bytes : World → List Watched → List ℕ
@@ -40,9 +40,9 @@ changed_at w kept (place ∷ places) =
     else Some place.at)
 
 -- it is at an instruction, and no upcall is delivered first
-abbrev pub is_running : State → Bool
-is_running Running = true
-is_running other = false
+abbrev pub is_at_instruction : State → Bool
+is_at_instruction Running = true
+is_at_instruction other = false
 
 -- the process in a slot
 abbrev pub process_in : World → ℕ → Option Process
@@ -51,7 +51,7 @@ process_in w slot = option_map (λ r. r.process) (slice_get w.records slot)
 -- a process runs, and its pc is one of some addresses
 abbrev pub is_among : List ℕ → Option Process → Bool
 is_among addresses None = false
-is_among addresses (Some p) = is_running p.state && list_any (λ a. a == p.regs.pc) addresses
+is_among addresses (Some p) = is_at_instruction p.state && list_any (λ a. a == p.regs.pc) addresses
 
 -- what stops a goal before the next choice: a turn of any process at one of its addresses
 abbrev pub before_stop : Goal → World → Choice → Option Stop
@@ -64,25 +64,25 @@ before_stop goal w (Pass ticks) = None
 abbrev pub is_past : ℕ → ℕ → ℕ → Bool
 is_past low high pc = nat_lt 0 high && (nat_lt pc low || nat_le high pc)
 
-abbrev pub is_outside : ℕ → ℕ → Option Process → Bool
-is_outside low high None = false
-is_outside low high (Some p) = is_past low high p.regs.pc
+abbrev pub stands_outside : ℕ → ℕ → Option Process → Bool
+stands_outside low high None = false
+stands_outside low high (Some p) = is_past low high p.regs.pc
 
 -- a turn of the goal's process left its area of addresses
 abbrev pub range_stop : Goal → World → Choice → Option Stop
 range_stop goal w (Run slot) =
-    if (slot == goal.slot) && is_outside goal.low goal.high (process_in w goal.slot) then Some Range else None
+    if (slot == goal.slot) && stands_outside goal.low goal.high (process_in w goal.slot) then Some Range else None
 range_stop goal w (Device device) = None
 range_stop goal w (Pass ticks) = None
 
 -- what a step shows that stops a goal: an operator's act on a process; or of a turn of any process a denial, or an
 -- exit, with a0 to a3
-abbrev pub is_exit : CallMade → Bool
-is_exit made = (made.class == 6) && is_none made.reply && is_none made.rule
+abbrev pub shows_exit : CallMade → Bool
+shows_exit made = (made.class == 6) && is_none made.reply && is_none made.rule
 
 abbrev pub exit_stop : ℕ → Option CallMade → Option Stop
 exit_stop slot None = None
-exit_stop slot (Some made) = if is_exit made then Some (Exit slot made.args) else None
+exit_stop slot (Some made) = if shows_exit made then Some (Exit slot made.args) else None
 
 abbrev pub end_stop : ℕ → Option Denial → Option CallMade → Option Stop
 end_stop slot (Some denial) made = Some (Denied slot denial)

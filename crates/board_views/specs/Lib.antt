@@ -1,3 +1,4 @@
+pub mod Lines
 pub mod Memories
 pub mod Places
 pub mod States

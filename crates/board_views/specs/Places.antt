@@ -2,13 +2,13 @@
 use Rattle.std.specs.Prelude.{ℕ, ◌+◌, if◌then◌else◌, List, ◌++◌, codes, decimal, slice_get, Option, None, Some}
 use Rattle.std.specs.List.{flat_map, range_with_len}
 use Rattle.tk_base.specs.Regs.{Registers, register}
-use Rattle.tk_outside.specs.Text.{hex_digits}
 use Rattle.process_record.specs.declared.process.Process.{Process}
 use Rattle.process_record.specs.declared.process.State.{State}
 use Rattle.process_record.specs.declared.process.State.TheVariants.{Running, Yielded, Faulted, Terminated}
 use Rattle.kernel_model.specs.Record.{Record}
 use Rattle.kernel_model.specs.World.{World}
 use Rattle.board_report.specs.Words.{newline}
+use Rattle.board_views.specs.Lines.{word_text}
 
 -- the word of what a process does that is not held
 abbrev pub own_state_word : State → List ℕ
@@ -18,12 +18,8 @@ own_state_word Faulted = codes "faulted"
 own_state_word (Terminated code) = codes "terminated"
 
 -- and of one that an operator holds
-abbrev pub state_word : Process → List ℕ
-state_word p = if p.held then codes "held" else own_state_word p.state
-
--- a word in eight digits of base 16, after a blank
-abbrev pub word_text : ℕ → List ℕ
-word_text word = codes " " ++ hex_digits 8 word
+abbrev pub place_word : Process → List ℕ
+place_word p = if p.held then codes "held" else own_state_word p.state
 
 -- x1 to x31
 abbrev pub registers_shown : Registers → List ℕ
@@ -34,7 +30,7 @@ unfoldable pub place_text : ℕ → ℕ → ℕ → Process → List ℕ
 place_text steps time slot p =
     (codes "at " ++ (decimal steps ++ (codes " " ++ (decimal time ++ (codes " " ++ (decimal slot
     ++ (codes " " ++ (decimal p.turns ++ (codes " " ++ (decimal p.restarts ++ codes " "))))))))))
-    ++ (state_word p ++ (word_text p.regs.pc ++ (registers_shown p.regs ++ newline)))
+    ++ (place_word p ++ (word_text p.regs.pc ++ (registers_shown p.regs ++ newline)))
 
 -- that of a slot, by its record, if it has one
 abbrev pub at_record : World → ℕ → Option Record → List ℕ

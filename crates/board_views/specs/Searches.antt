@@ -28,9 +28,9 @@ abbrev pub halts : World → Reached
 halts w = record { world = w; stop = stop_at w }
 
 -- it goes on after a step, unless that stops it
-abbrev pub goes_on : Reached → World → Option Stop → Reached
-goes_on later w None = later
-goes_on later w (Some stop) = record { world = w; stop = stop }
+abbrev pub after_one_step : Reached → World → Option Stop → Reached
+after_one_step later w None = later
+after_one_step later w (Some stop) = record { world = w; stop = stop }
 
 -- what stops it before a step, but for the first one
 abbrev pub stop_before : Goal → Bool → World → Choice → Option Stop
@@ -39,7 +39,7 @@ stop_before goal begun w choice = if begun then before_stop goal w choice else N
 -- with a choice: it stops before the step, or the step is made
 abbrev pub by_choice : (World → Reached) → Goal → List ℕ → Bool → World → Choice → Reached
 by_choice on goal kept begun w choice =
-    goes_on (goes_on (on (after w choice)) (after w choice) (step_stop goal kept w choice)) w
+    after_one_step (after_one_step (on (after w choice)) (after w choice) (step_stop goal kept w choice)) w
     (stop_before goal begun w choice)
 
 -- At most n steps are made, until one is before an address of the goal or stops it. The bytes that were watched are

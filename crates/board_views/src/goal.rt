@@ -2,12 +2,12 @@
 ghost use Rattle.std.specs.Prelude.{◌≡◌, ◌==◌, ◌++◌, OnOk};
 ghost use Rattle.std.specs.List.{list_any};
 ghost use Rattle.std.specs.Str.{bytes_eq};
-ghost use Rattle.board_views.specs.Goals.{before_stop, changed_at, end_stop, exit_stop, is_among, is_exit};
-ghost use Rattle.board_views.specs.Goals.{is_outside, is_past, is_running, range_stop, shown_stop, stop_after};
+ghost use Rattle.board_views.specs.Goals.{before_stop, changed_at, end_stop, exit_stop, is_among, shows_exit};
+ghost use Rattle.board_views.specs.Goals.{stands_outside, is_past, is_at_instruction, range_stop, shown_stop, stop_after};
 ghost use Rattle.board_views.specs.Goals.{watched_at, watched_bytes};
 
 use crate::going::Stop;
-use crate::memory::bytes_at;
+use crate::memory::memory_at;
 use arrayvec::ArrayVec;
 use board_core::Board;
 use process_record::{CallMade, Emit, Process, State};
@@ -51,7 +51,7 @@ fn watched_at(board: &Board, place: Watched) -> &[u8]
     ensures { result.now ≡ watched_at board.now place }
 {
     let slot = Slot::new(place.slot as usize % SLOT_COUNT);
-    bytes_at(board, slot, place.at, place.count)
+    memory_at(board, slot, place.at, place.count)
 }
 
 /// Adds the bytes of watched places.
@@ -110,8 +110,8 @@ pub fn change_of(board: &Board, goal: &Goal, kept: &[u8]) -> Option<u32>
 }
 
 /// Whether a process is at an instruction.
-fn is_running(state: State) -> bool
-    ensures { result ≡ is_running state }
+fn is_at_instruction(state: State) -> bool
+    ensures { result ≡ is_at_instruction state }
 {
     match state {
         State::Running => true,
@@ -134,7 +134,7 @@ fn is_among(addresses: &[u32], process: &Option<Process>) -> bool
     ensures { result ≡ is_among addresses.now process.now }
 {
     match process {
-        Some(process) => is_running(process.state) && has(addresses, process.regs.pc()),
+        Some(process) => is_at_instruction(process.state) && has(addresses, process.regs.pc()),
         None => false,
     }
 }
@@ -163,8 +163,8 @@ fn is_past(low: u32, high: u32, pc: u32) -> bool
 }
 
 /// Whether a process is outside of an area.
-fn is_outside(low: u32, high: u32, process: &Option<Process>) -> bool
-    ensures { result ≡ is_outside low high process.now }
+fn stands_outside(low: u32, high: u32, process: &Option<Process>) -> bool
+    ensures { result ≡ stands_outside low high process.now }
 {
     match process {
         Some(process) => is_past(low, high, process.regs.pc()),
@@ -178,7 +178,9 @@ fn range_stop(board: &Board, goal: &Goal, choice: &Choice) -> Option<Stop>
 {
     match choice {
         Choice::Run(slot) => {
-            if *slot == goal.slot && is_outside(goal.low, goal.high, &board.process(goal.slot)) {
+            if *slot == goal.slot
+                && stands_outside(goal.low, goal.high, &board.process(goal.slot))
+            {
                 Some(Stop::Range)
             } else {
                 None
@@ -189,8 +191,8 @@ fn range_stop(board: &Board, goal: &Goal, choice: &Choice) -> Option<Stop>
 }
 
 /// Whether a call is an exit that was made.
-fn is_exit(made: &CallMade) -> bool
-    ensures { result ≡ is_exit made.now }
+fn shows_exit(made: &CallMade) -> bool
+    ensures { result ≡ shows_exit made.now }
 {
     made.class == EXIT_CLASS && made.reply.is_none() && made.rule.is_none()
 }
@@ -201,7 +203,7 @@ fn exit_stop(slot: Slot, made: &Option<CallMade>) -> Option<Stop>
 {
     match made {
         Some(made) => {
-            if is_exit(made) {
+            if shows_exit(made) {
                 Some(Stop::Exit {
                     slot,
                     words: made.args,

@@ -3,6 +3,8 @@
 
 mod goal;
 mod going;
+mod grants;
+mod lines;
 mod memory;
 mod place;
 mod searches;

@@ -2,7 +2,8 @@
 ghost use Rattle.std.specs.Prelude.{◌≡◌};
 ghost use Rattle.tk_outside.specs.Writes.{Writes};
 ghost use Rattle.board_report.specs.Parts.{bytes_text};
-ghost use Rattle.board_views.specs.Memories.{bytes_at, cut_at, line_text, memory_text, storage_text};
+ghost use Rattle.board_views.specs.Lines.{line_text};
+ghost use Rattle.board_views.specs.Memories.{memory_at, cut_at, memory_text, storage_text};
 ghost use Rattle.board_views.specs.Memories.{stored_at};
 
 use board_core::Board;
@@ -27,9 +28,9 @@ fn cut_at(start: u32, block: &[u8], at: u32, count: u32) -> &[u8]
 }
 
 /// So many bytes of the block of a slot, from an address on.
-#[tactic(auto, unfolding(crate::specs::Memories::bytes_at))]
-pub(crate) fn bytes_at(board: &Board, slot: Slot, at: u32, count: u32) -> &[u8]
-    ensures { result.now ≡ bytes_at board.now slot at count }
+#[tactic(auto, unfolding(crate::specs::Memories::memory_at))]
+pub(crate) fn memory_at(board: &Board, slot: Slot, at: u32, count: u32) -> &[u8]
+    ensures { result.now ≡ memory_at board.now slot at count }
 {
     let Some(layout) = board.layout(slot) else {
         return &[];
@@ -52,9 +53,9 @@ fn write_bytes<K: Sink>(out: &mut K, bytes: &[u8]) -> Result<(), Failed>
 }
 
 /// Writes a line: what it tells, and bytes, each in two digits of base 16.
-#[tactic(auto, unfolding(crate::specs::Memories::line_text))]
-fn write_line<K: Sink>(out: &mut K, name: &[u8], bytes: &[u8]) -> Result<(), Failed>
-    ensures { Writes K.tells out.old out.new (line_text name.now bytes.now) result }
+#[tactic(auto, unfolding(crate::specs::Lines::line_text))]
+fn write_bytes_line<K: Sink>(out: &mut K, name: &[u8], bytes: &[u8]) -> Result<(), Failed>
+    ensures { Writes K.tells out.old out.new (line_text name.now (bytes_text bytes.now)) result }
 {
     writes_compose::<K>();
     put_all(out, name)?;
@@ -76,7 +77,7 @@ pub fn write_memory<K: Sink>(
 ) -> Result<(), Failed>
     ensures { Writes K.tells out.old out.new (memory_text board.now slot at count) result }
 {
-    write_line(out, b"memory ", bytes_at(board, slot, at, count))
+    write_bytes_line(out, b"memory ", memory_at(board, slot, at, count))
 }
 
 /// So many bytes of the storage of a slot, from one on; none where they are not all there.
@@ -103,5 +104,5 @@ pub fn write_storage<K: Sink>(
 ) -> Result<(), Failed>
     ensures { Writes K.tells out.old out.new (storage_text board.now slot at count) result }
 {
-    write_line(out, b"storage ", stored_at(board, slot, at, count))
+    write_bytes_line(out, b"storage ", stored_at(board, slot, at, count))
 }

@@ -2,18 +2,18 @@
 ghost use Rattle.std.specs.Prelude.{◌≡◌};
 ghost use Rattle.tk_outside.specs.Writes.{Writes};
 ghost use Rattle.board_views.specs.Parts.{place_head};
-ghost use Rattle.board_views.specs.Places.{at_text, place_text, registers_shown, state_word};
-ghost use Rattle.board_views.specs.Places.{word_text};
+ghost use Rattle.board_views.specs.Places.{at_text, place_text, registers_shown, place_word};
 
+use crate::lines::write_word;
 use board_core::Board;
 use itoa::Buffer;
 use process_record::{Process, State};
 use tk_base::{Regs, Slot};
-use tk_outside::{Failed, Sink, hex_text, put_all, put_pieces, writes_compose};
+use tk_outside::{Failed, Sink, put_all, put_pieces, writes_compose};
 
 /// The word of the state of a process.
-fn state_word(process: &Process) -> &'static [u8]
-    ensures { result.now ≡ state_word process.now }
+fn place_word(process: &Process) -> &'static [u8]
+    ensures { result.now ≡ place_word process.now }
 {
     if process.held {
         return b"held";
@@ -24,13 +24,6 @@ fn state_word(process: &Process) -> &'static [u8]
         State::Faulted => b"faulted",
         State::Terminated(_) => b"terminated",
     }
-}
-
-/// Writes a word in base 16, after a blank.
-pub fn write_word<K: Sink>(out: &mut K, word: u32) -> Result<(), Failed>
-    ensures { Writes K.tells out.old out.new (word_text word) result }
-{
-    put_pieces(out, &[b" ", &hex_text(word)])
 }
 
 /// Writes x1 to x31.
@@ -90,7 +83,7 @@ fn write_place<K: Sink>(
 {
     writes_compose::<K>();
     write_head(out, steps, time, slot, process)?;
-    put_all(out, state_word(process))?;
+    put_all(out, place_word(process))?;
     write_word(out, process.regs.pc())?;
     write_registers(out, &process.regs)?;
     put_all(out, b"\n")

@@ -1,44 +1,21 @@
 //! All that there is to see of a board.
 ghost use Rattle.std.specs.Prelude.{◌≡◌};
-ghost use Rattle.std.specs.List.{flat_map};
 ghost use Rattle.tk_outside.specs.Writes.{Writes};
 ghost use Rattle.run_text.specs.Parts.{run_end_of};
-ghost use Rattle.board_views.specs.Places.{word_text};
-ghost use Rattle.board_views.specs.States.{breaks_text, denial_words, ends_text, lies_text, line_text};
+ghost use Rattle.board_views.specs.States.{breaks_text, denial_words, ends_text, lies_text};
 ghost use Rattle.board_views.specs.States.{pending_text, refused_text, seen_text, slot_state};
-ghost use Rattle.board_views.specs.States.{slots_state, state_text, upcall_words};
+ghost use Rattle.board_views.specs.States.{slots_state, board_state_text, upcall_words};
 
-use crate::place::{write_at, write_word};
+use crate::grants::write_grants;
+use crate::lines::write_slot_line;
+use crate::place::write_at;
 use crate::waits::write_queues;
 use board_core::Board;
 use board_report::{End, write_report};
 use process_layout::Layout;
 use process_record::{Process, RecordedRefusal};
 use tk_base::{Denial, SLOT_COUNT, Slot, Upcall};
-use tk_outside::{Failed, Sink, put_all, put_number, writes_compose};
-
-/// Writes words of base 16, each after a blank.
-pub(crate) fn write_words<K: Sink>(out: &mut K, words: &[u32]) -> Result<(), Failed>
-    ensures { Writes K.tells out.old out.new (flat_map word_text words.now) result }
-{
-    writes_compose::<K>();
-    for word in words {
-        write_word(out, *word)?;
-    }
-    Ok(())
-}
-
-/// Writes a line: what it tells, the slot, and words.
-#[tactic(auto, unfolding(crate::specs::States::line_text))]
-fn write_line<K: Sink>(out: &mut K, name: &[u8], slot: Slot, words: &[u32]) -> Result<(), Failed>
-    ensures { Writes K.tells out.old out.new (line_text name.now slot words.now) result }
-{
-    writes_compose::<K>();
-    put_all(out, name)?;
-    put_number(out, slot.index() as u64)?;
-    write_words(out, words)?;
-    put_all(out, b"\n")
-}
+use tk_outside::{Failed, Sink, writes_compose};
 
 /// Writes where a process lies.
 #[tactic(auto, unfolding(crate::specs::States::lies_text))]
@@ -51,19 +28,19 @@ fn write_lies<K: Sink>(
     ensures { Writes K.tells out.old out.new (lies_text slot process.now layout.now) result }
 {
     writes_compose::<K>();
-    write_line(
+    write_slot_line(
         out,
         b"object ",
         slot,
         &[process.object.address, process.object.size],
     )?;
-    write_line(
+    write_slot_line(
         out,
         b"flash ",
         slot,
         &[layout.flash_start, layout.flash_end],
     )?;
-    write_line(out, b"block ", slot, &[layout.start, layout.end])
+    write_slot_line(out, b"block ", slot, &[layout.start, layout.end])
 }
 
 /// Writes its break, its kernel break, and pc.
@@ -77,9 +54,9 @@ fn write_breaks<K: Sink>(
     ensures { Writes K.tells out.old out.new (breaks_text slot process.now layout.now) result }
 {
     writes_compose::<K>();
-    write_line(out, b"break ", slot, &[layout.brk])?;
-    write_line(out, b"kernel-break ", slot, &[layout.kernel_break])?;
-    write_line(out, b"pc ", slot, &[process.regs.pc()])
+    write_slot_line(out, b"break ", slot, &[layout.brk])?;
+    write_slot_line(out, b"kernel-break ", slot, &[layout.kernel_break])?;
+    write_slot_line(out, b"pc ", slot, &[process.regs.pc()])
 }
 
 /// The words of the last denial.
@@ -102,7 +79,7 @@ fn write_refused<K: Sink>(
 {
     writes_compose::<K>();
     match refusal {
-        Some(refusal) => write_line(out, b"refused-at ", slot, &[refusal.address]),
+        Some(refusal) => write_slot_line(out, b"refused-at ", slot, &[refusal.address]),
         None => Ok(()),
     }
 }
@@ -113,7 +90,7 @@ fn write_ends<K: Sink>(out: &mut K, slot: Slot, process: &Process) -> Result<(),
     ensures { Writes K.tells out.old out.new (ends_text slot process.now) result }
 {
     writes_compose::<K>();
-    write_line(out, b"denied ", slot, &denial_words(&process.denial))?;
+    write_slot_line(out, b"denied ", slot, &denial_words(&process.denial))?;
     write_refused(out, slot, &process.refusal)
 }
 
@@ -139,12 +116,12 @@ fn write_pending<K: Sink>(out: &mut K, slot: Slot, upcalls: &[Upcall]) -> Result
 {
     writes_compose::<K>();
     for upcall in upcalls {
-        write_line(out, b"pending ", slot, &upcall_words(upcall))?;
+        write_slot_line(out, b"pending ", slot, &upcall_words(upcall))?;
     }
     Ok(())
 }
 
-/// Writes all lines of a process.
+/// Writes the lines of a process, but for its grants.
 #[tactic(auto, unfolding(crate::specs::States::seen_text))]
 fn write_seen<K: Sink>(
     out: &mut K,
@@ -179,6 +156,7 @@ fn write_slot_state<K: Sink>(board: &Board, slot: Slot, out: &mut K) -> Result<(
         return Ok(());
     };
     write_seen(out, slot, &process, &layout, upcalls)?;
+    write_grants(board, slot, out)?;
     write_at(board, slot, out)
 }
 
@@ -206,10 +184,10 @@ fn end_of(board: &Board) -> End
 
 /// Writes the report, who waits for each device, and of each slot with a process its lines: where it
 /// lies, its breaks, pc, its last denial, where it made its last refused call, the upcalls that wait,
-/// and where it is. It fails where the sink does.
-#[tactic(auto, unfolding(crate::specs::States::state_text))]
+/// its grants, and where it is. It fails where the sink does.
+#[tactic(auto, unfolding(crate::specs::States::board_state_text))]
 pub fn write_board_state<K: Sink>(board: &Board, out: &mut K) -> Result<(), Failed>
-    ensures { Writes K.tells out.old out.new (state_text board.now) result }
+    ensures { Writes K.tells out.old out.new (board_state_text board.now) result }
 {
     writes_compose::<K>();
     write_report(&board.summary(), end_of(board), out)?;

@@ -1,24 +1,22 @@
 //! The lines that tell why a board stopped.
 ghost use Rattle.std.specs.Prelude.{◌≡◌, ◌∷◌, codes};
 ghost use Rattle.tk_outside.specs.Writes.{Writes};
-ghost use Rattle.board_views.specs.StopLines.{found_text, stop_text, told_text};
+ghost use Rattle.board_views.specs.StopLines.{found_text, stop_text, line_of_stop};
 
 use crate::going::Stop;
+use crate::lines::write_line;
 use crate::searches::Found;
-use crate::state::write_words;
 use tk_base::Slot;
 use tk_outside::{Failed, Sink, put_all, put_number, writes_compose};
 
-/// Writes why a board stopped, and words of base 16.
-#[tactic(auto, unfolding(crate::specs::StopLines::told_text))]
+/// Writes why a board stopped, and words.
+#[tactic(auto, unfolding(crate::specs::StopLines::line_of_stop))]
 fn write_told<K: Sink>(out: &mut K, why: &[u8], words: &[u32]) -> Result<(), Failed>
-    ensures { Writes K.tells out.old out.new (told_text why.now words.now) result }
+    ensures { Writes K.tells out.old out.new (line_of_stop why.now words.now) result }
 {
     writes_compose::<K>();
     put_all(out, b"stop ")?;
-    put_all(out, why)?;
-    write_words(out, words)?;
-    put_all(out, b"\n")
+    write_line(out, why, words)
 }
 
 /// The number of a slot.
@@ -30,7 +28,7 @@ fn slot_word(slot: Slot) -> u32
 
 /// Writes that a process made an exit.
 fn write_exit<K: Sink>(slot: Slot, words: [u32; 4], out: &mut K) -> Result<(), Failed>
-    ensures { Writes K.tells out.old out.new (told_text (codes "exit") (slot ∷ words)) result }
+    ensures { Writes K.tells out.old out.new (line_of_stop (codes "exit") (slot ∷ words)) result }
 {
     let [first, second, third, fourth] = words;
     write_told(

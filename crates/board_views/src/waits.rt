@@ -1,11 +1,11 @@
 //! The lines that tell who waits for a device.
 ghost use Rattle.std.specs.Prelude.{◌≡◌, map};
-ghost use Rattle.std.specs.List.{flat_map};
+ghost use Rattle.board_state.specs.Looks.{waiting_for};
 ghost use Rattle.tk_outside.specs.Writes.{Writes};
-ghost use Rattle.board_views.specs.Places.{word_text};
+ghost use Rattle.board_views.specs.Lines.{word_text, words_text};
 ghost use Rattle.board_views.specs.States.{queues_text, waits_text};
 
-use crate::place::write_word;
+use crate::lines::write_word;
 use board_core::{Board, Waiting};
 use tk_base::Dev;
 use tk_outside::{Failed, Sink, put_all, writes_compose};
@@ -20,7 +20,7 @@ fn write_slot<K: Sink>(out: &mut K, process: &Waiting) -> Result<(), Failed>
 /// Writes the slots of processes.
 fn write_waiting<K: Sink>(out: &mut K, waiting: &[Waiting]) -> Result<(), Failed>
     ensures { Writes K.tells out.old out.new
-        (flat_map (λ id. word_text id.slot) waiting.now) result }
+        (words_text (map (λ id. id.slot) waiting.now)) result }
 {
     writes_compose::<K>();
     for process in waiting {
@@ -30,7 +30,7 @@ fn write_waiting<K: Sink>(out: &mut K, waiting: &[Waiting]) -> Result<(), Failed
 }
 
 /// Writes a line: what processes wait for, and their slots.
-#[tactic(auto, unfolding(crate::specs::States::waits_text))]
+#[tactic(auto, unfolding(crate::specs::Lines::line_text))]
 fn write_waits<K: Sink>(out: &mut K, name: &[u8], waiting: &[Waiting]) -> Result<(), Failed>
     ensures { Writes K.tells out.old out.new
         (waits_text name.now (map (λ id. id.slot) waiting.now)) result }
@@ -41,14 +41,22 @@ fn write_waits<K: Sink>(out: &mut K, name: &[u8], waiting: &[Waiting]) -> Result
     put_all(out, b"\n")
 }
 
-/// Writes who waits for each device for which processes wait, the one that waits longest first.
+/// Writes who waits for a device, the one that waits longest first.
+fn write_queue<K: Sink>(board: &Board, name: &[u8], device: Dev, out: &mut K) -> Result<(), Failed>
+    ensures { Writes K.tells out.old out.new
+        (waits_text name.now (waiting_for board.now.devices device)) result }
+{
+    write_waits(out, name, board.waiting(device))
+}
+
+/// Writes who waits for each device for which processes wait.
 #[tactic(auto, unfolding(crate::specs::States::queues_text))]
 pub(crate) fn write_queues<K: Sink>(board: &Board, out: &mut K) -> Result<(), Failed>
     ensures { Writes K.tells out.old out.new (queues_text board.now) result }
 {
     writes_compose::<K>();
-    write_waits(out, b"waits uart", board.waiting(Dev::Uart))?;
-    write_waits(out, b"waits receive", board.waiting(Dev::Receive))?;
-    write_waits(out, b"waits random", board.waiting(Dev::Random))?;
-    write_waits(out, b"waits store", board.waiting(Dev::Store))
+    write_queue(board, b"waits uart", Dev::Uart, out)?;
+    write_queue(board, b"waits receive", Dev::Receive, out)?;
+    write_queue(board, b"waits random", Dev::Random, out)?;
+    write_queue(board, b"waits store", Dev::Store, out)
 }

@@ -6,14 +6,13 @@ ghost use Rattle.syscall_abi.specs.declared.reply.Reply.TheVariants.{Success, Su
 ghost use Rattle.process_model.specs.Own.{Own};
 ghost use Rattle.grant_enter.specs.Homes.{own_of, ChangesOnly};
 ghost use Rattle.driver_requests.specs.Asking.{IsPresent};
-ghost use Rattle.driver_model.specs.Commands.{accepting};
-ghost use Rattle.driver_model.specs.Buttons.{command, enabling, of_button, set_enabled};
-ghost use Rattle.button_capsule.specs.Answers.{ButtonsReply, as_commanded};
+ghost use Rattle.driver_model.specs.Commands.{accepting, as_commanded, by_number};
+ghost use Rattle.driver_model.specs.Buttons.{commands, enabling, of_button, set_enabled};
+ghost use Rattle.driver_model.specs.Replies.{RepliesAlone};
 
 use crate::visits::{Enable, button_grants};
-use driver_model::reply_of;
 use grant_enter::Home;
-use syscall_abi::Reply;
+use syscall_abi::{Reply, reply_of};
 use tk_base::{CallRule, ProcessId, has_bit};
 
 /// Has a process be told of a button from now on; it is refused where there is none of that number,
@@ -67,7 +66,7 @@ fn state_of(pressed: u32, count: u32, button: u32) -> Result<Reply, CallRule>
 
 /// A command of the process of an id to so many buttons, of which those of a mask are pressed: the
 /// reply, or the rule that refuses it.
-#[tactic(auto, unfolding(driver_model::specs::Buttons::command, driver_model::specs::Buttons::commands))]
+#[tactic(auto, unfolding(driver_model::specs::Buttons::commands))]
 fn obey(
     home: &mut Home,
     id: ProcessId,
@@ -79,7 +78,7 @@ fn obey(
     requires present { IsPresent home.old id }
     requires count { count ≤ BUTTON_LIMIT }
     ensures answer { as_commanded result (own_of home.new id.slot)
-        ≡ command count pressed number a2 (own_of home.old id.slot) }
+        ≡ by_number (commands count pressed a2) number (own_of home.old id.slot) }
     ensures rest { ChangesOnly id.slot home.old home.new }
 {
     match number {
@@ -112,7 +111,7 @@ pub fn command(
 ) -> (Reply, Option<CallRule>)
     requires present { IsPresent home.old id }
     requires count { count ≤ BUTTON_LIMIT }
-    ensures answer { ButtonsReply (command count pressed number a2 (own_of home.old id.slot))
+    ensures answer { RepliesAlone (by_number (commands count pressed a2) number (own_of home.old id.slot))
         result (own_of home.new id.slot) }
     ensures rest { ChangesOnly id.slot home.old home.new }
 {

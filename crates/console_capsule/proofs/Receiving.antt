@@ -1,11 +1,11 @@
 -- Bytes that were moved to a read.
-use Rattle.std.proofs.Common.{◌≡◌, ℕ, ◌==◌, ◌-◌, min, Bool, true, false, cond, List, drop, length, take, Option, None}
-use Rattle.std.proofs.Common.{Some, option_map, unwrap_or, ap, arith, ◌∙◌}
+use Rattle.std.proofs.Common.{◌≡◌, ℕ, ◌==◌, ◌-◌, min, Bool, true, false, cond, List, [], drop, length, take, Option}
+use Rattle.std.proofs.Common.{None, Some, option_map, unwrap_or, ap, arith, ◌∙◌}
 use Rattle.std.proofs.lemmas.List.{length-drop, length-take, take_min}
 use Rattle.grant_values.specs.declared.console.WaitingRead.{WaitingRead}
 use Rattle.process_model.specs.Own.{Own}
-use Rattle.driver_model.specs.Requests.{request_in}
-use Rattle.driver_model.specs.Console.{Received, console_reads, received, receiving, unreceived}
+use Rattle.driver_model.specs.Requests.{RequestAnswered, request_in, unanswered}
+use Rattle.driver_model.specs.Console.{console_reads, received, receiving}
 use Rattle.driver_requests.specs.Asking.{in_life}
 
 counted : (k n taken left : ℕ) → taken ≡ min k n → left ≡ n - taken → n - left ≡ min k n
@@ -20,15 +20,15 @@ taken k ring =
 
 -- those of a read are
 pub moved : (life : ℕ) (ring : List ℕ) (own : Own)
-    → let bytes = (in_life life own (received ring own) (unreceived own)).moved in
+    → let bytes = (in_life life own (received ring own) (unanswered [] own)).moved in
     take (length ring - length (drop (length bytes) ring)) ring ≡ bytes
 unfolding received
 moved life ring own = by_tests (own.life == life) own.lives (request_in console_reads own)
   where
-    answer : Bool → Bool → Option WaitingRead → Received
+    answer : Bool → Bool → Option WaitingRead → RequestAnswered (List ℕ)
     answer same lives request =
-        cond same (unwrap_or (option_map (receiving ring own) (cond lives request None)) (unreceived own))
-        (unreceived own)
+        cond same (unwrap_or (option_map (receiving ring own) (cond lives request None)) (unanswered [] own))
+        (unanswered [] own)
 
     by_tests : (same lives : Bool) (request : Option WaitingRead)
         → take (length ring - length (drop (length (answer same lives request).moved) ring)) ring

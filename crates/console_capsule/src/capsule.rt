@@ -1,24 +1,22 @@
 //! The console, and who waits for it.
 ghost use Rattle.std.specs.Prelude.{◌≡◌, ◌+◌, ◌*◌, ◌<◌, ◌^◌, [], is_ok, not, IfSome};
 ghost use Rattle.tk_base.specs.declared.limits.TheConstants.{PRINT_LIMIT};
-ghost use Rattle.driver_model.specs.Commands.{Reads, Writes};
-ghost use Rattle.driver_model.specs.Console.{command, console_reads, console_writes};
+ghost use Rattle.driver_model.specs.Commands.{by_number, Reads, Writes};
+ghost use Rattle.driver_model.specs.Console.{commands, console_reads, console_writes};
 ghost use Rattle.driver_requests.specs.Answers.{AnswersFirst};
 ghost use Rattle.driver_requests.specs.Waiting.{first_of, without};
 ghost use Rattle.driver_requests.specs.Asking.{MayAskAt, MayBeTold, Obeys, Replies};
 ghost use Rattle.console_capsule.specs.Answers.{cannot_give, cannot_send, received_by, sending_at};
-ghost use Rattle.console_capsule.specs.Answers.{written_by};
+ghost use Rattle.console_capsule.specs.Answers.{write_answered};
 
 use crate::commands::{cancel, read};
 use crate::grants::consoles;
-use crate::writes::keep_busy;
 use arrayvec::ArrayVec;
 use board_devices::{Answer, Uart};
-use driver_model::reply_of;
 use driver_requests::RequestQueue;
 use grant_enter::Home;
 use grant_values::{WaitingRead, WaitingWrite};
-use syscall_abi::Reply;
+use syscall_abi::{Reply, reply_of};
 use tk_base::{CallRule, NotReady, PRINT_LIMIT, ProcessId, Slot};
 
 /// The console.
@@ -32,7 +30,7 @@ pub struct ConsoleCapsule {
 
 impl ConsoleCapsule {
     /// A command of the process of an id to the console: the reply, or the rule that refuses it.
-    #[tactic(auto, unfolding(driver_model::specs::Console::command, driver_model::specs::Console::commands))]
+    #[tactic(auto, unfolding(driver_model::specs::Console::commands))]
     fn obey(
         &mut self,
         home: &mut Home,
@@ -43,9 +41,9 @@ impl ConsoleCapsule {
         requires writes { MayAskAt console_writes self.old.writes home.old id }
         requires reads { MayAskAt console_reads self.old.reads home.old id }
         requires told { MayBeTold home.old id }
-        ensures writes { Obeys Writes id (command number count) self.old.writes home.old
+        ensures writes { Obeys Writes id (by_number (commands count) number) self.old.writes home.old
             result self.new.writes home.new }
-        ensures reads { Obeys Reads id (command number count) self.old.reads home.old
+        ensures reads { Obeys Reads id (by_number (commands count) number) self.old.reads home.old
             result self.new.reads home.new }
     {
         match number {
@@ -85,9 +83,9 @@ impl ConsoleCapsule {
         requires writes { MayAskAt console_writes self.old.writes home.old id }
         requires reads { MayAskAt console_reads self.old.reads home.old id }
         requires told { MayBeTold home.old id }
-        ensures writes { Replies Writes id (command number count) self.old.writes home.old
+        ensures writes { Replies Writes id (by_number (commands count) number) self.old.writes home.old
             result self.new.writes home.new }
-        ensures reads { Replies Reads id (command number count) self.old.reads home.old
+        ensures reads { Replies Reads id (by_number (commands count) number) self.old.reads home.old
             result self.new.reads home.new }
     {
         reply_of(self.obey(home, id, number, count))
@@ -119,7 +117,7 @@ impl ConsoleCapsule {
         requires empty { printed.old.items ≡ [] }
         requires time { time + PRINT_LIMIT * uart.old.ticks < 2 ^ 64 }
         ensures ready { is_ok result ≡ not (cannot_send only self.old.writes uart.old time) }
-        ensures answers { AnswersFirst only (written_by home.old) self.old.writes printed.old
+        ensures answers { AnswersFirst only (write_answered home.old) self.old.writes printed.old
             home.old result self.new.writes printed.new home.new }
         ensures uart { uart.new ≡ sending_at time printed.new.items uart.old }
         ensures reads { self.new.reads ≡ self.old.reads }
@@ -128,7 +126,9 @@ impl ConsoleCapsule {
             return Err(NotReady);
         }
         let answer = self.writes.answer::<ConsoleCapsule>(home, printed, only)?;
-        keep_busy(uart, time, printed);
+        if !printed.is_empty() {
+            uart.set_free(time + printed.len() as u64 * u64::from(uart.ticks()));
+        }
         Ok(answer)
     }
 

@@ -1,5 +1,5 @@
 //! Reads: bytes that came in are moved into the buffer of the one that waits longest.
-ghost use Rattle.std.specs.Prelude.{◌≡◌, ◌==◌, ◌+◌, ◌-◌, ◌<◌, ◌≤◌, ◌^◌, if◌then◌else◌, min, drop};
+ghost use Rattle.std.specs.Prelude.{◌≡◌, ◌==◌, ◌+◌, ◌-◌, ◌<◌, ◌≤◌, ◌^◌, if◌then◌else◌, [], min, drop};
 ghost use Rattle.std.specs.Prelude.{length, take};
 ghost use Rattle.tk_base.specs.Call.{code_of};
 ghost use Rattle.grant_enter.specs.Homes.{own_of, ChangesOnly};
@@ -7,7 +7,7 @@ ghost use Rattle.grant_enter.specs.Seen.{Framed, IsLent, own_entered, seen};
 ghost use Rattle.tk_base.specs.Bytes.{over};
 ghost use Rattle.driver_model.specs.Console.{console, read_status, received};
 ghost use Rattle.driver_model.specs.Parts.{bytes_moving};
-ghost use Rattle.driver_model.specs.Console.{unreceived};
+ghost use Rattle.driver_model.specs.Requests.{unanswered};
 ghost use Rattle.driver_model.specs.Steps.{own_after};
 ghost use Rattle.driver_requests.specs.Asking.{MayBeTold, in_life};
 ghost use Rattle.console_capsule.specs.Receiving.{taking_in, written_input};
@@ -30,6 +30,7 @@ struct Receive<'a> {
 impl<'a> VisitRequest<WaitingRead> for Receive<'a> {
     ghost use Rattle.std.specs.Prelude.{◌≡◌, ◌+◌, ◌<◌, ◌^◌, drop, length, None};
     ghost use Rattle.driver_model.specs.Parts.{bytes_moving};
+    ghost use Rattle.driver_model.specs.Requests.{unanswered};
     ghost use Rattle.console_capsule.specs.Receiving.{taking_in};
 
     type Answer = &'a mut Uart;
@@ -140,7 +141,7 @@ fn take_in(entered: &mut Entered<'_>, uart: &mut Uart, read: &WaitingRead)
 fn step_of(home: &mut Home, id: ProcessId, uart: &mut Uart) -> bool
     requires told { MayBeTold home.old id }
     ensures received { let own = own_of home.old id.slot in
-        let r = in_life id.life own (received uart.old.ring own) (unreceived own) in
+        let r = in_life id.life own (received uart.old.ring own) (unanswered [] own) in
         (result ≡ r.completed) × (own_of home.new id.slot ≡ own_after r.step)
         × (uart.new ≡ record uart.old { ring = drop (length r.moved) uart.old.ring }) }
     ensures rest { ChangesOnly id.slot home.old home.new }

@@ -1,18 +1,15 @@
 //! Writes: the UART takes bytes of the one that waits longest.
-ghost use Rattle.std.specs.Prelude.{◌≡◌, ◌==◌, ◌+◌, ◌-◌, ◌*◌, ◌<◌, ◌^◌, min, [], drop, length};
+ghost use Rattle.std.specs.Prelude.{◌≡◌, ◌+◌, ◌-◌, ◌*◌, ◌<◌, ◌^◌, min, [], drop, length};
 ghost use Rattle.std.specs.Prelude.{take};
 ghost use Rattle.tk_base.specs.declared.limits.TheConstants.{PRINT_LIMIT};
 ghost use Rattle.process_model.specs.Flash.{flash_byte};
-ghost use Rattle.grant_enter.specs.Seen.{Framed, IsLent, own_entered, seen};
 ghost use Rattle.driver_model.specs.Console.{console, next_bytes, portion};
-ghost use Rattle.driver_model.specs.Steps.{own_after};
-ghost use Rattle.console_capsule.specs.Answers.{sending_at};
 ghost use Rattle.console_capsule.specs.Sending.{still_waiting, telling_done};
 
 use crate::capsule::ConsoleCapsule;
 use crate::grants::consoles;
 use arrayvec::ArrayVec;
-use board_devices::{Kind, Uart};
+use board_devices::Kind;
 use driver_requests::{Serve, Service, VisitRequest, visit_request};
 use grant_enter::{Entered, Home, buffers_are_whole, frames_join};
 use grant_values::WaitingWrite;
@@ -52,8 +49,18 @@ impl<'a> VisitRequest<WaitingWrite> for Transmit<'a> {
         entered: &mut Entered<'_>,
     ) -> (&'a mut ArrayVec<u8, PRINT_LIMIT>, Option<WaitingWrite>) {
         let Transmit { printed } = self;
-        let rest = take_step(entered, printed, write);
-        (printed, rest)
+        frames_join();
+        buffers_are_whole();
+        put_next(printed, entered.read_only(1), write);
+        if printed.is_empty() {
+            entered.schedule(1, [write.taken, 0, 0]);
+            return (printed, None);
+        }
+        let rest = WaitingWrite {
+            length: write.length,
+            taken: write.taken + printed.len() as u32,
+        };
+        (printed, Some(rest))
     }
 }
 
@@ -75,51 +82,16 @@ fn put_next(printed: &mut ArrayVec<u8, PRINT_LIMIT>, buffer: &[u8], write: &Wait
     }
 }
 
-/// One step of a write. The answer is what waits of it still; none where it completed.
-fn take_step(
-    entered: &mut Entered<'_>,
-    printed: &mut ArrayVec<u8, PRINT_LIMIT>,
-    write: &WaitingWrite,
-) -> Option<WaitingWrite>
-    requires lent { IsLent entered.old }
-    requires driver { (seen entered.old).driver ≡ console }
-    requires upcall { 1 < (seen entered.old).counts.upcalls }
-    requires buffer { 1 < (seen entered.old).counts.ro }
-    requires dropped { (own_entered entered.old).inbox.dropped + 1 < 2 ^ 32 }
-    requires empty { printed.old.items ≡ [] }
-    ensures printed { printed.new.items
-        ≡ next_bytes (flash_byte (seen entered.old).flash) write.now (own_entered entered.old) }
-    ensures count { length printed.new.items ≡ portion write.now (own_entered entered.old) }
-    ensures rest { result ≡ still_waiting write.now (own_entered entered.old) }
-    ensures own { own_entered entered.new
-        ≡ own_after (telling_done write.now (own_entered entered.old)) }
-    // what a visitor owes
-    ensures lent { IsLent entered.new }
-    ensures framed { Framed entered.old entered.new }
-{
-    frames_join();
-    buffers_are_whole();
-    put_next(printed, entered.read_only(1), write);
-    if printed.is_empty() {
-        entered.schedule(1, [write.taken, 0, 0]);
-        return None;
-    }
-    Some(WaitingWrite {
-        length: write.length,
-        taken: write.taken + printed.len() as u32,
-    })
-}
-
 impl Serve<WaitingWrite> for ConsoleCapsule {
     ghost use Rattle.std.specs.Prelude.{◌≡◌, []};
-    ghost use Rattle.console_capsule.specs.Answers.{written_by};
+    ghost use Rattle.console_capsule.specs.Answers.{write_answered};
 
     /// The bytes that are printed.
     type Device = ArrayVec<u8, PRINT_LIMIT>;
 
     ghost asks = { λ printed own. printed.items ≡ [] };
 
-    ghost answer_to = { λ printed. written_by };
+    ghost answer_to = { λ printed. write_answered };
 
     /// One step of the write of a process, if it is there and has one: whether all bytes are taken,
     /// so that the write completed.
@@ -140,16 +112,4 @@ impl Serve<WaitingWrite> for ConsoleCapsule {
             },
         }
     }
-}
-
-/// The UART sends bytes from a time on, and is free again once they are sent.
-pub(crate) fn keep_busy(uart: &mut Uart, time: u64, printed: &ArrayVec<u8, PRINT_LIMIT>)
-    requires { time + PRINT_LIMIT * uart.old.ticks < 2 ^ 64 }
-    ensures { uart.new ≡ sending_at time printed.now.items uart.old }
-{
-    let count = printed.len();
-    if count == 0 {
-        return;
-    }
-    uart.set_free(time + count as u64 * u64::from(uart.ticks()));
 }

@@ -15,7 +15,8 @@ use Rattle.grant_values.specs.declared.storage.StorageRequest.{StorageRequest}
 use Rattle.process_model.specs.Own.{Own}
 use Rattle.driver_model.specs.Parts.{bytes_moving, fired_if}
 use Rattle.driver_model.specs.Commands.{is_same, QueueName, Writes, Reads, Randoms, Stores}
-use Rattle.driver_model.specs.Requests.{RequestKind, keeping_request, request_in, waiting_in, with_request}
+use Rattle.driver_model.specs.Requests.{RequestAnswered, RequestKind, keeping_request, request_in, unanswered}
+use Rattle.driver_model.specs.Requests.{waiting_in, with_request}
 use Rattle.driver_model.specs.Steps.{DriverStep, own_after, scheduling, silently}
 use Rattle.tk_base.specs.Bits.{bit_of}
 use Rattle.process_model.specs.Served.{with_written}
@@ -23,7 +24,7 @@ use Rattle.process_model.proofs.Scheduling.{keeping_commutes}
 use Rattle.grant_values.specs.Values.{AlarmValue}
 use Rattle.driver_model.specs.Buttons as buttons
 use Rattle.driver_model.specs.Console as console
-use Rattle.driver_model.specs.Console.{Sent, console_reads, console_writes}
+use Rattle.driver_model.specs.Console.{console_reads, console_writes}
 use Rattle.driver_model.specs.Random as random
 use Rattle.driver_model.specs.Random.{randoms, Progress}
 use Rattle.driver_model.specs.Storage as storage
@@ -156,7 +157,7 @@ asks {R = R} request_kind own request is = if_so own.lives (request_in request_k
     if_so false waiting e = cc
 
 -- a step of a write
-abbrev Sends : Own → Sent → Type 0
+abbrev Sends : Own → RequestAnswered (List ℕ) → Type 0
 Sends own s = FollowsAnswer (queue_left_by Writes s.completed) own (own_after s.step)
 
 sends : (flash : ℕ → ℕ) (own : Own) → Sends own (console.sent flash own)
@@ -164,8 +165,8 @@ unfolding console.sent
 sends flash own = by_waiting (waiting_in console_writes own) refl
   where
     by_portion : (write : WaitingWrite) (b : Bool) → waiting_in console_writes own ≡ Some write
-        → Sends own (cond b (record { step = console.write_completing own write; printed = []; completed = true })
-        (record { step = console.taking own write; printed = console.next_bytes flash write own; completed = false }))
+        → Sends own (cond b (record { step = console.write_completing own write; moved = []; completed = true })
+        (record { step = console.taking own write; moved = console.next_bytes flash write own; completed = false }))
     by_portion write true is =
         then_told _ console_writes None (scheduling console.console 1 (write.taken ∷ 0 ∷ 0 ∷ []) own) own
         (put_beside own _ (serves _ _ _ own.ram own (as_before own)) Writes write None refl (asks console_writes own
@@ -176,7 +177,7 @@ sends flash own = by_waiting (waiting_in console_writes own) refl
         is)
 
     by_waiting : (w : Option WaitingWrite) → waiting_in console_writes own ≡ w
-        → Sends own (unwrap_or (option_map (console.sending flash own) w) (console.unsent own))
+        → Sends own (unwrap_or (option_map (console.sending flash own) w) (unanswered [] own))
     by_waiting None is = unmoved _ own (never_left Writes)
     by_waiting (Some write) is = by_portion write (console.portion write own == 0) is
 
@@ -189,7 +190,7 @@ receives ring own = by_waiting (waiting_in console_reads own) refl
     bytes read = bytes_moving ring read own
 
     by_waiting : (w : Option WaitingRead) → waiting_in console_reads own ≡ w
-        → let r = unwrap_or (option_map (console.receiving ring own) w) (console.unreceived own) in
+        → let r = unwrap_or (option_map (console.receiving ring own) w) (unanswered [] own) in
         FollowsAnswer (queue_left_by Reads r.completed) own (own_after r.step)
     by_waiting None is = unmoved _ own (never_left Reads)
     by_waiting (Some read) is =
@@ -227,7 +228,7 @@ draws word own = by_waiting (waiting_in randoms own) refl
   where
     by_waiting : (w : Option RandomRequest) → waiting_in randoms own ≡ w
         → let a = unwrap_or (option_map (λ (request : RandomRequest). random.advanced
-        (random.progress word request own)) w) (random.unanswered own) in
+        (random.progress word request own)) w) (unanswered None own) in
         FollowsAnswer (queue_left_by Randoms a.completed) own (own_after a.step)
     by_waiting None is = unmoved _ own (never_left Randoms)
     by_waiting (Some request) is =
@@ -254,8 +255,8 @@ unfolding storage.answered
 stores fault flash bytes own = by_waiting (waiting_in storages own) refl
   where
     by_waiting : (w : Option StorageRequest) → waiting_in storages own ≡ w
-        → let a = unwrap_or (option_map (λ (request : StorageRequest). storage.storage_answer_of
-        (storage.storage_served fault flash bytes request own)) w) (storage.unanswered own) in
+        → let a = unwrap_or (option_map (λ (request : StorageRequest). storage.finished
+        (storage.storage_served fault flash bytes request own)) w) (unanswered None own) in
         FollowsAnswer (queue_left_by Stores a.completed) own (own_after a.step)
     by_waiting None is = unmoved _ own (never_left Stores)
     by_waiting (Some request) is =

@@ -9,7 +9,7 @@ use Rattle.process_model.specs.Handed.{has_place}
 use Rattle.driver_model.specs.Alarm as alarm
 use Rattle.driver_model.specs.Asked.{AskTheirOwn, OneOf}
 use Rattle.driver_model.specs.Commands.{BoardRequest, Commanded, Waits, Leaves, Lights, On, Off, Toggle, Switch, Writes}
-use Rattle.driver_model.specs.Commands.{Reads, Randoms, Stores}
+use Rattle.driver_model.specs.Commands.{Reads, Randoms, Stores, by_number}
 use Rattle.driver_model.specs.Buttons as buttons
 use Rattle.driver_model.specs.Console as console
 use Rattle.driver_model.specs.Leds as leds
@@ -36,14 +36,14 @@ arming_asks : (armed : Armed) (own : Own) → AsksNothing (alarm.arming armed ow
 unfolding AsksNothing
 arming_asks armed own = by_test AsksNothing (has_place alarm.alarm_driver own) _ _ refl refl
 
-alarm_asks : (now number a2 a3 : ℕ) (own : Own) → AsksNothing (alarm.command now number a2 a3 own)
-unfolding Each alarm.command alarm.commands AsksNothing
+alarm_asks : (now number a2 a3 : ℕ) (own : Own) → AsksNothing (by_number (alarm.commands now a2 a3) number own)
+unfolding Each alarm.commands AsksNothing
 alarm_asks now number a2 a3 own =
     commanded AsksNothing own (alarm.commands now a2 a3 own) number refl
     (refl, (refl, (refl, (stopping_asks (alarm.alarm_in own) own, (arming_asks _ own, (arming_asks _ own, tt))))))
 
 buttons_ask : (count pressed number button : ℕ) (own : Own)
-    → AsksNothing (buttons.command count pressed number button own)
+    → AsksNothing (by_number (buttons.commands count pressed button) number own)
 unfolding AsksNothing
 buttons_ask count pressed number button own =
     of_buttons AsksNothing count pressed number button own (λ rule. refl) (λ reply. refl) (λ value. refl)
@@ -73,8 +73,8 @@ cancelling_asks : (o : Option WaitingRead) (own : Own) → AsksOf of_console (co
 cancelling_asks None own = inl refl
 cancelling_asks (Some read) own = inr (inr (inr (inl refl)))
 
-console_asks : (number count : ℕ) (own : Own) → AsksOf of_console (console.command number count own)
-unfolding Each console.command console.commands
+console_asks : (number count : ℕ) (own : Own) → AsksOf of_console (by_number (console.commands count) number own)
+unfolding Each console.commands
 console_asks number count own =
     commanded (AsksOf of_console) own (console.commands count own) number (inl refl) (
       inl refl,
@@ -96,8 +96,8 @@ switching_asks count led Off own =
 switching_asks count led Toggle own =
     by_test (AsksOf (of_leds led)) (nat_lt led count) _ _ (inr (inr (inr (inl refl)))) (inl refl)
 
-leds_ask : (count number led : ℕ) (own : Own) → AsksOf (of_leds led) (leds.command count number led own)
-unfolding Each leds.command leds.commands
+leds_ask : (count number led : ℕ) (own : Own) → AsksOf (of_leds led) (by_number (leds.commands count led) number own)
+unfolding Each leds.commands
 leds_ask count number led own =
     commanded (AsksOf (of_leds led)) own (leds.commands count led own) number (inl refl) (
       inl refl,
@@ -110,8 +110,8 @@ leds_ask count number led own =
 abbrev of_random : List (List BoardRequest)
 of_random = [] ∷ (Waits Randoms ∷ []) ∷ []
 
-random_asks : (number count : ℕ) (own : Own) → AsksOf of_random (random.command number count own)
-unfolding Each random.command random.commands
+random_asks : (number count : ℕ) (own : Own) → AsksOf of_random (by_number (random.commands count) number own)
+unfolding Each random.commands
 random_asks number count own =
     commanded (AsksOf of_random) own (random.commands count own) number (inl refl) (
       inl refl,
@@ -132,8 +132,9 @@ requesting_asks size request own =
     (begins (AsksOf of_storage) storage.storages (request_in storage.storages own) request own (λ c e. inl e)
     (λ c e. inr (inl e))) (inl refl)
 
-storage_asks : (size number a2 a3 : ℕ) (own : Own) → AsksOf of_storage (storage.command size number a2 a3 own)
-unfolding Each storage.command storage.commands
+storage_asks : (size number a2 a3 : ℕ) (own : Own)
+    → AsksOf of_storage (by_number (storage.commands size a2 a3) number own)
+unfolding Each storage.commands
 storage_asks size number a2 a3 own =
     commanded (AsksOf of_storage) own (storage.commands size a2 a3 own) number (inl refl)
     (inl refl, (inl refl, (requesting_asks size _ own, (requesting_asks size _ own, tt))))

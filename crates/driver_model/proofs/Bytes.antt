@@ -28,7 +28,7 @@ use Rattle.driver_model.specs.Random as random
 use Rattle.driver_model.specs.Random.{randoms}
 use Rattle.driver_model.specs.Storage as storage
 use Rattle.driver_model.specs.Storage.{storages}
-use Rattle.driver_model.specs.Requests.{RequestKind, keeping_request, waiting_in, with_request}
+use Rattle.driver_model.specs.Requests.{RequestAnswered, RequestKind, keeping_request, waiting_in, with_request}
 use Rattle.driver_model.specs.Steps.{DriverStep, own_after, scheduling, silently}
 use Rattle.driver_model.specs.Bytes.{AnswersWriteInBuffers, CommandsWriteInBuffers, ShowsClock, clock_buffer}
 use Rattle.driver_model.specs.Bytes.{input_buffer, shows_clock}
@@ -237,20 +237,20 @@ module _ (law : OnlyWritesChangeBytes) where
         (with_written ReadWrite console.console 1 0 bytes own)
         (law.written ReadWrite console.console 1 0 bytes own refl whole)));
     word = λ word own whole.
-        if_waits (λ (a : random.RandomAnswered). ChangesAt (IsInside (word_buffer own)) own (own_after a.step)) _ _
+        if_waits (λ (a : RequestAnswered (Option ℕ)). ChangesAt (IsInside (word_buffer own)) own (own_after a.step)) _ _
         (waiting_in randoms own) (λ at before after. inl refl)
         (λ request. let p = random.progress word request own in
         then_kept _ randoms p.rest p.step own (progress word request own whole));
     no_word = λ own.
-        if_waits (λ (a : random.RandomAnswered). KeepsBytes own (own_after a.step)) _ _ (waiting_in randoms own)
+        if_waits (λ (a : RequestAnswered (Option ℕ)). KeepsBytes own (own_after a.step)) _ _ (waiting_in randoms own)
         (λ at before after. refl)
         (λ request. let p = random.progress None request own in
         keeps_kept randoms p.rest p.step own (no_progress request own));
     stored = λ fault flash bytes own whole.
-        if_waits (λ (a : storage.StorageAnswered). ChangesAt (IsInside (stored_buffer own)) own (own_after a.step)) _ _
-        (waiting_in storages own) (λ at before after. inl refl)
+        if_waits (λ (a : RequestAnswered (Option (ℕ × List ℕ))). ChangesAt (IsInside (stored_buffer own)) own
+        (own_after a.step)) _ _ (waiting_in storages own) (λ at before after. inl refl)
         (λ request. then_kept _ storages None (storage.storage_served fault flash bytes request own).step own
         (served fault flash bytes request own whole));
-    failed = λ flash bytes own. if_waits (λ (a : storage.StorageAnswered). a.written ≡ None) _ _
+    failed = λ flash bytes own. if_waits (λ (a : RequestAnswered (Option (ℕ × List ℕ))). a.moved ≡ None) _ _
         (waiting_in storages own) refl (λ request. refl);
   }

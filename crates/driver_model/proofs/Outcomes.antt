@@ -22,18 +22,18 @@ use Rattle.process_model.specs.Handed.{own_entering, has_place}
 use Rattle.process_model.specs.Served.{with_kept}
 use Rattle.driver_model.specs.Steps.{silently}
 use Rattle.driver_model.specs.Commands.{Commanded, Leaves, Lights, QueueName, Reads, Switch, On, Off, Toggle, Waits}
-use Rattle.driver_model.specs.Commands.{accepting, refusing, Writes, Randoms, Stores}
+use Rattle.driver_model.specs.Commands.{accepting, by_number, refusing, Writes, Randoms, Stores}
 use Rattle.driver_model.specs.Requests.{RequestKind, asking, request_in, with_request}
 use Rattle.driver_model.specs.Parts.{asking_beside, asking_to_read}
 use Rattle.driver_model.specs.Alarm.{alarm_driver, alarm_in, arming, showing, stopping}
-use Rattle.driver_model.specs.Alarm.{command as alarm_command, commands as alarm_commands}
+use Rattle.driver_model.specs.Alarm.{commands as alarm_commands}
 use Rattle.driver_model.specs.Buttons.{buttons, enabling, of_button, set_enabled}
-use Rattle.driver_model.specs.Buttons.{command as button_command, commands as button_commands}
+use Rattle.driver_model.specs.Buttons.{commands as button_commands}
 use Rattle.driver_model.specs.Console.{cancelling, console_reads, console_writes, dropping_read}
-use Rattle.driver_model.specs.Console.{command as console_command, commands as console_commands}
-use Rattle.driver_model.specs.Leds.{switching, command as led_command, commands as led_commands}
-use Rattle.driver_model.specs.Random.{randoms, command as random_command, commands as random_commands}
-use Rattle.driver_model.specs.Storage.{requesting, storages, command as storage_command, commands as storage_commands}
+use Rattle.driver_model.specs.Console.{commands as console_commands}
+use Rattle.driver_model.specs.Leds.{switching, commands as led_commands}
+use Rattle.driver_model.specs.Random.{randoms, commands as random_commands}
+use Rattle.driver_model.specs.Storage.{requesting, storages, commands as storage_commands}
 use Rattle.driver_model.specs.Lines.{kind_in}
 use Rattle.driver_model.specs.Drivers.{CommandContext, CommandHandler, handler_by, handler_of}
 use Rattle.driver_model.proofs.Tables.{Each, EachAt, commanded, commanded_at, taken}
@@ -109,8 +109,8 @@ pub of_buttons : (P : Commanded → Type 0) (count pressed number button : ℕ) 
     → ((value : KeptValue) → P (accepting Success (with_kept buttons value own)))
     → ((value : KeptValue) → has_place buttons own ≡ true
     → P (accepting Success (with_kept buttons value (own_entering buttons own))))
-    → P (button_command count pressed number button own)
-unfolding Each button_command button_commands
+    → P (by_number (button_commands count pressed button) number own)
+unfolding Each button_commands
 of_buttons P count pressed number button own refuses replies keeps enters =
     commanded P own (button_commands count pressed button own) number (refuses NoCommand) (
       replies (SuccessU32 count),
@@ -140,8 +140,8 @@ module _ (P : Commanded → Type 0) (driver : ℕ) (around : CommandContext) (nu
   clock is two =
       ap (λ d. d == 0 && number == 2) (sym is) ∙ ap (λ n. n == 2) (sym (eqb-true 2 number two))
 
-  of_alarm : number_of_driver Alarm ≡ driver → P (alarm_command around.now number a2 a3 own)
-  unfolding EachAt alarm_command alarm_commands
+  of_alarm : number_of_driver Alarm ≡ driver → P (by_number (alarm_commands around.now a2 a3) number own)
+  unfolding EachAt alarm_commands
   of_alarm is =
       commanded_at P own (alarm_commands around.now a2 a3 own) number (each.refuses NoCommand) (
         λ n. each.replies Success,
@@ -162,8 +162,8 @@ module _ (P : Commanded → Type 0) (driver : ℕ) (around : CommandContext) (nu
   by_cancelling is None = each.refuses Nothing
   by_cancelling is (Some read) = each.cancels is
 
-  of_console : number_of_driver Console ≡ driver → P (console_command number a2 own)
-  unfolding Each console_command console_commands
+  of_console : number_of_driver Console ≡ driver → P (by_number (console_commands a2) number own)
+  unfolding Each console_commands
   of_console is =
       commanded P own (console_commands a2 own) number (each.refuses NoCommand) (
         each.replies Success,
@@ -176,14 +176,14 @@ module _ (P : Commanded → Type 0) (driver : ℕ) (around : CommandContext) (nu
   by_switching : (switch : Switch) → P (switching around.leds a2 switch own)
   by_switching switch = by_test P (nat_lt a2 around.leds) _ _ (λ there. each.lights a2 switch) (each.refuses Range)
 
-  of_leds : P (led_command around.leds number a2 own)
-  unfolding Each led_command led_commands
+  of_leds : P (by_number (led_commands around.leds a2) number own)
+  unfolding Each led_commands
   of_leds =
       commanded P own (led_commands around.leds a2 own) number (each.refuses NoCommand)
       (each.replies (SuccessU32 around.leds), (by_switching On, (by_switching Off, (by_switching Toggle, tt))))
 
-  of_random : P (random_command number a2 own)
-  unfolding Each random_command random_commands
+  of_random : P (by_number (random_commands a2) number own)
+  unfolding Each random_commands
   of_random =
       commanded P own (random_commands a2 own) number (each.refuses NoCommand)
       (each.replies Success, (by_asking P randoms _ own each.refuses (each.draws _), tt))
@@ -194,8 +194,8 @@ module _ (P : Commanded → Type 0) (driver : ℕ) (around : CommandContext) (nu
       (λ fits. by_asking P storages request own each.refuses (each.stores request (leb-true _ _ fits)))
       (each.refuses Range)
 
-  of_storage : P (storage_command around.storage number a2 a3 own)
-  unfolding Each storage_command storage_commands
+  of_storage : P (by_number (storage_commands around.storage a2 a3) number own)
+  unfolding Each storage_commands
   of_storage =
       commanded P own (storage_commands around.storage a2 a3 own) number (each.refuses NoCommand)
       (each.replies Success, (each.replies (SuccessU32 around.storage), (by_requesting _, (by_requesting _, tt))))

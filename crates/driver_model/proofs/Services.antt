@@ -19,7 +19,7 @@ use Rattle.driver_model.specs.Random as random
 use Rattle.driver_model.specs.Random.{randoms}
 use Rattle.driver_model.specs.Storage as storage
 use Rattle.driver_model.specs.Storage.{storages}
-use Rattle.driver_model.specs.Requests.{waiting_in}
+use Rattle.driver_model.specs.Requests.{RequestAnswered, waiting_in}
 use Rattle.driver_model.specs.Services.{OfEachService}
 use Rattle.driver_model.proofs.Answering.{serves_progress, serves_served}
 use Rattle.driver_model.proofs.Outcomes.{of_command}
@@ -84,11 +84,12 @@ of_services P each = record {
       (with_written ReadWrite console.console 1 0 bytes own)) own
       (serves _ _ _ _ own (written_size ReadWrite refl console.console 1 0 bytes own)));
   drawn = λ word own.
-      if_waits (λ (a : random.RandomAnswered). P own (own_after a.step)) _ _ (waiting_in randoms own) (each.same own)
-      (λ request. told P each _ _ (random.progress word request own).step own (serves_progress word request own));
+      if_waits (λ (a : RequestAnswered (Option ℕ)). P own (own_after a.step)) _ _ (waiting_in randoms own)
+      (each.same own) (λ request. told P each _ _ (random.progress word request own).step own
+      (serves_progress word request own));
   stored = λ fault flash bytes own.
-      if_waits (λ (a : storage.StorageAnswered). P own (own_after a.step)) _ _ (waiting_in storages own) (each.same own)
-      (λ request. told P each _ _ (storage.storage_served fault flash bytes request own).step own
+      if_waits (λ (a : RequestAnswered (Option (ℕ × List ℕ))). P own (own_after a.step)) _ _ (waiting_in storages own)
+      (each.same own) (λ request. told P each _ _ (storage.storage_served fault flash bytes request own).step own
       (serves_served fault flash bytes request own));
 }
   where

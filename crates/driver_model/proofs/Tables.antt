@@ -39,13 +39,13 @@ if_found {X = X} P Q (row ∷ rows) number each none some =
 
 -- what comes of a command, where its number may not be there
 pub commanded_at : (P : Commanded → Type 0) (own : Own) (rows : List (ℕ × Commanded)) (number : ℕ)
-    → P (refusing NoCommand own) → EachAt number P rows → P (by_number own rows number)
+    → P (refusing NoCommand own) → EachAt number P rows → P (by_number (λ o. rows) number own)
 commanded_at P own rows number none each =
     if_found P (λ row. P (unwrap_or (option_map (λ r. r.1) row) (refusing NoCommand own))) rows number each none
     (λ row here. here)
 
 pub commanded : (P : Commanded → Type 0) (own : Own) (rows : List (ℕ × Commanded)) (number : ℕ)
-    → P (refusing NoCommand own) → Each P rows → P (by_number own rows number)
+    → P (refusing NoCommand own) → Each P rows → P (by_number (λ o. rows) number own)
 commanded P own rows number none each = commanded_at P own rows number none (each_at P rows number each)
 
 -- a driver that takes commands, which has that number

@@ -7,15 +7,15 @@ use Rattle.grant_values.specs.declared.random.RandomRequest.{RandomRequest}
 use Rattle.process_model.specs.Own.{Own}
 use Rattle.driver_model.specs.Parts.{bytes_moving, with_word}
 use Rattle.driver_model.specs.Steps.{silently}
-use Rattle.driver_model.specs.Requests.{waiting_in}
+use Rattle.driver_model.specs.Requests.{RequestAnswered, unanswered, waiting_in}
 use Rattle.driver_model.specs.Console as console
-use Rattle.driver_model.specs.Console.{Sent, console_reads, console_writes}
+use Rattle.driver_model.specs.Console.{console_reads, console_writes}
 use Rattle.driver_model.specs.Random as random
-use Rattle.driver_model.specs.Random.{RandomAnswered, Progress, randoms}
+use Rattle.driver_model.specs.Random.{Progress, randoms}
 use Rattle.driver_model.specs.Answers.{EventsTellSteps}
 
 -- a write's step is what the process is told
-abbrev TellsWrite : Own → Sent → Type 0
+abbrev TellsWrite : Own → RequestAnswered (List ℕ) → Type 0
 TellsWrite own s = s.step ≡ cond s.completed (console.write_done own) (console.taken own)
 
 writes : (flash : ℕ → ℕ) (own : Own) → TellsWrite own (console.sent flash own)
@@ -24,15 +24,15 @@ writes flash own = by_waiting (waiting_in console_writes own) refl
   where
     by_portion : (write : WaitingWrite) (b : Bool)
         → Some write ≡ waiting_in console_writes own
-        → TellsWrite own (cond b (record { step = console.write_completing own write; printed = []; completed = true })
-        (record { step = console.taking own write; printed = console.next_bytes flash write own; completed = false }))
+        → TellsWrite own (cond b (record { step = console.write_completing own write; moved = []; completed = true })
+        (record { step = console.taking own write; moved = console.next_bytes flash write own; completed = false }))
     by_portion write true is =
         ap (λ (w : Option WaitingWrite). unwrap_or (option_map (console.write_completing own) w) (silently own)) is
     by_portion write false is =
         ap (λ (w : Option WaitingWrite). unwrap_or (option_map (console.taking own) w) (silently own)) is
 
     by_waiting : (w : Option WaitingWrite) → w ≡ waiting_in console_writes own
-        → TellsWrite own (unwrap_or (option_map (console.sending flash own) w) (console.unsent own))
+        → TellsWrite own (unwrap_or (option_map (console.sending flash own) w) (unanswered [] own))
     by_waiting None is = ap
         (λ (w : Option WaitingWrite). unwrap_or (option_map (console.taking own) w) (silently own)) is
     by_waiting (Some write) is = by_portion write (console.portion write own == 0) is
@@ -42,7 +42,7 @@ unfolding console.received
 reads ring own = by_waiting (waiting_in console_reads own) refl
   where
     by_waiting : (w : Option WaitingRead) → w ≡ waiting_in console_reads own
-        → let r = unwrap_or (option_map (console.receiving ring own) w) (console.unreceived own) in
+        → let r = unwrap_or (option_map (console.receiving ring own) w) (unanswered [] own) in
         r.step ≡ console.input r.moved own
     by_waiting None is = ap (λ (w : Option WaitingRead). unwrap_or (option_map (console.reading_in [] own) w)
         (silently own)) is
@@ -99,18 +99,18 @@ draws_step word request own =
     next false false (Some w) = refl
 
 -- the step of a request that waits, or of none
-abbrev at : Option ℕ → Own → Option RandomRequest → RandomAnswered
+abbrev at : Option ℕ → Own → Option RandomRequest → RequestAnswered (Option ℕ)
 at word own waiting =
     unwrap_or (option_map (λ (request : RandomRequest). random.advanced (random.progress word request own)) waiting)
-    (random.unanswered own)
+    (unanswered None own)
 
 draws : (word : Option ℕ) (own : Own) (waiting : Option RandomRequest)
-    → let a = at word own waiting in a.step ≡ (at a.drawn own waiting).step
+    → let a = at word own waiting in a.step ≡ (at a.moved own waiting).step
 draws word own None = refl
 draws word own (Some request) = ap (λ (p : Progress). (random.advanced p).step) (sym (draws_step word request own).same)
 
 drawn_next : (word : Option ℕ) (own : Own) (waiting : Option RandomRequest)
-    → IfSome (at word own waiting).drawn (λ drawn. word ≡ Some drawn)
+    → IfSome (at word own waiting).moved (λ drawn. word ≡ Some drawn)
 drawn_next word own None = tt
 drawn_next word own (Some request) = (draws_step word request own).next
 

@@ -12,7 +12,7 @@ use Rattle.driver_model.specs.Console as console
 use Rattle.driver_model.specs.Console.{console_reads, console_writes}
 use Rattle.driver_model.specs.Random as random
 use Rattle.driver_model.specs.Random.{Progress, randoms}
-use Rattle.driver_model.specs.Requests.{waiting_in}
+use Rattle.driver_model.specs.Requests.{RequestAnswered, waiting_in}
 use Rattle.driver_model.specs.Steps.{DriverStep, silently}
 use Rattle.driver_model.specs.Storage as storage
 use Rattle.driver_model.specs.Storage.{storages}
@@ -89,9 +89,10 @@ drivers_schedule_their_own = record {
   input = λ bytes own. if_waits (λ (s : DriverStep). IsOfDriver console.console s.schedules)
       (console.reading_in bytes own) (silently own) (waiting_in console_reads own) tt (λ read. refl);
   drawn = λ word own.
-      if_waits (λ (a : random.RandomAnswered). IsOfDriver random.random a.step.schedules) _ _ (waiting_in randoms own)
-      tt (λ request. if_so (nat_le (random.wanted request own) request.written) _ _ refl (draws _ request own word));
+      if_waits (λ (a : RequestAnswered (Option ℕ)). IsOfDriver random.random a.step.schedules) _ _
+      (waiting_in randoms own) tt
+      (λ request. if_so (nat_le (random.wanted request own) request.written) _ _ refl (draws _ request own word));
   stored = λ fault flash bytes own.
-      if_waits (λ (a : storage.StorageAnswered). IsOfDriver storage.storage a.step.schedules) _ _
+      if_waits (λ (a : RequestAnswered (Option (ℕ × List ℕ))). IsOfDriver storage.storage a.step.schedules) _ _
       (waiting_in storages own) tt (λ request. serves fault request.kind flash bytes request own);
 }

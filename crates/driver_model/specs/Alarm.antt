@@ -5,7 +5,7 @@ use Rattle.std.specs.Prelude.{ℕ, ◌+◌, ◌-◌, ◌%◌, ◌^◌, min, nat_
 use Rattle.std.specs.Prelude.{slice_get, Option, None, Some, is_some, option_and_then, option_map, unwrap_or}
 use Rattle.std.specs.Int.{w32, to_le_bytes}
 use Rattle.std.specs.List.{range_with_len}
-use Rattle.tk_base.specs.declared.call.CallRule.TheVariants.{NoRoom, Nothing}
+use Rattle.tk_base.specs.declared.call.CallRule.TheVariants.{Nothing}
 use Rattle.tk_base.specs.declared.kinds.PairKind.TheVariants.{Readable}
 use Rattle.tk_base.specs.declared.limits.TheConstants.{SLOT_COUNT}
 use Rattle.grant_values.specs.declared.alarm.Armed.{Armed}
@@ -14,10 +14,9 @@ use Rattle.grant_values.specs.Values.{KeptValue, AlarmValue}
 use Rattle.grant_values.specs.Drivers.{number_of_driver}
 use Rattle.syscall_abi.specs.declared.reply.Reply.TheVariants.{Success, SuccessU32}
 use Rattle.process_model.specs.Own.{Own}
-use Rattle.process_model.specs.Handed.{own_entering, has_place}
 use Rattle.process_model.specs.Served.{kept, with_kept, with_written}
 use Rattle.driver_model.specs.Steps.{DriverStep, scheduling, silently}
-use Rattle.driver_model.specs.Commands.{Commanded, accepting, refusing, by_number}
+use Rattle.driver_model.specs.Commands.{Commanded, accepting, once_entered, refusing}
 
 -- the number of the driver
 abbrev pub alarm_driver : ℕ
@@ -44,20 +43,18 @@ with_alarm alarm own = with_kept alarm_driver (AlarmValue alarm) own
 abbrev pub showing : ℕ → Own → Own
 showing now own = with_written Readable alarm_driver 0 0 (to_le_bytes w32 now) own
 
--- An alarm is armed in place of the one before, if there is room for the driver's grant; the reply is when it expires.
+-- an alarm is armed in place of the one before; the reply is when it expires
 abbrev pub arming : Armed → Own → Commanded
 arming alarm own =
-    if has_place alarm_driver own
-    then accepting (SuccessU32 (expiration alarm)) (with_alarm (Some alarm) (own_entering alarm_driver own))
-    else refusing NoRoom own
+    once_entered alarm_driver own (λ o. accepting (SuccessU32 (expiration alarm)) (with_alarm (Some alarm) o))
 
 -- an alarm that is armed is stopped
 abbrev pub stopping : Option Armed → Own → Commanded
 stopping None own = refusing Nothing own
 stopping (Some alarm) own = accepting Success (with_alarm None own)
 
--- its commands: the driver is there; ticks a second; the clock, which is shown too; stop the alarm; arm it from now on,
--- or from a reference on
+-- its commands, with two arguments, when the clock shows so many ticks: the driver is there; ticks a second; the clock,
+-- which is shown too; stop the alarm; arm it from now on, or from a reference on
 unfoldable pub commands : ℕ → ℕ → ℕ → Own → List (ℕ × Commanded)
 commands now a2 a3 own =
     (0, accepting Success own)
@@ -67,10 +64,6 @@ commands now a2 a3 own =
     ∷ (5, arming (record { reference = now; delta = a2 }) own)
     ∷ (6, arming (record { reference = a2; delta = a3 }) own)
     ∷ []
-
--- a command of a number with two arguments, when the clock shows so many ticks
-unfoldable pub command : ℕ → ℕ → ℕ → ℕ → Own → Commanded
-command now number a2 a3 own = by_number own (commands now a2 a3 own) number
 
 -- an alarm, where it is due: its delta has passed since its reference
 abbrev pub if_due : ℕ → Option Armed → Option Armed

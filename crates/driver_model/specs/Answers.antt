@@ -53,5 +53,5 @@ pub record EventsTellSteps : Type 0 where
   pub reads : (ring : List ℕ) (own : Own) →
       let r = console.received ring own in r.step ≡ console.input r.moved own
   pub randoms : (word : Option ℕ) (own : Own) →
-      let a = random.answered word own in a.step ≡ (random.answered a.drawn own).step
-  pub drawn : (word : Option ℕ) (own : Own) → IfSome (random.answered word own).drawn (λ drawn. word ≡ Some drawn)
+      let a = random.answered word own in a.step ≡ (random.answered a.moved own).step
+  pub drawn : (word : Option ℕ) (own : Own) → IfSome (random.answered word own).moved (λ drawn. word ≡ Some drawn)

@@ -65,4 +65,4 @@ pub record AnswersWriteInBuffers : Type 0 where
   pub stored : (fault : Bool) (flash : ℕ → ℕ) (bytes : List ℕ) (own : Own) → IsWhole own →
       ChangesAt (IsInside (stored_buffer own)) own (own_after (storage.answered fault flash bytes own).step)
   pub failed : (flash : ℕ → ℕ) (bytes : List ℕ) (own : Own) →
-      (storage.answered true flash bytes own).written ≡ None
+      (storage.answered true flash bytes own).moved ≡ None

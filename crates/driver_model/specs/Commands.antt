@@ -1,10 +1,11 @@
 -- What comes of a command that a process gives to a driver (TRD 104, "Command").
-use Rattle.std.specs.Prelude.{ℕ, ◌==◌, Bool, List, [], ◌∷◌, find, Result, Ok, Err, option_map}
+use Rattle.std.specs.Prelude.{ℕ, ◌==◌, if◌then◌else◌, Bool, List, [], ◌∷◌, find, Result, Ok, Err, option_map}
 use Rattle.std.specs.Prelude.{unwrap_or}
 use Rattle.tk_base.specs.declared.call.CallRule.{CallRule}
-use Rattle.tk_base.specs.declared.call.CallRule.TheVariants.{NoCommand}
+use Rattle.tk_base.specs.declared.call.CallRule.TheVariants.{NoCommand, NoRoom}
 use Rattle.syscall_abi.specs.declared.reply.Reply.{Reply}
 use Rattle.process_model.specs.Own.{Own}
+use Rattle.process_model.specs.Handed.{has_place, own_entering}
 use Rattle.driver_model.specs.Steps.{DriverStep, silently}
 
 -- the lists in which processes wait: to write to the console and to read from it, for random words, for storage
@@ -56,7 +57,16 @@ accepting reply own = record { answer = Ok reply; step = silently own; acts = []
 abbrev pub refusing : CallRule → Own → Commanded
 refusing rule own = record { answer = Err rule; step = silently own; acts = [] }
 
+-- what comes of a command for which its driver is entered, by what is then the process's own; it is refused where there
+-- is no room for the driver's grant
+abbrev pub once_entered : ℕ → Own → (Own → Commanded) → Commanded
+once_entered driver own comes = if has_place driver own then comes (own_entering driver own) else refusing NoRoom own
+
+-- a command with an answer of either kind, where the driver schedules nothing and asks nothing of the board
+abbrev pub as_commanded : Result Reply CallRule → Own → Commanded
+as_commanded answer own = record { answer = answer; step = silently own; acts = [] }
+
 -- the command of a number by a driver's table; refused where the table has no such number
-abbrev pub by_number : Own → List (ℕ × Commanded) → ℕ → Commanded
-by_number own rows number =
-    unwrap_or (option_map (λ row. row.1) (find (λ row. row.0 == number) rows)) (refusing NoCommand own)
+abbrev pub by_number : (Own → List (ℕ × Commanded)) → ℕ → Own → Commanded
+by_number commands number own =
+    unwrap_or (option_map (λ row. row.1) (find (λ row. row.0 == number) (commands own))) (refusing NoCommand own)

@@ -1,7 +1,7 @@
 -- The console (Tock's driver 0x1): a process has bytes of its read-only buffer 1 written, and bytes that come in read
 -- into its read-write buffer 1. One write of it and one read may wait at a time.
-use Rattle.std.specs.Prelude.{ℕ, ◌+◌, ◌-◌, ◌*◌, ◌==◌, Bool, true, false, min, if◌then◌else◌, List, [], ◌∷◌, drop}
-use Rattle.std.specs.Prelude.{length, take, Option, None, Some, option_map, unwrap_or, Ok}
+use Rattle.std.specs.Prelude.{ℕ, ◌+◌, ◌-◌, ◌==◌, true, false, min, if◌then◌else◌, List, [], ◌∷◌, drop}
+use Rattle.std.specs.Prelude.{length, take, Option, None, Some, Ok}
 use Rattle.tk_base.specs.Call.{code_of}
 use Rattle.tk_base.specs.declared.call.ErrorCode.TheVariants.{CANCEL, SIZE}
 use Rattle.tk_base.specs.declared.call.CallRule.TheVariants.{Empty, Nothing}
@@ -18,8 +18,9 @@ use Rattle.process_model.specs.Own.{Own}
 use Rattle.process_model.specs.Handed.{held}
 use Rattle.process_model.specs.Served.{bytes_at, with_written}
 use Rattle.driver_model.specs.Steps.{DriverStep, scheduling, silently}
-use Rattle.driver_model.specs.Commands.{Commanded, Leaves, Reads, Writes, accepting, refusing, by_number}
-use Rattle.driver_model.specs.Requests.{RequestKind, asking, request_in, waiting_in, with_request}
+use Rattle.driver_model.specs.Commands.{Commanded, Leaves, Reads, Writes, accepting, refusing}
+use Rattle.driver_model.specs.Requests.{RequestAnswered, RequestKind, asking, on_request, request_in, unanswered}
+use Rattle.driver_model.specs.Requests.{with_request}
 
 -- the number of the driver
 abbrev pub console : ℕ
@@ -66,10 +67,6 @@ commands count own =
     ∷ (3, cancelling (request_in console_reads own) own)
     ∷ []
 
--- a command of a number with its first argument
-unfoldable pub command : ℕ → ℕ → Own → Commanded
-command number count own = by_number own (commands count own) number
-
 -- how many bytes of a write the UART takes next: at most so many of those that are left; as many are to be taken as it
 -- asks for, and no more than the buffer has that is held now
 abbrev pub portion : WaitingWrite → Own → ℕ
@@ -87,11 +84,11 @@ write_completing own write = scheduling console 1 (write.taken ∷ 0 ∷ 0 ∷ [
 -- What the UART tells a process: that it took the next bytes of its write; that it had taken all. Nothing changes where
 -- no write waits.
 abbrev pub taken : Own → DriverStep
-taken own = unwrap_or (option_map (taking own) (waiting_in console_writes own)) (silently own)
+taken own = on_request console_writes own (silently own) (taking own)
 
 -- what the UART tells a process: that it had taken all bytes of its write, which completes
 abbrev pub write_done : Own → DriverStep
-write_done own = unwrap_or (option_map (write_completing own) (waiting_in console_writes own)) (silently own)
+write_done own = on_request console_writes own (silently own) (write_completing own)
 
 -- a buffer without bytes is told by TRD 104's code for a size
 abbrev pub read_status : Own → ℕ
@@ -106,18 +103,7 @@ reading_in bytes own read =
 
 -- What the UART tells a process: that bytes came in. Nothing changes where no read waits.
 abbrev pub input : List ℕ → Own → DriverStep
-input bytes own = unwrap_or (option_map (reading_in bytes own) (waiting_in console_reads own)) (silently own)
-
--- What a step of the UART's sending half comes to: what it leaves of the process; the bytes that were printed; whether
--- a write completed, so that its process waits no more.
-pub record Sent : Type 0 where
-  pub step : DriverStep
-  pub printed : List ℕ
-  pub completed : Bool
-
--- a step of the sending half that does nothing
-abbrev pub unsent : Own → Sent
-unsent own = record { step = silently own; printed = []; completed = false }
+input bytes own = on_request console_reads own (silently own) (reading_in bytes own)
 
 -- the bytes of a write that come next, in the buffer that is held now
 abbrev pub next_bytes : (ℕ → ℕ) → WaitingWrite → Own → List ℕ
@@ -125,37 +111,24 @@ next_bytes flash write own =
     take (portion write own) (drop write.taken (bytes_at flash own (held ReadOnly console 1 own)))
 
 -- the next bytes of a write are taken and printed; where none is left it completes
-abbrev pub sending : (ℕ → ℕ) → Own → WaitingWrite → Sent
+abbrev pub sending : (ℕ → ℕ) → Own → WaitingWrite → RequestAnswered (List ℕ)
 sending flash own write =
-    if portion write own == 0 then record { step = write_completing own write; printed = []; completed = true }
-    else record { step = taking own write; printed = next_bytes flash write own; completed = false }
+    if portion write own == 0 then record { step = write_completing own write; moved = []; completed = true }
+    else record { step = taking own write; moved = next_bytes flash write own; completed = false }
 
--- the step for a process; nothing changes where no write of it waits
-unfoldable pub sent : (ℕ → ℕ) → Own → Sent
-sent flash own = unwrap_or (option_map (sending flash own) (waiting_in console_writes own)) (unsent own)
-
--- the time from which on the UART can send again, after bytes were printed at a time: so many ticks for each
-abbrev pub free_after : ℕ → ℕ → List ℕ → ℕ → ℕ
-free_after time ticks printed free = if length printed == 0 then free else time + length printed * ticks
-
--- What a step of the UART's receiving half comes to: what it leaves of the process; the bytes that were moved, the
--- oldest that came in; whether a read completed, so that its process waits no more.
-pub record Received : Type 0 where
-  pub step : DriverStep
-  pub moved : List ℕ
-  pub completed : Bool
-
--- a step of the receiving half that does nothing
-abbrev pub unreceived : Own → Received
-unreceived own = record { step = silently own; moved = []; completed = false }
+-- what a step of the UART's sending half comes to for a process, with the bytes that are printed; nothing changes where
+-- no write of it waits
+unfoldable pub sent : (ℕ → ℕ) → Own → RequestAnswered (List ℕ)
+sent flash own = on_request console_writes own (unanswered [] own) (sending flash own)
 
 -- the oldest bytes that came in are moved into the read's buffer, as many as it asks for, and no more than the buffer
 -- has that is held now; and the read completes
-abbrev pub receiving : List ℕ → Own → WaitingRead → Received
+abbrev pub receiving : List ℕ → Own → WaitingRead → RequestAnswered (List ℕ)
 receiving ring own read =
     let bytes = take (min read.length (held ReadWrite console 1 own).1) ring in
     record { step = reading_in bytes own read; moved = bytes; completed = true }
 
--- the step for a process, with these bytes in the ring; nothing changes where no read of it waits
-unfoldable pub received : List ℕ → Own → Received
-received ring own = unwrap_or (option_map (receiving ring own) (waiting_in console_reads own)) (unreceived own)
+-- what a step of its receiving half comes to for a process, with these bytes in the ring; nothing changes where no read
+-- of it waits
+unfoldable pub received : List ℕ → Own → RequestAnswered (List ℕ)
+received ring own = on_request console_reads own (unanswered [] own) (receiving ring own)

@@ -7,7 +7,7 @@ use Rattle.syscall_abi.specs.declared.reply.Reply.TheVariants.{Success, SuccessU
 use Rattle.process_model.specs.Own.{Own}
 use Rattle.driver_model.specs.Steps.{silently}
 use Rattle.driver_model.specs.Commands.{BoardRequest, Waits, Leaves, Lights, Switch, On, Off, Toggle, Commanded}
-use Rattle.driver_model.specs.Commands.{accepting, refusing, by_number}
+use Rattle.driver_model.specs.Commands.{accepting, refusing}
 
 -- whether an LED is on after it was switched, by whether it was before
 abbrev pub is_on_after : Switch → Bool → Bool
@@ -15,15 +15,11 @@ is_on_after On lit = true
 is_on_after Off lit = false
 is_on_after Toggle lit = not lit
 
--- the LEDs with one switched
-abbrev pub with_switched : ℕ → ℕ → Switch → ℕ
-with_switched leds n switch = with_bit leds n (is_on_after switch (has_bit leds n))
-
 -- the LEDs after what the board is asked to do, one after another
 abbrev pub lit_by : BoardRequest → ℕ → ℕ
 lit_by (Waits line) leds = leds
 lit_by (Leaves line) leds = leds
-lit_by (Lights led switch) leds = with_switched leds led switch
+lit_by (Lights led switch) leds = with_bit leds led (is_on_after switch (has_bit leds led))
 
 abbrev pub lit_after : List BoardRequest → ℕ → ℕ
 lit_after [] leds = leds
@@ -35,7 +31,8 @@ switching count led switch own =
     if nat_lt led count then record { answer = Ok Success; step = silently own; acts = Lights led switch ∷ [] }
     else refusing Range own
 
--- its commands: how many LEDs there are; turn one on; turn it off; turn it to what it is not
+-- its commands for an LED, where there are so many: how many LEDs there are; turn one on; turn it off; turn it to
+-- what it is not
 unfoldable pub commands : ℕ → ℕ → Own → List (ℕ × Commanded)
 commands count led own =
     (0, accepting (SuccessU32 count) own)
@@ -43,7 +40,3 @@ commands count led own =
     ∷ (2, switching count led Off own)
     ∷ (3, switching count led Toggle own)
     ∷ []
-
--- a command of a number for an LED, where there are so many LEDs
-unfoldable pub command : ℕ → ℕ → ℕ → Own → Commanded
-command count number led own = by_number own (commands count led own) number

@@ -1,19 +1,20 @@
 -- Parts of what drivers do, by names of their own. Only proofs use this.
-use Rattle.std.specs.Prelude.{ℕ, ◌+◌, ◌-◌, ◌%◌, ◌^◌, ◌==◌, Bool, min, nat_le, if◌then◌else◌, List, take, Option}
-use Rattle.std.specs.Prelude.{is_some, option_map, unwrap_or}
+use Rattle.std.specs.Prelude.{ℕ, ◌+◌, ◌-◌, ◌%◌, ◌^◌, ◌==◌, Bool, min, nat_le, if◌then◌else◌, List, [], ◌∷◌, take}
+use Rattle.std.specs.Prelude.{Option, Some, Ok, is_some, option_map, unwrap_or}
 use Rattle.std.specs.Int.{w32, to_le_bytes}
-use Rattle.tk_base.specs.declared.call.CallRule.TheVariants.{Busy, Empty}
+use Rattle.tk_base.specs.declared.call.CallRule.TheVariants.{Busy, Empty, NoRoom}
 use Rattle.tk_base.specs.declared.kinds.PairKind.TheVariants.{ReadWrite}
 use Rattle.grant_values.specs.declared.alarm.Armed.{Armed}
 use Rattle.grant_values.specs.declared.console.WaitingRead.{WaitingRead}
 use Rattle.grant_values.specs.declared.random.RandomRequest.{RandomRequest}
 use Rattle.grant_values.specs.Values.{ButtonsValue}
+use Rattle.syscall_abi.specs.declared.reply.Reply.TheVariants.{Success}
 use Rattle.process_model.specs.Own.{Own}
-use Rattle.process_model.specs.Handed.{held}
+use Rattle.process_model.specs.Handed.{has_place, held, own_entering}
 use Rattle.process_model.specs.Served.{with_kept, with_written}
 use Rattle.driver_model.specs.Steps.{DriverStep, silently}
-use Rattle.driver_model.specs.Commands.{Commanded, refusing}
-use Rattle.driver_model.specs.Requests.{RequestKind, asking, beginning}
+use Rattle.driver_model.specs.Commands.{Commanded, Waits, refusing}
+use Rattle.driver_model.specs.Requests.{RequestKind, asking, with_request}
 use Rattle.driver_model.specs.Alarm.{fired, nearer, ticks_left_in}
 use Rattle.driver_model.specs.Buttons.{buttons}
 use Rattle.driver_model.specs.Console.{console, console_reads}
@@ -30,6 +31,14 @@ fired_if now own due = unwrap_or (option_map (λ alarm. fired now alarm own) due
 -- the least so far, and then with one slot more
 abbrev pub nearer_with : ℕ → List Own → Option ℕ → ℕ → Option ℕ
 nearer_with now owns least slot = nearer least (ticks_left_in now owns slot)
+
+-- a request begins to wait, if there is room for the driver's grant
+abbrev pub beginning : {R : Type 0} → RequestKind R → R → Own → Commanded
+beginning request_kind request own =
+    let o = with_request request_kind (Some request) (own_entering request_kind.driver own) in
+    if has_place request_kind.driver own
+    then record { answer = Ok Success; step = silently o; acts = Waits request_kind.line ∷ [] }
+    else refusing NoRoom own
 
 -- where a request waits already there is none more
 abbrev pub asking_beside : {R : Type 0} → RequestKind R → Option R → R → Own → Commanded

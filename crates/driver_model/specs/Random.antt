@@ -1,7 +1,7 @@
 -- The source of random bytes (Tock's driver 0x40001): a process asks for a count of bytes, and they are written
 -- into its read-write buffer 0, a word at a time.
-use Rattle.std.specs.Prelude.{ℕ, ◌+◌, ◌-◌, Bool, false, min, nat_le, if◌then◌else◌, List, [], ◌∷◌, drop}
-use Rattle.std.specs.Prelude.{take, Option, None, Some, is_none, option_map, unwrap_or}
+use Rattle.std.specs.Prelude.{ℕ, ◌+◌, ◌-◌, min, nat_le, if◌then◌else◌, List, [], ◌∷◌, drop}
+use Rattle.std.specs.Prelude.{take, Option, None, Some, is_none}
 use Rattle.std.specs.Int.{w32, to_le_bytes}
 use Rattle.grant_values.specs.declared.random.RandomRequest.{RandomRequest}
 use Rattle.grant_values.specs.declared.drivers.Driver.TheVariants.{Random}
@@ -13,8 +13,9 @@ use Rattle.process_model.specs.Own.{Own}
 use Rattle.process_model.specs.Handed.{held}
 use Rattle.process_model.specs.Served.{with_written}
 use Rattle.driver_model.specs.Steps.{DriverStep, scheduling, silently}
-use Rattle.driver_model.specs.Commands.{Commanded, Randoms, accepting, by_number}
-use Rattle.driver_model.specs.Requests.{RequestKind, asking, keeping_request, waiting_in}
+use Rattle.driver_model.specs.Commands.{Commanded, Randoms, accepting}
+use Rattle.driver_model.specs.Requests.{RequestAnswered, RequestKind, asking, keeping_request, on_request}
+use Rattle.driver_model.specs.Requests.{unanswered}
 
 -- the number of the driver
 abbrev pub random : ℕ
@@ -27,21 +28,13 @@ random_request other = None
 
 -- where a process asks for bytes: its request is all that it keeps
 abbrev pub randoms : RequestKind RandomRequest
-randoms = record {
-  driver = random;
-  told = random_request;
-  with_request = λ request value. RandomValue request;
-  line = Randoms;
-}
+randoms =
+    record { driver = random; told = random_request; with_request = λ asked value. RandomValue asked; line = Randoms }
 
 -- its commands: the driver is there; a request for so many bytes
 unfoldable pub commands : ℕ → Own → List (ℕ × Commanded)
 commands count own =
     (0, accepting Success own) ∷ (1, asking randoms (record { count = count; written = 0 }) own) ∷ []
-
--- a command of a number with its first argument
-unfoldable pub command : ℕ → ℕ → Own → Commanded
-command number count own = by_number own (commands count own) number
 
 -- how many bytes a request gets: as many as it asks for, and no more than the buffer has that is held now
 abbrev pub wanted : RandomRequest → Own → ℕ
@@ -75,27 +68,13 @@ progress word request own =
     if nat_le (wanted request own) request.written then completing None 0 request.written own
     else drawing (wanted request own - request.written) request own word
 
--- What the source's answer to a process comes to: what it leaves of the process; the word that was drawn, if one was;
--- whether the request completed, so that the process waits no more.
-pub record RandomAnswered : Type 0 where
-  pub step : DriverStep
-  pub drawn : Option ℕ
-  pub completed : Bool
-
--- an answer that changes nothing
-abbrev pub unanswered : Own → RandomAnswered
-unanswered own = record { step = silently own; drawn = None; completed = false }
-
 -- what a step of a request leaves: the request as far as it waits still
-abbrev pub advanced : Progress → RandomAnswered
-advanced p =
-    record { step = keeping_request randoms p.rest p.step; drawn = p.drawn; completed = is_none p.rest }
+abbrev pub advanced : Progress → RequestAnswered (Option ℕ)
+advanced p = record { step = keeping_request randoms p.rest p.step; moved = p.drawn; completed = is_none p.rest }
 
--- the answer to a process, with the next word, if one is left; nothing changes where it has no request
-unfoldable pub answered : Option ℕ → Own → RandomAnswered
-answered word own =
-    let step = λ (request : RandomRequest). advanced (progress word request own) in
-    unwrap_or (option_map step (waiting_in randoms own)) (unanswered own)
+-- the source's answer to a process, with the next word, if one is left; nothing changes where it has no request
+unfoldable pub answered : Option ℕ → Own → RequestAnswered (Option ℕ)
+answered word own = on_request randoms own (unanswered None own) (λ request. advanced (progress word request own))
 
 -- the words that are left where one was drawn, or none
 abbrev pub words_after : Option ℕ → List ℕ → List ℕ

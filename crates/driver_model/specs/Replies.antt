@@ -1,11 +1,14 @@
--- What a process gets back for a command (TRD 104, "Return Values").
-use Rattle.std.specs.Prelude.{Option, None, Some, Result, Ok, Err}
-use Rattle.tk_base.specs.Call.{error_of}
+-- What a process gets back for a command that asks nothing of the board (TRD 104, "Return Values").
+use Rattle.std.specs.Prelude.{◌≡◌, [], Option}
 use Rattle.tk_base.specs.declared.call.CallRule.{CallRule}
 use Rattle.syscall_abi.specs.declared.reply.Reply.{Reply}
-use Rattle.syscall_abi.specs.declared.reply.Reply.TheVariants.{Failure}
+use Rattle.syscall_abi.specs.Reply.{reply_of}
+use Rattle.process_model.specs.Own.{Own}
+use Rattle.driver_model.specs.Steps.{own_after}
+use Rattle.driver_model.specs.Commands.{Commanded}
 
--- the reply, and the rule that refuses the command, if one does; the reply is then a failure with the rule's error
-abbrev pub reply_of : Result Reply CallRule → Reply × Option CallRule
-reply_of (Ok reply) = (reply, None)
-reply_of (Err rule) = (Failure (error_of rule), Some rule)
+-- The answer is the command's, as the process gets it, and so is what is then the process's own; it asks nothing of the
+-- board.
+abbrev pub RepliesAlone : Commanded → Reply × Option CallRule → Own → Type 0
+RepliesAlone command answer own =
+    (answer ≡ reply_of command.answer) × (own ≡ own_after command.step) × (command.acts ≡ [])

@@ -1,14 +1,14 @@
 -- Requests of processes that a driver serves one after another. A process's request waits in the grant that it keeps
 -- for the driver (Levy et al., SOSP 2017, section 4), and the process waits in a list of the board's.
-use Rattle.std.specs.Prelude.{ℕ, if◌then◌else◌, [], ◌∷◌, Option, None, Some, is_some, option_and_then, unwrap_or, Ok}
-use Rattle.tk_base.specs.declared.call.CallRule.TheVariants.{Busy, NoRoom}
+use Rattle.std.specs.Prelude.{ℕ, Bool, false, if◌then◌else◌, [], ◌∷◌, Option, None, Some, is_some, option_and_then}
+use Rattle.std.specs.Prelude.{option_map, unwrap_or, Ok}
+use Rattle.tk_base.specs.declared.call.CallRule.TheVariants.{Busy}
 use Rattle.grant_values.specs.Values.{KeptValue, NoValue}
 use Rattle.syscall_abi.specs.declared.reply.Reply.TheVariants.{Success}
 use Rattle.process_model.specs.Own.{Own}
-use Rattle.process_model.specs.Handed.{own_entering, has_place}
 use Rattle.process_model.specs.Served.{kept, with_kept}
 use Rattle.driver_model.specs.Steps.{DriverStep, silently}
-use Rattle.driver_model.specs.Commands.{Commanded, QueueName, Waits, refusing}
+use Rattle.driver_model.specs.Commands.{Commanded, QueueName, Waits, once_entered, refusing}
 
 -- Where a process asks a driver for something: the driver's number; the request in the value that it keeps for the
 -- driver, if one waits; that value with another request, or with none; the list in which it waits. In a value of
@@ -37,15 +37,25 @@ keeping_request request_kind request step = record step { own = with_request req
 abbrev pub waiting_in : {R : Type 0} → RequestKind R → Own → Option R
 waiting_in request_kind own = if own.lives then request_in request_kind own else None
 
--- a request begins to wait, if there is room for the driver's grant
-abbrev pub beginning : {R : Type 0} → RequestKind R → R → Own → Commanded
-beginning request_kind request own =
-    let o = with_request request_kind (Some request) (own_entering request_kind.driver own) in
-    if has_place request_kind.driver own
-    then record { answer = Ok Success; step = silently o; acts = Waits request_kind.line ∷ [] }
-    else refusing NoRoom own
+-- What a device's answer to a process comes to: what it leaves of the process; what was moved for it, bytes or a word,
+-- if anything was; whether a request completed, so that the process waits no more.
+pub record RequestAnswered (M : Type 0) : Type 0 where
+  pub step : DriverStep
+  pub moved : M
+  pub completed : Bool
 
--- a request begins to wait, or is refused: one of this kind waits already, or there is no room for the grant
+-- an answer that moves nothing, and changes nothing
+abbrev pub unanswered : {M : Type 0} → M → Own → RequestAnswered M
+unanswered nothing own = record { step = silently own; moved = nothing; completed = false }
+
+-- what is made of a process's request of a kind that waits; something else where none waits
+abbrev pub on_request : {R A : Type 0} → RequestKind R → Own → A → (R → A) → A
+on_request request_kind own otherwise serve = unwrap_or (option_map serve (waiting_in request_kind own)) otherwise
+
+-- a request begins to wait; it is refused where one of this kind waits already
 abbrev pub asking : {R : Type 0} → RequestKind R → R → Own → Commanded
 asking request_kind request own =
-    if is_some (request_in request_kind own) then refusing Busy own else beginning request_kind request own
+    let step = λ (o : Own). silently (with_request request_kind (Some request) o) in
+    if is_some (request_in request_kind own) then refusing Busy own
+    else once_entered request_kind.driver own
+    (λ o. record { answer = Ok Success; step = step o; acts = Waits request_kind.line ∷ [] })

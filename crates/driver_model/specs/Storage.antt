@@ -1,7 +1,7 @@
 -- The storage (driver 0x50001 in Tock's list of drivers): each slot has bytes of its own, which outlive its process. It
 -- asks to read some of them into its read-write buffer 0, or to write over some from its read-only buffer 0.
-use Rattle.std.specs.Prelude.{ℕ, ◌+◌, Bool, true, false, min, nat_le, if◌then◌else◌, List, [], ◌∷◌, slice_range}
-use Rattle.std.specs.Prelude.{take, Option, None, Some, option_map, unwrap_or}
+use Rattle.std.specs.Prelude.{ℕ, ◌+◌, Bool, true, min, nat_le, if◌then◌else◌, List, [], ◌∷◌, slice_range}
+use Rattle.std.specs.Prelude.{take, Option, None, Some}
 use Rattle.tk_base.specs.declared.call.CallRule.TheVariants.{Range}
 use Rattle.tk_base.specs.declared.kinds.PairKind.TheVariants.{ReadOnly, ReadWrite}
 use Rattle.grant_values.specs.declared.storage.StorageKind.{StorageKind}
@@ -14,9 +14,10 @@ use Rattle.syscall_abi.specs.declared.reply.Reply.TheVariants.{Success, SuccessU
 use Rattle.process_model.specs.Own.{Own}
 use Rattle.process_model.specs.Handed.{held}
 use Rattle.process_model.specs.Served.{bytes_at, with_written}
-use Rattle.driver_model.specs.Steps.{DriverStep, scheduling, silently}
-use Rattle.driver_model.specs.Commands.{Commanded, Stores, accepting, refusing, by_number}
-use Rattle.driver_model.specs.Requests.{RequestKind, asking, keeping_request, waiting_in}
+use Rattle.driver_model.specs.Steps.{DriverStep, scheduling}
+use Rattle.driver_model.specs.Commands.{Commanded, Stores, accepting, refusing}
+use Rattle.driver_model.specs.Requests.{RequestAnswered, RequestKind, asking, keeping_request, on_request}
+use Rattle.driver_model.specs.Requests.{unanswered}
 
 -- the number of the driver
 abbrev pub storage : ℕ
@@ -29,19 +30,16 @@ storage_request other = None
 
 -- where a process asks for its slot's bytes: its request, of either kind, is all that it keeps
 abbrev pub storages : RequestKind StorageRequest
-storages = record {
-  driver = storage;
-  told = storage_request;
-  with_request = λ request value. StorageValue request;
-  line = Stores;
-}
+storages =
+    record { driver = storage; told = storage_request; with_request = λ asked value. StorageValue asked; line = Stores }
 
 -- a request for bytes of a slot's storage, which has so many; those that are asked for must lie in it
 abbrev pub requesting : ℕ → StorageRequest → Own → Commanded
 requesting size request own =
     if nat_le (request.offset + request.length) size then asking storages request own else refusing Range own
 
--- its commands: the driver is there; the bytes of a slot's storage; read, and write, at an offset so many bytes
+-- its commands, where a slot's storage has so many bytes: the driver is there; how many these are; read, and write, at
+-- an offset so many bytes
 unfoldable pub commands : ℕ → ℕ → ℕ → Own → List (ℕ × Commanded)
 commands size a2 a3 own =
     (0, accepting Success own)
@@ -49,10 +47,6 @@ commands size a2 a3 own =
     ∷ (2, requesting size (record { kind = Read; offset = a2; length = a3 }) own)
     ∷ (3, requesting size (record { kind = Write; offset = a2; length = a3 }) own)
     ∷ []
-
--- a command of a number with two arguments, where a slot's storage has so many bytes
-unfoldable pub command : ℕ → ℕ → ℕ → ℕ → Own → Commanded
-command size number a2 a3 own = by_number own (commands size a2 a3 own) number
 
 -- What serving a request comes to: what it leaves of the process, beside the request; and what is written over
 -- the slot's storage, from an offset on, if anything is.
@@ -89,23 +83,11 @@ storage_served fault flash bytes request own =
     if fault then record { step = completing request.kind 0 1 own; written = None }
     else moving request.kind flash bytes request own
 
--- What the storage's answer to a process comes to: what it leaves of the process; what is written over the slot's
--- storage; whether a request completed, so that the process waits no more.
-pub record StorageAnswered : Type 0 where
-  pub step : DriverStep
-  pub written : Option (ℕ × List ℕ)
-  pub completed : Bool
-
--- an answer that changes nothing
-abbrev pub unanswered : Own → StorageAnswered
-unanswered own = record { step = silently own; written = None; completed = false }
-
 -- a request that was served waits no more
-abbrev pub storage_answer_of : StorageServed → StorageAnswered
-storage_answer_of s = record { step = keeping_request storages None s.step; written = s.written; completed = true }
+abbrev pub finished : StorageServed → RequestAnswered (Option (ℕ × List ℕ))
+finished s = record { step = keeping_request storages None s.step; moved = s.written; completed = true }
 
--- the answer to a process; nothing changes where it has no request
-unfoldable pub answered : Bool → (ℕ → ℕ) → List ℕ → Own → StorageAnswered
+-- the storage's answer to a process; nothing changes where it has no request
+unfoldable pub answered : Bool → (ℕ → ℕ) → List ℕ → Own → RequestAnswered (Option (ℕ × List ℕ))
 answered fault flash bytes own =
-    let serve = λ (request : StorageRequest). storage_answer_of (storage_served fault flash bytes request own) in
-    unwrap_or (option_map serve (waiting_in storages own)) (unanswered own)
+    on_request storages own (unanswered None own) (λ request. finished (storage_served fault flash bytes request own))

@@ -9,6 +9,7 @@ use Rattle.process_model.specs.Handed.{held}
 use Rattle.process_model.specs.Served.{ScheduledUpcall}
 use Rattle.driver_model.specs.Alarm as alarm
 use Rattle.driver_model.specs.Buttons as buttons
+use Rattle.driver_model.specs.Commands.{by_number}
 use Rattle.driver_model.specs.Console as console
 use Rattle.driver_model.specs.Random as random
 use Rattle.driver_model.specs.Storage as storage
@@ -45,7 +46,7 @@ pub record DriversScheduleTheirOwn : Type 0 where
       (around : CommandContext) (number a2 a3 : ℕ) (own : Own) →
       IsOfDriver driver (taker around number a2 a3 own).step.schedules
   pub buttons : (count pressed number button : ℕ) (own : Own) →
-      (buttons.command count pressed number button own).step.schedules ≡ None
+      (by_number (buttons.commands count pressed button) number own).step.schedules ≡ None
   pub alarmed : (now : ℕ) (own : Own) → IsOfDriver alarm.alarm_driver (alarm.answered now own).schedules
   pub taken : (own : Own) → IsOfDriver console.console (console.taken own).schedules
   pub write_done : (own : Own) → IsOfDriver console.console (console.write_done own).schedules

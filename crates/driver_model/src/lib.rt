@@ -2,12 +2,9 @@
 //! change.
 #![tactic(auto)]
 
-mod drivers;
 mod laws;
 mod lines;
-mod replies;
 
-pub use drivers::takes_commands;
 pub use laws::{
     a_command_drops_at_most_one_upcall, a_driver_that_refuses_changes_nothing, a_due_slot_is_there,
     an_alarm_is_due_where_no_ticks_are_left, an_alarm_leaves_the_rest, commands_stay_in_place,
@@ -18,4 +15,3 @@ pub use laws::{
 pub use lines::{
     events_tell_steps, lines_follow_answers, lines_follow_commands, only_drivers_move_lines,
 };
-pub use replies::reply_of;

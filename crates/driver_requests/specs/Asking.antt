@@ -6,7 +6,7 @@ use Rattle.syscall_abi.specs.declared.reply.Reply.{Reply}
 use Rattle.process_model.specs.Own.{Own}
 use Rattle.driver_model.specs.Steps.{own_after}
 use Rattle.driver_model.specs.Commands.{Commanded, QueueName}
-use Rattle.driver_model.specs.Replies.{reply_of}
+use Rattle.syscall_abi.specs.Reply.{reply_of}
 use Rattle.driver_model.specs.Requests.{RequestKind, request_in, waiting_in}
 use Rattle.grant_enter.specs.Homes.{Homes, own_of, ChangesOnly}
 use Rattle.grant_enter.specs.Visits.{is_stale}

@@ -78,14 +78,6 @@ impl WaitingList {
         self.ids.push(Waiting { id });
     }
 
-    /// The process that waits longest. None exactly where none waits.
-    fn longest(&self) -> Option<ProcessId>
-        ensures { result ≡ slice_get self.now 0 }
-    {
-        let first = self.ids.as_slice().first()?;
-        Some(first.id)
-    }
-
     /// The place at which the process of a slot waits, where it does.
     fn place_of(&self, slot: Slot) -> Option<usize>
         ensures { result ≡ position (λ id. id.slot == slot) self.now }
@@ -119,10 +111,11 @@ impl WaitingList {
     pub fn first(&self, only: Option<Slot>) -> Option<ProcessId>
         ensures { result ≡ first_of only self.now }
     {
-        match only {
-            None => self.longest(),
-            Some(slot) => self.of_slot(slot),
+        if let Some(slot) = only {
+            return self.of_slot(slot);
         }
+        let first = self.ids.as_slice().first()?;
+        Some(first.id)
     }
 
     /// Those that wait, the one that waits longest first.

@@ -16,7 +16,7 @@ use Rattle.grant_model.proofs.Costs.{kernel_costs}
 use Rattle.grant_model.specs.Encoding.{EncodesGrants, Tells, decode_grants}
 use Rattle.process_layout.specs.Ordered.{IsOrdered}
 use Rattle.grant_region.specs.Region.{AreParts, Leaves, Parts, below, above, roomed}
-use Rattle.swap_tables.specs.Swaps.{Swaps, held_pair, swapped}
+use Rattle.swap_tables.specs.Swaps.{Swaps, held_pair, with_swapped_pair}
 use Rattle.grant_enter.specs.Homes.{FitsMemory}
 use Rattle.grant_enter.specs.Windows.{SameOutside}
 use Rattle.grant_enter.specs.Seats.{IsKept, Regrants, SwapsIn, app_in, kernel_in}
@@ -212,5 +212,5 @@ swaps_in m e s h before after lent long o answer sw =
       former = sw.former
           ∙ ap (λ (xs : List ℕ). held_pair h.kind h.driver h.number xs) (lent.kernel ∙ lent_kernel m e s);
       layout = room_in m e s h.driver before after lent layout;
-      grants = regrants_in m e s h.driver before after lent layout (swapped h) long o sw.grants;
+      grants = regrants_in m e s h.driver before after lent layout (with_swapped_pair h) long o sw.grants;
     }

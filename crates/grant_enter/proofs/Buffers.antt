@@ -25,7 +25,8 @@ use Rattle.grant_enter.specs.declared.seat.Seat.{Seat}
 use Rattle.grant_enter.specs.Buffers.{buffer_start, last_of}
 use Rattle.grant_enter.specs.Homes.{FitsMemory}
 use Rattle.grant_enter.proofs.Holding.{lies_zero, wider}
-use Rattle.grant_enter.specs.Seats.{Holds, SitsIn, LiesBelowMark, LiesInPlace, MayBeRead, app_in, buffer_bytes, own_in}
+use Rattle.grant_enter.specs.Seats.{Holds, SitsIn, LiesBelowMark, LiesInPlace, MayBeRead, app_in, readable_bytes}
+use Rattle.grant_enter.specs.Seats.{own_in}
 
 all_by : (P : Grant → Type 0) (driver : ℕ) (g x : Grant) (gs : List Grant) (b : Bool) → P x
     → cond b (Some x) (grant_of driver gs) ≡ Some g → (grant_of driver gs ≡ Some g → P g) → P g
@@ -182,7 +183,7 @@ module _ (m : MemoryBytes) (seat : Seat) (s : FitsMemory (length m.flash) (lengt
 
   -- what is lent to be read
   pub read_is : (buffer : ℕ × ℕ) → MayBeRead (bounds_of seat.layout) buffer
-      → buffer_bytes m seat.layout buffer ≡ bytes_at (flash_byte m.flash) (own_in m.ram seat) buffer
+      → readable_bytes m seat.layout buffer ≡ bytes_at (flash_byte m.flash) (own_in m.ram seat) buffer
   read_is buffer may = read_by buffer (buffer.1 == 0) (lies_in_ram (bounds_of seat.layout) buffer.0 buffer.1) refl refl
       may
 

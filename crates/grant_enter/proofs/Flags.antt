@@ -52,7 +52,7 @@ module _ (m : MemoryBytes) (seat : Seat) (t : SitsIn m seat) (at byte : ℕ) (lo
   pub flag_reseats : Reseats m seat (with_run m seat.layout.start written) seat
   flag_reseats =
       ram_reseats m seat seat (with_run m seat.layout.start written).ram
-      (run_elsewhere m seat.layout t.settled written size) refl refl t.settled
+      (run_elsewhere m seat.layout t.settled written size) refl refl refl refl t.settled
       (record { object = t.seated.object; kept = subst (IsKept (bounds_of seat.layout)) (sym kernel) t.seated.kept })
 
   pub flag_own : own_in (with_run m seat.layout.start written).ram seat ≡ with_flag at byte (own_in m.ram seat)

@@ -10,7 +10,7 @@ use Rattle.grant_model.specs.Grants.{Grant, shape_of}
 use Rattle.grant_model.specs.Encoding.{decode_grants}
 use Rattle.grant_model.specs.Laws.{PairsStandByKind}
 use Rattle.swap_tables.specs.declared.handover.Handover.{Handover}
-use Rattle.swap_tables.specs.Swaps.{CanHand, swapped}
+use Rattle.swap_tables.specs.Swaps.{CanHand, with_swapped_pair}
 use Rattle.process_model.specs.Own.{Own}
 use Rattle.process_model.specs.Handed.{handing, may_share, marked, own_entering, still_pending}
 use Rattle.upcall_queue.specs.declared.inbox.Inbox.{Inbox}
@@ -41,7 +41,7 @@ module _ (m : MemoryBytes) (seat : Seat) (t : SitsIn m seat) (h : Handover) (m' 
       → own_in m'.ram (record seat { layout = now; inbox = inbox })
       ≡ handing h.kind h.driver h.number h.pair (own_in m.ram seat)
   own_handed left =
-      let gs = swapped h (decode_grants (kernel_in m.ram seat.layout)) in
+      let gs = with_swapped_pair h (decode_grants (kernel_in m.ram seat.layout)) in
       let made : Bounds → List ℕ → List Grant → Inbox → Own = λ e a gs i. record {
         object = seat.object;
         layout = e;
@@ -64,10 +64,10 @@ module _ (m : MemoryBytes) (seat : Seat) (t : SitsIn m seat) (h : Handover) (m' 
       let small : h.number < count_of h.kind (shape_of h.driver) =
       subst (λ (c : Counts). h.number < count_of h.kind c) (sym (shape_is h.driver h.counts can.counts_are))
       can.below in
-      let held : AllByRecursion (Holds (noted h.kind h.pair (bounds_of f))) (swapped h before) =
-      subst (λ (b : Bounds). AllByRecursion (Holds (noted h.kind h.pair b)) (swapped h before))
+      let held : AllByRecursion (Holds (noted h.kind h.pair (bounds_of f))) (with_swapped_pair h before) =
+      subst (λ (b : Bounds). AllByRecursion (Holds (noted h.kind h.pair b)) (with_swapped_pair h before))
       (sym (same_bounds h.driver m seat t f sw.layout))
       (handed_holds law h (bounds_of seat.layout) before t.seated.kept.laid.sound small may t.seated.kept.held) in
-      regranted m seat t h.driver m' f (swapped h before) sw.layout sw.grants
+      regranted m seat t h.driver m' f (with_swapped_pair h before) sw.layout sw.grants
       (marked h.kind h.pair (bounds_of f)).mark inbox
       (mark_below h.kind h.pair (bounds_of f) sw.grants.ordered.buffers) held

@@ -14,7 +14,7 @@ use Rattle.grant_model.specs.Grants.{entered, fresh}
 use Rattle.grant_model.specs.Encoding.{IsSound}
 use Rattle.grant_model.specs.Laws.{PairsStandByKind}
 use Rattle.swap_tables.specs.declared.handover.Handover.{Handover}
-use Rattle.swap_tables.specs.Swaps.{swapped}
+use Rattle.swap_tables.specs.Swaps.{with_swapped_pair}
 use Rattle.process_model.specs.Handed.{lies_in_ram, lies_in_flash, may_share, marked, raised}
 use Rattle.grant_enter.specs.Seats.{Holds, LiesBelowMark, LiesInPlace, MayBeRead}
 
@@ -204,7 +204,7 @@ entering_pairs law driver gs (Some g) all = all_grants IsSound HasPairs gs (λ g
 -- all buffers lie where they may once a pair was handed
 pub handed_holds : PairsStandByKind → (h : Handover) (e : Bounds) (gs : List Grant) → AllByRecursion IsSound gs
     → h.number < count_of h.kind (shape_of h.driver) → IsTrue (may_share h.kind e h.pair) → AllByRecursion (Holds e) gs
-    → AllByRecursion (Holds (noted h.kind h.pair e)) (swapped h gs)
+    → AllByRecursion (Holds (noted h.kind h.pair e)) (with_swapped_pair h gs)
 handed_holds law h e gs sound small may all =
     let change = with_pair h.kind h.number h.pair in
     let f = noted h.kind h.pair e in

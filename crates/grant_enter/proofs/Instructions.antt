@@ -60,7 +60,7 @@ pub writes_own : AStoreIsPut → (m : MemoryBytes) (pmp : List Entry) (s : Seat)
     → Protect pmp (bounds_of s.layout)
     → (w : Option Write) → IfSome w (λ x. denied_by_registers pmp Store x.address x.width ≡ None) → Writes m s w
 unfolding ram_after
-writes_own law m pmp s sits p None d = record { reseats = same_memory m s s refl refl sits; own = refl }
+writes_own law m pmp s sits p None d = record { reseats = same_memory m s s refl refl refl refl sits; own = refl }
 writes_own law m pmp s sits p (Some w) d =
     let t = sits.settled in
     let l = store_lies pmp s.layout w.address w.width p d in
@@ -82,7 +82,7 @@ writes_own law m pmp s sits p (Some w) d =
       reseats =
           ram_reseats m s s ram (widened m.ram ram at (at + width_bytes w.width) (s.layout.start - RAM_START)
           (s.layout.end - RAM_START) outside (omega (arith, l.0))
-          (omega (arith, l.0, l.1, t.from, t.ordered.grants, t.ordered.end))) refl refl t
+          (omega (arith, l.0, l.1, t.from, t.ordered.grants, t.ordered.end))) refl refl refl refl t
           (record {
             object = sits.seated.object;
             kept = subst (IsKept (bounds_of s.layout)) (sym kernel)

@@ -127,7 +127,7 @@ module _ (driver : ℕ) (counts : Counts) (m : MemoryBytes) (seat : Seat) (l : I
       (decode_grants (kernel_in m.ram seat.layout)) (λ g h. h) (λ g is h. record { each = h.each })
       l.sits.seated.kept.held in
       subst (λ (x : MemoryBytes). Reseats m seat x seat) (sym left)
-      (ram_reseats m seat seat ys elsewhere refl refl s (record {
+      (ram_reseats m seat seat ys elsewhere refl refl refl refl s (record {
         object = l.sits.seated.object;
         kept = subst (IsKept (bounds_of seat.layout)) (sym kernel_is)
             (record {

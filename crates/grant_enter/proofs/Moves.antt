@@ -22,10 +22,10 @@ use Rattle.grant_model.specs.Laws.{IsReadBack}
 use Rattle.process_model.specs.Own.{Own, layout_of, own_restarted, own_ended}
 use Rattle.grant_enter.specs.declared.seat.Seat.{Seat}
 use Rattle.grant_enter.specs.declared.home.Home.TheInside.{Inside}
-use Rattle.grant_enter.specs.Homes.{Homes, FitsMemory, ChangesOnly, nobody, own_of, with_own}
+use Rattle.grant_enter.specs.Homes.{Homes, FitsMemory, ChangesOnly, has_permissions, nobody, own_of, with_own}
 use Rattle.grant_enter.specs.Windows.{SameOutside}
 use Rattle.grant_enter.specs.Seats.{AreSettled, IsHome, IsSeated, IsKept, Holds, Reseats, SitsIn, first_seat}
-use Rattle.grant_enter.specs.Seats.{layouts_of, owned, app_in, kernel_in, own_in, owns_seated, homes_of}
+use Rattle.grant_enter.specs.Seats.{TellsPermissions, layouts_of, owned, app_in, kernel_in, own_in, owns_seated, homes_of}
 use Rattle.std.proofs.lemmas.Grind.{same_number_lists}
 use Rattle.grant_enter.proofs.Windows.{windows_same, over_outside, over_window, short, zeros, length_zeros}
 use Rattle.grant_enter.proofs.Tables.{any_default, one_changed, read_at, own_at, settled_at, apart_at, layouts_set}
@@ -68,7 +68,7 @@ pub record Reads (h : Inside) (old : Homes) (slot index : ℕ) (seat : Seat) : T
 -- the seat of a slot, and that it is read
 abbrev pub seat_of : Inside → ℕ → Seat
 seat_of h slot =
-    slice_index_or h.seats.items slot (first_seat
+    slice_index_or h.seats.items slot (first_seat []
     (record { object = nobody.object; layout = layout_within nobody.layout 0 }))
 
 pub reads_seat : (h : Inside) (old : Homes) (slot : ℕ) → IsHome h → homes_of h ≡ old → slot < length old.owns
@@ -122,6 +122,16 @@ module _ {h : Inside} {old : Homes} {slot index : ℕ} {seat : Seat} (r : Reads 
       sits_before.seated.object.to in
       subst (λ (o : Own). o.object.address + o.object.size < 2 ^ 32) (sym own_before)
       (omega (arith, lies, r.home.short))
+
+  -- the seat tells of the permissions of its object in flash
+  told : TellsPermissions h.memory.flash seat
+  told =
+      subst (TellsPermissions h.memory.flash) (read_at h.seats.items slot index seat seat r.is r.read within)
+      (r.home.permissions slot seat within)
+
+  pub told_permissions : seat.has_permissions ≡ has_permissions old.flash (own_of old slot).object
+  told_permissions =
+      told ∙ ap₂ has_permissions (ap (λ (x : Homes). x.flash) r.shown) (sym (ap (λ (o : Own). o.object) own_before))
 
   first_side : (e : LayoutView) → (e.end ≤ seat.layout.start) ⊎ (seat.layout.end ≤ e.start) → IsOrdered e
       → (e.kernel_break - RAM_START ≤ seat.layout.start - RAM_START)
@@ -177,6 +187,10 @@ module _ {h : Inside} {old : Homes} {slot index : ℕ} {seat : Seat} (r : Reads 
       kept = subst (IsKept (bounds_of (get_or h.seats.items k d).layout)) (sym (kernel_same k d there ne)) s.kept;
     }
 
+    -- the seat tells of its permissions as before
+    still_tells : TellsPermissions m.flash new
+    still_tells = changed.permissions ∙ told ∙ ap₂ has_permissions (sym changed.flash) (sym changed.object)
+
     still_settled : AreSettled (length m.flash) (length m.ram) (layouts_of h.seats.items)
     still_settled =
         subst (λ (n : ℕ). AreSettled n (length m.ram) (layouts_of h.seats.items)) (sym (ap length changed.flash))
@@ -192,6 +206,10 @@ module _ {h : Inside} {old : Homes} {slot index : ℕ} {seat : Seat} (r : Reads 
           h.seats.items index new (λ k d there ne s.
           subst (λ (n : ℕ). IsSeated n m.ram (get_or h.seats.items k d)) (sym (ap length changed.flash))
           (others_seated k d there (λ e. ne (e ∙ sym r.is)) s)) changed.sits.seated r.home.seated;
+      permissions = all_changed (TellsPermissions h.memory.flash) (TellsPermissions m.flash) h.seats.items index new
+          (λ k d there ne s.
+          subst (λ (flash : List ℕ). TellsPermissions flash (get_or h.seats.items k d)) (sym changed.flash) s)
+          still_tells r.home.permissions;
     }
 
     reshown : (own : Own) → own_in m.ram new ≡ own → homes_of (with_seat h m index new) ≡ with_own old slot own
@@ -239,6 +257,7 @@ module _ {h : Inside} {old : Homes} {slot index : ℕ} {seat : Seat} (r : Reads 
           settled = subst (λ (xs : List Seat). AreSettled (length m.flash) (length m.ram) (layouts_of xs)) same_items
               i.settled;
           seated = subst (λ (xs : List Seat). All (IsSeated (length m.flash) m.ram) xs) same_items i.seated;
+          permissions = subst (λ (xs : List Seat). All (TellsPermissions m.flash) xs) same_items i.permissions;
         }
 
     pub still_only : ChangesOnly slot old (homes_of (record { memory = m; seats = h.seats }))
@@ -269,20 +288,24 @@ reseats_on m seat m1 seat1 m2 seat2 a b =
       };
       start = b.start ∙ a.start;
       end = b.end ∙ a.end;
+      object = b.object ∙ a.object;
+      permissions = b.permissions ∙ a.permissions;
       sits = b.sits;
     }
 
 -- a seat changes, and RAM in its block
 pub ram_reseats : (m : MemoryBytes) (seat new : Seat) (ram : List ℕ)
     → SameOutside (seat.layout.start - RAM_START) (seat.layout.end - RAM_START) m.ram ram
-    → new.layout.start ≡ seat.layout.start → new.layout.end ≡ seat.layout.end
-    → FitsMemory (length m.flash) (length m.ram) new.layout → IsSeated (length m.flash) ram new
-    → Reseats m seat (record m { ram = ram }) new
-ram_reseats m seat new ram elsewhere start end settled seated = record {
+    → new.layout.start ≡ seat.layout.start → new.layout.end ≡ seat.layout.end → new.object ≡ seat.object
+    → new.has_permissions ≡ seat.has_permissions → FitsMemory (length m.flash) (length m.ram) new.layout
+    → IsSeated (length m.flash) ram new → Reseats m seat (record m { ram = ram }) new
+ram_reseats m seat new ram elsewhere start end object permissions settled seated = record {
   flash = refl;
   elsewhere = elsewhere;
   start = start;
   end = end;
+  object = object;
+  permissions = permissions;
   sits = record {
     settled = settled_in m (record m { ram = ram }) new.layout refl elsewhere.long settled;
     seated =
@@ -292,9 +315,17 @@ ram_reseats m seat new ram elsewhere start end settled seated = record {
 
 -- a seat changes, and RAM does not
 pub same_memory : (m : MemoryBytes) (seat new : Seat) → new.layout.start ≡ seat.layout.start
-    → new.layout.end ≡ seat.layout.end → SitsIn m new → Reseats m seat m new
-same_memory m seat new start end sits =
-    record { flash = refl; elsewhere = nowhere m.ram _ _; start = start; end = end; sits = sits }
+    → new.layout.end ≡ seat.layout.end → new.object ≡ seat.object → new.has_permissions ≡ seat.has_permissions
+    → SitsIn m new → Reseats m seat m new
+same_memory m seat new start end object permissions sits = record {
+  flash = refl;
+  elsewhere = nowhere m.ram _ _;
+  start = start;
+  end = end;
+  object = object;
+  permissions = permissions;
+  sits = sits;
+}
 
 -- a layout in order whose breaks are others, in order too
 pub others_settled : (flash ram : ℕ) (e : LayoutView) (brk kernel_break mark : ℕ) → FitsMemory flash ram e
@@ -398,7 +429,7 @@ pub break_reseats : (m : MemoryBytes) (seat : Seat) (new : ℕ) (e : LayoutView)
 break_reseats m seat new e true t permits was kept =
     let f : LayoutView = record seat.layout { brk = rounded_up new } in
     subst (λ (x : LayoutView). Reseats m seat m (record seat { layout = x })) (sym was)
-    (same_memory m seat (record seat { layout = f }) refl refl (record {
+    (same_memory m seat (record seat { layout = f }) refl refl refl refl (record {
       settled = break_settled (length m.flash) (length m.ram) seat.layout f new t.settled (sym permits) refl;
       seated = record {
         object = record {
@@ -413,13 +444,13 @@ break_reseats m seat new e true t permits was kept =
     }))
 break_reseats m seat new e false t permits was kept =
     subst (λ (x : LayoutView). Reseats m seat m (record seat { layout = x })) (sym kept)
-    (same_memory m seat seat refl refl t)
+    (same_memory m seat seat refl refl refl refl t)
 
 -- so does what is scheduled, and whether the process lives
 pub requeued : (m : MemoryBytes) (seat : Seat) (inbox : Inbox) (lives : Bool) → SitsIn m seat
     → Reseats m seat m (record seat { inbox = inbox; lives = lives })
 requeued m seat inbox lives t =
-    same_memory m seat (record seat { inbox = inbox; lives = lives }) refl refl
+    same_memory m seat (record seat { inbox = inbox; lives = lives }) refl refl refl refl
     (record { settled = t.settled; seated = record { object = t.seated.object; kept = t.seated.kept } })
 
 -- so does whether its instructions were decoded, in memory that is the same
@@ -427,7 +458,7 @@ pub known : (m : MemoryBytes) (seat : Seat) (m' : MemoryBytes) → m' ≡ m → 
     → Reseats m seat m' (record seat { decoded = true })
 known m seat m' same t =
     subst (λ (x : MemoryBytes). Reseats m seat x (record seat { decoded = true })) (sym same)
-    (same_memory m seat (record seat { decoded = true }) refl refl
+    (same_memory m seat (record seat { decoded = true }) refl refl refl refl
     (record { settled = t.settled; seated = record { object = t.seated.object; kept = t.seated.kept } }))
 
 pub ended_own : (ram : List ℕ) (seat : Seat) (inbox : Inbox) → inbox ≡ cleared seat.inbox
@@ -515,7 +546,7 @@ module _ {h : Inside} {old : Homes} {slot index : ℕ} {seat : Seat} (r : Reads 
       (sym ends) (over_outside h.memory.ram (zeros (seat.layout.end - seat.layout.start))
       (seat.layout.start - RAM_START) fits) in
       let object = (sits_before r).seated.object in
-      ram_reseats h.memory seat seat_again cleared_ram elsewhere refl refl layout_again (record {
+      ram_reseats h.memory seat seat_again cleared_ram elsewhere refl refl refl refl layout_again (record {
         object = record {
           from = object.from;
           to = object.to;

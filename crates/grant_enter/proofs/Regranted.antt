@@ -1,5 +1,5 @@
 -- A seat whose block has room for one grant more, or has other pairs in its grants.
-use Rattle.std.proofs.Common.{◌≡◌, ℕ, ◌≤◌, List, length, Option, None, Some, sym, ap, subst}
+use Rattle.std.proofs.Common.{◌≡◌, ℕ, ◌≤◌, List, length, Option, None, Some, refl, sym, ap, subst}
 use Rattle.std.specs.List.{AllByRecursion}
 use Rattle.process_layout.specs.LayoutView.{LayoutView}
 use Rattle.process_layout.specs.Bounds.{bounds_of}
@@ -69,6 +69,8 @@ module _ (m : MemoryBytes) (seat : Seat) (t : SitsIn m seat) (driver : ℕ) (m' 
         elsewhere = r.elsewhere;
         start = ends.start;
         end = ends.end;
+        object = refl;
+        permissions = refl;
         sits = record {
           settled = settled_in m m' (remarked mark f) r.flash r.elsewhere.long
               (subst (λ (e : LayoutView). IsOrdered (remarked mark e)

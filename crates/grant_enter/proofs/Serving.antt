@@ -155,6 +155,8 @@ module _ (driver : ℕ) (counts : Counts) (m : MemoryBytes) (seat : Seat) (l : I
         (omega (arith, l.sits.settled.ordered.end));
     start = ap (λ (x : LayoutView). x.start) layout_same;
     end = ap (λ (x : LayoutView). x.end) layout_same;
+    object = ap (λ (x : Seat). x.object) v.seat_is;
+    permissions = ap (λ (x : Seat). x.has_permissions) v.seat_is;
     sits = still_lent.sits;
   }
 

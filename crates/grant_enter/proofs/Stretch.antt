@@ -67,7 +67,7 @@ module _ (laws : InstructionLaws) (pmp : List Entry) (s : Seat) (p : Protect pmp
         let same : left ≡ m.ram = laws.tells m.flash m.flash m.ram left n g.1 in
         record {
           reseats = subst (λ (ram : List ℕ). Reseats m s (record m { ram = ram }) s) (sym same)
-              (same_memory m s s refl refl t);
+              (same_memory m s s refl refl refl refl t);
           made = (ap (λ (ram : List ℕ). own_in ram s) same, g.0);
         }
 

@@ -1,7 +1,7 @@
 -- What contracts see of the memory of all processes: flash, and by slot what is a process's own. A process has its
 -- block and its grants as in Levy et al., SOSP 2017, section 4.
 use Rattle.std.specs.Prelude.{◌≡◌, ◌≢◌, ◌≤◌, ◌<◌, ℕ, zero, suc, ◌+◌, ◌-◌, ◌%◌, ◌^◌, if◌then◌else◌, false, List}
-use Rattle.std.specs.Prelude.{[], length, slice_index_or, slice_set, Option, None, Some}
+use Rattle.std.specs.Prelude.{[], length, slice_index_or, slice_set, Bool, Option, None, Some, is_some}
 use Rattle.std.specs.List.{AllByRecursion}
 use Rattle.tk_base.specs.declared.access.TheConstants.{FLASH_START, RAM_START}
 use Rattle.tk_base.specs.declared.process.ProcessId.{ProcessId}
@@ -13,9 +13,11 @@ use Rattle.process_layout.specs.LayoutView.{LayoutView}
 use Rattle.process_layout.specs.Bounds.{bounds_of}
 use Rattle.process_layout.specs.Ordered.{IsOrdered}
 use Rattle.grant_model.specs.Encoding.{encode_grants, IsSound}
+use Rattle.tbf_headers.specs.Meaning.{header_reading, permissions_by}
 use Rattle.process_model.specs.declared.place.Footprint.{Footprint}
+use Rattle.process_model.specs.declared.place.Object.{Object}
 use Rattle.process_model.specs.Own.{Own, kernel_break_of, layout_of}
-use Rattle.process_model.specs.Flash.{HasObject}
+use Rattle.process_model.specs.Flash.{HasObject, object_in}
 use Rattle.process_model.specs.Instruction.{Sees, instruction_of, with_write}
 
 -- the bytes of flash, and what is a process's own in each slot, slot 0 first
@@ -34,6 +36,10 @@ nobody = record {
   life = 0;
   lives = false;
 }
+
+-- whether the header of an object in flash has a Permissions TLV (Tock Binary Format, "Permissions")
+abbrev pub has_permissions : List ℕ → Object → Bool
+has_permissions flash object = is_some (permissions_by (header_reading (object_in flash object)))
 
 -- what is the own of the process in a slot
 abbrev pub own_of : Homes → ℕ → Own

@@ -18,25 +18,26 @@ use Rattle.grant_model.specs.Grants.{Grant, grant_of, entered, pair_of}
 use Rattle.grant_model.specs.Encoding.{EncodesGrants, Tells, decode_grants}
 use Rattle.grant_region.specs.Region.{below, fits, roomed}
 use Rattle.swap_tables.specs.declared.handover.Handover.{Handover}
-use Rattle.swap_tables.specs.Swaps.{held_pair, swapped}
+use Rattle.swap_tables.specs.Swaps.{held_pair, with_swapped_pair}
 use Rattle.process_model.specs.declared.place.Footprint.{Footprint}
 use Rattle.process_model.specs.Own.{Own}
 use Rattle.process_model.specs.Handed.{lies_in_ram}
 use Rattle.process_model.specs.Flash.{HasObject}
 use Rattle.board_memory.specs.Memory.{MemoryBytes, ram_between, with_run}
-use Rattle.grant_enter.specs.Homes.{Homes, FitsMemory, EndsBefore}
+use Rattle.grant_enter.specs.Homes.{Homes, FitsMemory, EndsBefore, has_permissions}
 use Rattle.grant_enter.specs.Windows.{SameOutside}
 use Rattle.grant_enter.specs.declared.seat.Seat.{Seat}
 use Rattle.grant_enter.specs.declared.home.Home.TheInside.{Inside}
 
-abbrev pub first_seat : Footprint → Seat
-first_seat f = record {
+abbrev pub first_seat : List ℕ → Footprint → Seat
+first_seat flash f = record {
   object = f.object;
   layout = f.layout;
   inbox = empty;
   life = 0;
   lives = true;
   decoded = false;
+  has_permissions = has_permissions flash f.object;
 }
 
 -- what is the own of a process whose block has these two parts
@@ -127,19 +128,26 @@ pub record SitsIn (m : MemoryBytes) (seat : Seat) : Type 0 where
   pub settled : FitsMemory (length m.flash) (length m.ram) seat.layout
   pub seated : IsSeated (length m.flash) m.ram seat
 
--- flash is within its limit, and each process sits in its block, apart from the others
+-- a seat tells whether its object has a Permissions TLV
+abbrev pub TellsPermissions : List ℕ → Seat → Type 0
+TellsPermissions flash seat = seat.has_permissions ≡ has_permissions flash seat.object
+
+-- flash is within its limit, and each process sits in its block, apart from the others, and tells of its permissions
 pub record IsHome (h : Inside) : Type 0 where
   pub short : length h.memory.flash ≤ FLASH_LIMIT
   pub settled : AreSettled (length h.memory.flash) (length h.memory.ram) (layouts_of h.seats.items)
   pub seated : All (IsSeated (length h.memory.flash) h.memory.ram) h.seats.items
+  pub permissions : All (TellsPermissions h.memory.flash) h.seats.items
 
--- A seat with the block of its process changes, in memory that is the same elsewhere: it lies where it lay, and the
--- process sits in memory as before.
+-- A seat with the block of its process changes, in memory that is the same elsewhere: it lies where it lay and is of
+-- the same object, and the process sits in memory as before.
 pub record Reseats (m : MemoryBytes) (seat : Seat) (m' : MemoryBytes) (seat' : Seat) : Type 0 where
   pub flash : m'.flash ≡ m.flash
   pub elsewhere : SameOutside (seat.layout.start - RAM_START) (seat.layout.end - RAM_START) m.ram m'.ram
   pub start : seat'.layout.start ≡ seat.layout.start
   pub end : seat'.layout.end ≡ seat.layout.end
+  pub object : seat'.object ≡ seat.object
+  pub permissions : seat'.has_permissions ≡ seat.has_permissions
   pub sits : SitsIn m' seat'
 
 -- A block that lay as a layout says lies as another one says, in memory that is the same elsewhere: the process's own
@@ -157,7 +165,7 @@ pub record SwapsIn (h : Handover) (m : MemoryBytes) (e : LayoutView) (m' : Memor
     (answer : ℕ × ℕ) : Type 0 where
   pub former : answer ≡ held_pair h.kind h.driver h.number (kernel_in m.ram e)
   pub layout : e' ≡ roomed h.driver e (grant_of h.driver (decode_grants (kernel_in m.ram e)))
-  pub grants : Regrants m e m' e' (swapped h (decode_grants (kernel_in m.ram e)))
+  pub grants : Regrants m e m' e' (with_swapped_pair h (decode_grants (kernel_in m.ram e)))
 
 -- whether a driver is entered by the process of a block in RAM, or its grant fits
 abbrev pub fits_in : ℕ → List ℕ → LayoutView → Bool
@@ -169,8 +177,8 @@ pub record MakesRoom (driver : ℕ) (m : MemoryBytes) (e : LayoutView) (m' : Mem
   pub grants : Regrants m e m' e' (entered driver (decode_grants (kernel_in m.ram e)))
 
 -- the bytes of a buffer that may be read, which has none where its size is 0
-abbrev pub buffer_bytes : MemoryBytes → LayoutView → ℕ × ℕ → List ℕ
-buffer_bytes m e buffer =
+abbrev pub readable_bytes : MemoryBytes → LayoutView → ℕ × ℕ → List ℕ
+readable_bytes m e buffer =
     if buffer.1 == 0 then []
     else (if lies_in_ram (bounds_of e) buffer.0 buffer.1 then ram_between m.ram buffer.0 (buffer.0 + buffer.1)
     else slice_range m.flash (buffer.0 - FLASH_START) (buffer.0 + buffer.1 - FLASH_START))

@@ -15,14 +15,14 @@ ghost use Rattle.process_model.specs.Served.{with_written};
 ghost use Rattle.tk_base.specs.Bytes.{over};
 ghost use Rattle.grant_enter.specs.Buffers.{LendsBuffer, buffer_held, buffer_start, last_of};
 ghost use Rattle.grant_enter.specs.Homes.{FitsMemory};
-ghost use Rattle.grant_enter.specs.Seats.{MayBeRead, buffer_bytes};
+ghost use Rattle.grant_enter.specs.Seats.{MayBeRead, readable_bytes};
 ghost use Rattle.grant_enter.specs.Seen.{Framed, IsLent, own_entered, seen};
 
 use crate::kept::kernel_of;
 use crate::seat::Seat;
 use board_memory::Memory;
 use process_layout::Layout;
-use swap_tables::{buffer_ro, buffer_rw, buffer_ur, upcall};
+use swap_tables::pair_held;
 use tk_base::{Addr, Counts, FLASH_START, PairKind, Upcall};
 
 /// A process while a driver visits its grant: the buffers that it has allowed the driver, which are
@@ -50,7 +50,7 @@ fn flash_part(flash: &[u8], from: Addr, to: Addr) -> &[u8]
 fn buffer_at<'a>(memory: &'a Memory, layout: &Layout, at: Addr, size: u32) -> &'a [u8]
     requires settled { FitsMemory (length memory.now.flash) (length memory.now.ram) layout.now }
     requires may { MayBeRead (bounds_of layout.now) (at, size) }
-    ensures { result.now ≡ buffer_bytes memory.now layout.now (at, size) }
+    ensures { result.now ≡ readable_bytes memory.now layout.now (at, size) }
 {
     if size == 0 {
         return &[];
@@ -81,12 +81,7 @@ impl Entered<'_> {
         ensures { result ≡ held kind (seen self.now).driver n (own_entered self.now) }
     {
         let kernel = kernel_of(self.memory, &self.seat.layout);
-        match kind {
-            PairKind::Upcall => upcall(kernel, self.driver, &self.counts, n),
-            PairKind::ReadOnly => buffer_ro(kernel, self.driver, &self.counts, n),
-            PairKind::ReadWrite => buffer_rw(kernel, self.driver, &self.counts, n),
-            PairKind::Readable => buffer_ur(kernel, self.driver, &self.counts, n),
-        }
+        pair_held(kernel, self.driver, &self.counts, kind, n)
     }
 
     /// The addresses of a buffer that the driver may write.

@@ -7,7 +7,7 @@ ghost use Rattle.grant_enter.specs.Visits.{Asks, Enters, IsCounted, Peeks, Visit
 
 use crate::home::Home;
 use crate::visit::{EnterError, Stale, Unvisited, Visit, enter_seat, peek_seat, visit_seat};
-use grant_values::{GrantValue, counts};
+use grant_values::GrantValue;
 use std::marker::PhantomData;
 use tk_base::{Counts, ProcessId};
 
@@ -42,13 +42,16 @@ impl<T: GrantValue, const UP: usize, const RO: usize, const RW: usize, const UR:
         requires counts { counts_of driver ≡ Some (counting UP RO RW UR T.SIZE) }
         ensures { result.driver ≡ driver }
     {
-        match counts(driver) {
-            Some(counts) => Grant {
-                driver,
-                counts,
-                value: PhantomData,
+        Grant {
+            driver,
+            counts: Counts {
+                upcalls: UP as u32,
+                ro: RO as u32,
+                rw: RW as u32,
+                ur: UR as u32,
+                value: T::SIZE,
             },
-            None => unreachable!(),
+            value: PhantomData,
         }
     }
 

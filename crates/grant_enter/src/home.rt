@@ -17,7 +17,8 @@ ghost use Rattle.process_model.specs.Handed.{HoldsInPlace, own_entering, handing
 ghost use Rattle.process_model.specs.Handed.{may_share};
 ghost use Rattle.process_model.specs.Served.{kept};
 ghost use Rattle.swap_tables.specs.Swaps.{CanHand};
-ghost use Rattle.grant_enter.specs.Homes.{own_of, living, ChangesOnly, IsInPlace, IsStopped};
+ghost use Rattle.grant_enter.specs.Homes.{own_of, living, has_permissions, ChangesOnly, IsInPlace};
+ghost use Rattle.grant_enter.specs.Homes.{IsStopped};
 ghost use Rattle.grant_enter.specs.Homes.{CanMoveIn, FootprintBefore, MakesInstruction, MakesAll};
 
 use crate::flag::put_flag_at;
@@ -82,9 +83,10 @@ impl Home {
     {
         what_is_laid_is_read_back();
         let memory = Memory::new(alloc, flash, ram)?;
+        let flash = memory.flash();
         let mut seats = Vec::new(alloc);
         for footprint in footprints {
-            let Ok(()) = seats.push(Seat::first(footprint)) else {
+            let Ok(()) = seats.push(Seat::first(flash, footprint)) else {
                 return Err(NoMemory);
             };
         }
@@ -96,6 +98,15 @@ impl Home {
         ensures { result.now ≡ self.now.flash }
     {
         self.memory.flash()
+    }
+
+    /// Whether the header of the object of the process in a slot has a Permissions TLV (Tock Binary
+    /// Format, "Permissions").
+    pub fn has_permissions(&self, slot: Slot) -> bool
+        requires { slot < length self.now.owns }
+        ensures { result ≡ has_permissions self.now.flash (own_of self.now slot).object }
+    {
+        self.seats[slot.index()].has_permissions
     }
 
     /// Where the memory of the process in a slot lies.

@@ -6,7 +6,6 @@ ghost use Rattle.grant_values.specs.Drivers.{counts_of};
 ghost use Rattle.grant_model.specs.Grants.{grant_of};
 ghost use Rattle.grant_model.specs.Encoding.{EncodesGrants, decode_grants};
 ghost use Rattle.grant_model.specs.Laws.{IsValue, value_bytes, value_offset};
-ghost use Rattle.grant_region.specs.Region.{Costs};
 ghost use Rattle.process_model.specs.Own.{Own, block_of};
 ghost use Rattle.process_model.specs.Handed.{own_entering};
 ghost use Rattle.grant_enter.specs.Seats.{HasBlock, MakesRoom, Reseats, SitsIn, fits_in, kernel_in};
@@ -23,7 +22,7 @@ use crate::seat::Seat;
 use board_memory::{Block, Memory, SplitBlock};
 use grant_model::{Area, pairs_stand_by_kind, values_are_found};
 use grant_region::{NoRoom, make_room};
-use grant_values::{GrantValue, cost_of, counts};
+use grant_values::{GrantValue, cost_of};
 use process_layout::Layout;
 use tk_base::{Addr, Counts};
 
@@ -124,17 +123,6 @@ fn visit_at<T: GrantValue, V: Visit<T>>(
     answer
 }
 
-/// What the grant of a driver with these counts costs.
-fn driver_cost(driver: u32, known: &Counts) -> u32
-    requires { counts_of driver ≡ Some known.now }
-    ensures { Costs driver result }
-{
-    match counts(driver) {
-        Some(found) => cost_of(&found),
-        None => unreachable!(),
-    }
-}
-
 /// Makes room in a block of memory for a driver's grant, where the driver is not entered.
 fn make_room_in(
     memory: &mut Memory,
@@ -153,7 +141,7 @@ fn make_room_in(
     values_are_found();
     let Block { bytes, cut, .. } = memory.lend_block(layout);
     let SplitBlock { app, kernel } = SplitBlock::of(bytes, cut);
-    let made = make_room(layout, app, kernel, driver, driver_cost(driver, counts));
+    let made = make_room(layout, app, kernel, driver, cost_of(counts));
     in_order(layout);
     made
 }

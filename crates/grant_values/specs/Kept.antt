@@ -9,14 +9,14 @@ use Rattle.grant_values.specs.declared.storage.Storage.{Storage}
 use Rattle.grant_values.specs.Values.{KeptValue, AlarmValue, ButtonsValue, ConsoleValue, RandomValue, StorageValue}
 
 -- the alarm's
-abbrev pub alarm_in : KeptValue → Alarm
-alarm_in (AlarmValue armed) = record { armed = armed }
-alarm_in other = record { armed = None }
+abbrev pub alarm_kept : KeptValue → Alarm
+alarm_kept (AlarmValue armed) = record { armed = armed }
+alarm_kept other = record { armed = None }
 
 -- the console's
-abbrev pub console_in : KeptValue → Console
-console_in (ConsoleValue console) = console
-console_in other = record { write = None; read = None }
+abbrev pub console_kept : KeptValue → Console
+console_kept (ConsoleValue console) = console
+console_kept other = record { write = None; read = None }
 
 -- that of the buttons
 abbrev pub buttons_in : KeptValue → Buttons

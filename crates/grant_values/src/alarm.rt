@@ -24,7 +24,7 @@ impl GrantValue for Alarm {
     ghost use Rattle.std.specs.Prelude.{refl};
     ghost use Rattle.grant_values.specs.declared.drivers.Driver.TheVariants as of;
     ghost use Rattle.grant_values.specs.Values.{AlarmValue};
-    ghost use Rattle.grant_values.specs.Kept.{alarm_in};
+    ghost use Rattle.grant_values.specs.Kept.{alarm_kept};
 
     const SIZE: u32 = 24;
 
@@ -36,7 +36,7 @@ impl GrantValue for Alarm {
 
     ghost kept = { λ alarm. AlarmValue alarm.armed };
 
-    ghost value_of = { alarm_in };
+    ghost value_of = { alarm_kept };
 
     ghost tells = { λ value. refl };
 

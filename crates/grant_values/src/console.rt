@@ -31,7 +31,7 @@ impl GrantValue for Console {
     ghost use Rattle.std.specs.Prelude.{refl};
     ghost use Rattle.grant_values.specs.declared.drivers.Driver.TheVariants as of;
     ghost use Rattle.grant_values.specs.Values.{ConsoleValue};
-    ghost use Rattle.grant_values.specs.Kept.{console_in};
+    ghost use Rattle.grant_values.specs.Kept.{console_kept};
 
     const SIZE: u32 = 32;
 
@@ -43,7 +43,7 @@ impl GrantValue for Console {
 
     ghost kept = { ConsoleValue };
 
-    ghost value_of = { console_in };
+    ghost value_of = { console_kept };
 
     ghost tells = { λ value. refl };
 

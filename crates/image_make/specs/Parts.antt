@@ -27,8 +27,8 @@ abbrev pub unless_faulty : Found → Option Found
 unless_faulty f = if has_fault f.verdict then None else Some f
 
 -- a byte of a package name that may be given
-abbrev pub is_visible : ℕ → Bool
-is_visible byte = nat_le 0x21 byte && nat_le byte 0x7E
+abbrev pub is_name_byte : ℕ → Bool
+is_name_byte byte = nat_le 0x21 byte && nat_le byte 0x7E
 
 -- where the package name of an object stands: the place of its first element of that type
 abbrev pub name_place : List ℕ → Option ℕ

@@ -11,7 +11,7 @@ ghost use Rattle.image_make.specs.Edits.{mended, with_flags, with_enabled, padde
 ghost use Rattle.image_make.specs.Parts.{object_found};
 ghost use Rattle.image_make.specs.Outcomes.{has_fault, sound_found, IsSoundObject, found_bytes, enabled, enabling};
 ghost use Rattle.image_make.specs.Outcomes.{may_name, place_for, IsNamePlace, with_name, renaming, Edits};
-ghost use Rattle.image_make.specs.Parts.{is_visible};
+ghost use Rattle.image_make.specs.Parts.{is_name_byte};
 
 use crate::laws::{enabled_is_walked, given_is_walked};
 use arrayvec::ArrayVec;
@@ -143,14 +143,14 @@ pub fn set_enabled(flash: &mut [u8], offset: u32, on: bool) -> Result<(), EditFa
 
 /// Whether a byte is visible ASCII.
 fn is_visible_byte(byte: u8) -> bool
-    ensures { result ≡ is_visible byte }
+    ensures { result ≡ is_name_byte byte }
 {
     byte >= 0x21 && byte <= 0x7e
 }
 
 /// Whether all bytes are visible ASCII.
 fn are_visible(bytes: &[u8]) -> bool
-    ensures { result ≡ list_all is_visible bytes.now }
+    ensures { result ≡ list_all is_name_byte bytes.now }
 {
     bytes.iter().all(|byte| is_visible_byte(*byte))
 }

@@ -16,12 +16,12 @@ use Rattle.driver_model.specs.Alarm.{alarm_driver}
 use Rattle.driver_model.specs.Buttons.{buttons, edged, is_told}
 use Rattle.driver_model.specs.Console.{console, console_reads, console_writes, read_status, reading_in, taking}
 use Rattle.driver_model.specs.Console.{write_completing}
-use Rattle.driver_model.specs.Random.{Progress, advanced, drawing, progress, randoms, wanted, unanswered}
+use Rattle.driver_model.specs.Random.{Progress, advanced, drawing, progress, randoms, wanted}
 use Rattle.driver_model.specs.Random.{answered as drawn}
-use Rattle.driver_model.specs.Requests.{RequestKind, keeping_request, waiting_in}
+use Rattle.driver_model.specs.Requests.{RequestKind, keeping_request, unanswered, waiting_in}
 use Rattle.driver_model.specs.Steps.{DriverStep, own_after, scheduling, silently}
-use Rattle.driver_model.specs.Storage.{storage_answer_of, storage_served, storages, moving}
-use Rattle.driver_model.specs.Storage.{answered as served, unanswered as unserved}
+use Rattle.driver_model.specs.Storage.{finished, storage_served, storages, moving}
+use Rattle.driver_model.specs.Storage.{answered as served}
 use Rattle.kernel_model.specs.Turn.{Act, Alarmed, Edge, Input, NoWord, Stored, Taken, Turn, Word, WriteDone}
 use Rattle.kernel_model.specs.Turn.{apply}
 use Rattle.kernel_model.specs.Record.{flash_of}
@@ -90,7 +90,7 @@ of_draw word own = by_request (waiting_in randoms own)
   where
     by_request : (waiting : Option RandomRequest)
         → Leaves own (unwrap_or (option_map (λ (request : RandomRequest). advanced (progress word request own)) waiting)
-        (unanswered own)).step
+        (unanswered None own)).step
     by_request None = (refl, refl)
     by_request (Some request) =
         let p = progress word request own in
@@ -112,8 +112,8 @@ unfolding served
 of_storage fault flash bytes own = by_request (waiting_in storages own)
   where
     by_request : (waiting : Option StorageRequest)
-        → Leaves own (unwrap_or (option_map (λ (request : StorageRequest). storage_answer_of
-        (storage_served fault flash bytes request own)) waiting) (unserved own)).step
+        → Leaves own (unwrap_or (option_map (λ (request : StorageRequest). finished
+        (storage_served fault flash bytes request own)) waiting) (unanswered None own)).step
     by_request None = (refl, refl)
     by_request (Some request) =
         keeping storages None own (storage_served fault flash bytes request own).step refl

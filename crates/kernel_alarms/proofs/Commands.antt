@@ -13,17 +13,17 @@ use Rattle.process_model.specs.Own.{Own}
 use Rattle.process_model.specs.Handed.{has_place}
 use Rattle.driver_model.specs.Alarm.{alarm_driver}
 use Rattle.driver_model.specs.Buttons.{buttons, of_button}
-use Rattle.driver_model.specs.Buttons.{command as button_command, commands as button_commands}
-use Rattle.driver_model.specs.Commands.{Commanded, Switch, On, Off, Toggle, refusing}
+use Rattle.driver_model.specs.Buttons.{commands as button_commands}
+use Rattle.driver_model.specs.Commands.{Commanded, Switch, On, Off, Toggle, by_number, refusing}
 use Rattle.driver_model.specs.Console.{cancelling, console, console_reads, console_writes}
-use Rattle.driver_model.specs.Console.{command as console_command, commands as console_commands}
+use Rattle.driver_model.specs.Console.{commands as console_commands}
 use Rattle.driver_model.specs.Drivers.{CommandContext, CommandHandler, handler_by, handler_of}
-use Rattle.driver_model.specs.Leds.{switching, command as led_command, commands as led_commands}
-use Rattle.driver_model.specs.Random.{randoms, command as random_command, commands as random_commands}
+use Rattle.driver_model.specs.Leds.{switching, commands as led_commands}
+use Rattle.driver_model.specs.Random.{randoms, commands as random_commands}
 use Rattle.driver_model.specs.Requests.{RequestKind, asking, request_in}
 use Rattle.driver_model.specs.Parts.{asking_beside}
 use Rattle.driver_model.specs.Steps.{own_after}
-use Rattle.driver_model.specs.Storage.{requesting, storages, command as storage_command, commands as storage_commands}
+use Rattle.driver_model.specs.Storage.{requesting, storages, commands as storage_commands}
 use Rattle.kernel_alarms.specs.Acting.{HasSameAlarm}
 use Rattle.kernel_alarms.proofs.Kept.{entered_kept_alarm, kept_alarm}
 
@@ -41,11 +41,11 @@ chosen own found = unwrap_or (option_map (λ row. row.1) found) (refusing NoComm
 
 row : (own : Own) (number n : ℕ) (c : Commanded) (rest : Option (ℕ × Commanded)) → Keeps own c
     → Keeps own (chosen own rest) → Keeps own (chosen own (cond (n == number) (Some (n, c)) rest))
-row own number n c rest here later = by_number (n == number)
+row own number n c rest here later = if_equal (n == number)
   where
-    by_number : (b : Bool) → Keeps own (chosen own (cond b (Some (n, c)) rest))
-    by_number true = here
-    by_number false = later
+    if_equal : (b : Bool) → Keeps own (chosen own (cond b (Some (n, c)) rest))
+    if_equal true = here
+    if_equal false = later
 
 -- a request that begins to wait with another driver, or is refused
 of_asking : {R : Type 0} (request_kind : RequestKind R) (request : R) (own : Own)
@@ -62,8 +62,8 @@ of_cancelling : (read : Option WaitingRead) (own : Own) → Keeps own (cancellin
 of_cancelling None own = (refl, refl)
 of_cancelling (Some read) own = (kept_alarm console _ own refl, refl)
 
-of_console : (number a2 : ℕ) (own : Own) → Keeps own (console_command number a2 own)
-unfolding console_command console_commands
+of_console : (number a2 : ℕ) (own : Own) → Keeps own (by_number (console_commands a2) number own)
+unfolding console_commands
 of_console number a2 own =
     row own number 0 _ _ (refl, refl) (row own number 1 _ _ (of_asking console_writes _ own refl)
     (row own number 2 _ _ (by_test own (a2 == 0) _ _ (refl, refl) (of_asking console_reads _ own refl))
@@ -72,15 +72,16 @@ of_console number a2 own =
 of_switching : (count led : ℕ) (switch : Switch) (own : Own) → Keeps own (switching count led switch own)
 of_switching count led switch own = by_test own (nat_lt led count) _ _ (refl, refl) (refl, refl)
 
-of_leds : (count number led : ℕ) (own : Own) → Keeps own (led_command count number led own)
-unfolding led_command led_commands
+of_leds : (count number led : ℕ) (own : Own) → Keeps own (by_number (led_commands count led) number own)
+unfolding led_commands
 of_leds count number led own =
     row own number 0 _ _ (refl, refl) (row own number 1 _ _ (of_switching count led On own)
     (row own number 2 _ _ (of_switching count led Off own) (row own number 3 _ _ (of_switching count led Toggle own)
     (refl, refl))))
 
-of_buttons : (count pressed number button : ℕ) (own : Own) → Keeps own (button_command count pressed number button own)
-unfolding button_command button_commands
+of_buttons : (count pressed number button : ℕ) (own : Own)
+    → Keeps own (by_number (button_commands count pressed button) number own)
+unfolding button_commands
 of_buttons count pressed number button own =
     row own number 0 _ _ (refl, refl) (row own number 1 _ _
     (there _ (by_test own (has_place buttons own) _ _ (entered_kept_alarm buttons _ own refl, refl) (refl, refl)))
@@ -90,8 +91,8 @@ of_buttons count pressed number button own =
     there : (c : Commanded) → Keeps own c → Keeps own (of_button count button own c)
     there c p = by_test own (nat_lt button count) _ _ p (refl, refl)
 
-of_random : (number a2 : ℕ) (own : Own) → Keeps own (random_command number a2 own)
-unfolding random_command random_commands
+of_random : (number a2 : ℕ) (own : Own) → Keeps own (by_number (random_commands a2) number own)
+unfolding random_commands
 of_random number a2 own =
     row own number 0 _ _ (refl, refl) (row own number 1 _ _ (of_asking randoms _ own refl) (refl, refl))
 
@@ -99,8 +100,8 @@ of_requesting : (size : ℕ) (request : StorageRequest) (own : Own) → Keeps ow
 of_requesting size request own =
     by_test own (nat_le (request.offset + request.length) size) _ _ (of_asking storages request own refl) (refl, refl)
 
-of_storage : (size number a2 a3 : ℕ) (own : Own) → Keeps own (storage_command size number a2 a3 own)
-unfolding storage_command storage_commands
+of_storage : (size number a2 a3 : ℕ) (own : Own) → Keeps own (by_number (storage_commands size a2 a3) number own)
+unfolding storage_commands
 of_storage size number a2 a3 own =
     row own number 0 _ _ (refl, refl) (row own number 1 _ _ (refl, refl)
     (row own number 2 _ _ (of_requesting size _ own) (row own number 3 _ _ (of_requesting size _ own) (refl, refl))))

@@ -26,8 +26,8 @@ use Rattle.process_model.specs.Own.{Own}
 use Rattle.process_model.specs.Flag.{with_flag}
 use Rattle.process_model.specs.Handed.{lies_in_ram}
 use Rattle.driver_model.specs.Steps.{own_after}
-use Rattle.driver_model.specs.Alarm.{alarm_driver, command as alarm_command, commands as alarm_commands}
-use Rattle.driver_model.specs.Commands.{Commanded}
+use Rattle.driver_model.specs.Alarm.{alarm_driver, commands as alarm_commands}
+use Rattle.driver_model.specs.Commands.{Commanded, by_number}
 use Rattle.driver_model.specs.Drivers.{CommandContext, CommandHandler, handler_by, handler_of}
 use Rattle.driver_model.specs.Laws.{RefusedByAnyDriver}
 use Rattle.grant_values.specs.declared.drivers.Driver.TheVariants.{Alarm}
@@ -126,8 +126,8 @@ IsNoted own c = HasSameAlarm own (own_after c.step) × (c.acts ≡ [])
 
 -- what the alarm is asked
 asked : (now a2 a3 number : ℕ) (own : Own) → nat_lt number 3 ≡ true
-    → IsNoted own (alarm_command now number a2 a3 own)
-unfolding alarm_command alarm_commands
+    → IsNoted own (by_number (alarm_commands now a2 a3) number own)
+unfolding alarm_commands
 asked now a2 a3 zero own below = ((refl, refl), refl)
 asked now a2 a3 (suc zero) own below = ((refl, refl), refl)
 asked now a2 a3 (suc (suc zero)) own below = ((refl, refl), refl)

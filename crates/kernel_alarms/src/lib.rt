@@ -4,4 +4,4 @@
 
 mod acting;
 
-pub use acting::{alarms_change_at_their_commands, answers_leave_alarms, may_act, may_arm};
+pub use acting::{alarms_change_at_their_commands, answers_leave_alarms};

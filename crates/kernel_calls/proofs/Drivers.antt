@@ -1,11 +1,12 @@
 -- What serving a call comes to, where it is for no driver to answer.
-use Rattle.std.proofs.Common.{◌≡◌, ℕ, Bool, true, false, ◌&&◌, if◌then◌else◌, [], Option, None, Some, is_some}
-use Rattle.std.proofs.Common.{refl, sym, ap, ◌∙◌}
+use Rattle.std.proofs.Common.{◌≡◌, ℕ, Bool, true, false, not, ◌&&◌, if◌then◌else◌, List, [], Option, None, Some}
+use Rattle.std.proofs.Common.{is_some, refl, sym, ap, ◌∙◌}
 use Rattle.tk_base.specs.declared.call.CallRule.TheVariants.{NoDriver, Permission}
 use Rattle.syscall_abi.specs.declared.call.Call.{Call}
 use Rattle.syscall_abi.specs.declared.form.CallForm.{CallForm}
 use Rattle.syscall_abi.specs.declared.form.CallForm.TheVariants.{Command}
-use Rattle.syscall_abi.specs.Call.{form_of}
+use Rattle.syscall_abi.specs.Call.{driver_in, form_of}
+use Rattle.syscall_filter.specs.Permission.{permitted}
 use Rattle.syscall_abi.specs.declared.reply.Reply.{Reply}
 use Rattle.process_record.specs.declared.outcome.Outcome.{Outcome}
 use Rattle.process_record.specs.declared.outcome.Outcome.TheVariants.{Replied, ToDriver, Waits, Delivered, GoesOn}
@@ -24,6 +25,12 @@ use Rattle.kernel_calls.specs.Outcomes.{acts_for, ServingComesTo, ServesAt, is_f
 use Rattle.kernel_calls.specs.Outcomes.{record_of_slot}
 use Rattle.kernel_calls.specs.Own.{Beside}
 use Rattle.kernel_calls.proofs.Starts.{of_object}
+
+-- without the Permissions TLV only a strict filter refuses a call, which names a driver
+pub without_permissions : (strict : Bool) (listed : Option (List ℕ)) (form : CallForm) → is_some listed ≡ false
+    → permitted strict listed form ≡ not (strict && is_some (driver_in form))
+without_permissions strict None form none = refl
+without_permissions strict (Some listed) form none = absurd (cc)
 
 -- a command that no driver takes
 pub no_driver : (around : CommandContext) (r : Record) (form : CallForm) (driver number a2 a3 : ℕ)

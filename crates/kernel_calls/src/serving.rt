@@ -15,8 +15,8 @@ use crate::permissions::is_permitted;
 use crate::replies::{failure, give, refuse};
 use crate::swaps::serve_swap;
 use crate::yields::yield_call;
-use driver_model::takes_commands;
 use grant_enter::Home;
+use grant_values::Driver;
 use kernel_model::no_call_is_left;
 use process_record::{Outcome, Process};
 use syscall_abi::{Call, CallForm};
@@ -27,7 +27,7 @@ fn is_taken(form: &CallForm) -> bool
     ensures { result ≡ is_taken form.now }
 {
     match *form {
-        CallForm::Command { driver, .. } => takes_commands(driver),
+        CallForm::Command { driver, .. } => Driver::of(driver).is_some(),
         _ => false,
     }
 }
@@ -136,7 +136,7 @@ pub fn kernel_call(
 {
     no_call_is_left();
     let form = call.form();
-    if !is_permitted(home.flash(), &process.object, strict, call) {
+    if !is_permitted(home, slot, &process.object, strict, call) {
         let failure = failure(&form, CallRule::Permission);
         return refuse(process, CallRule::Permission, failure);
     }

@@ -1,17 +1,24 @@
 -- Each edge of a button schedules one upcall for a process that is told of it, in every run.
 use Rattle.std.proofs.Common.{◌≡◌, ℕ, Bool, true, false, cond, List, [], ◌∷◌, ◌++◌, filter, slice_get, Option, None}
 use Rattle.std.proofs.Common.{Some}
-use Rattle.std.proofs.Common.{refl, sym, ap, subst, ◌∙◌}
+use Rattle.std.proofs.Common.{◌+◌, ◌==◌, IfSome, refl, sym, ap, subst, ◌∙◌, eq-eqb}
 use Rattle.std.specs.Prelude.{option_and_then}
 use Rattle.std.specs.List.{cons_option}
 use Rattle.std.specs.Option.{option_map}
+use Rattle.std.proofs.lemmas.Bool.{false≢true}
 use Rattle.tk_base.specs.declared.process.Choice.{Choice}
 use Rattle.tk_base.specs.declared.upcall.Upcall.{Upcall as Scheduled}
+use Rattle.tk_base.specs.declared.upcall.Wait.TheVariants.{Given}
 use Rattle.rv32_model.specs.Laws.{CallsAreOfEcall}
+use Rattle.upcall_queue.specs.declared.inbox.Inbox.{Inbox}
+use Rattle.upcall_queue.specs.Pending.{awaits, has_room, scheduled}
+use Rattle.process_model.specs.Own.{Own}
 use Rattle.driver_model.specs.Laws.{RefusedByAnyDriver}
 use Rattle.driver_model.specs.Upcalls.{DriversScheduleTheirOwn}
 use Rattle.kernel_model.specs.Record.{Record}
-use Rattle.kernel_model.specs.Edges.{IsThenScheduled, arrival_in, arrivals_in, edge_in, pressed_after_all}
+use Rattle.kernel_model.specs.Choices.{Throughout}
+use Rattle.kernel_model.specs.Edges.{IsThenScheduled, SchedulesEdge, arrival_in, arrivals_in, edge_in}
+use Rattle.kernel_model.specs.Edges.{pressed_after_all}
 use Rattle.kernel_model.specs.Named.{is_of_edge}
 use Rattle.kernel_model.specs.Edges.{told_edge_in}
 use Rattle.kernel_model.specs.Named.{pressed_by}
@@ -22,8 +29,9 @@ use Rattle.kernel_model.specs.Parts.{happens}
 use Rattle.kernel_model.specs.Replay.{after_all}
 use Rattle.kernel_laws.specs.Scheduled.{answer_schedules, step_schedules}
 use Rattle.kernel_laws.proofs.Arrivals.{arrives_in_order}
-use Rattle.kernel_laws.proofs.EdgeSteps.{answer_leaves, pressed_on, same_record, step_happens, step_serves}
-use Rattle.kernel_histories.specs.Edges.{EachEdgeComesOnce, edge_scheduled, edges_in, schedules_in}
+use Rattle.kernel_laws.proofs.EdgeSteps.{answer_leaves, each_is_scheduled_once, pressed_on, same_record}
+use Rattle.kernel_laws.proofs.EdgeSteps.{step_happens, step_serves, steps_serve_edges}
+use Rattle.kernel_histories.specs.Edges.{ComesOnce, EachEdgeComesOnce, edge_scheduled, edges_in, schedules_in}
 
 -- what follows what comes first, if anything does
 first_of : {X : Type 0} (o : Option X) (xs ys : List X) → cons_option o (xs ++ ys) ≡ cons_option o xs ++ ys
@@ -56,6 +64,47 @@ step_told slot w choice o there = by_ready (is_ready w choice)
         ≡ option_and_then (answer_schedules w.settings (cond b (answer_by w choice slot) None)) o
     by_ready true = ap (option_and_then (answer_schedules w.settings (answer_by w choice slot))) there
     by_ready false = nothing o
+
+-- a null upcall for which the process does not wait changes nothing
+null_changes_nothing : (u : Scheduled) (before : Inbox) → awaits before.wait u ≡ false → u.function ≡ 0
+    → scheduled u before ≡ before
+null_changes_nothing u before unawaited null =
+    by_test_of (awaits before.wait u) (u.function == 0) unawaited (eq-eqb u.function 0 null)
+  where
+    by_test_of : (awaited null : Bool) → awaited ≡ false → null ≡ true
+        → cond awaited (record before { wait = Given u.args }) (cond null before
+        (cond (has_room before.pending) (record before { pending = before.pending ++ u ∷ [] })
+        (record before { dropped = before.dropped + 1 }))) ≡ before
+    by_test_of true null e f = absurd (false≢true (sym e))
+    by_test_of false true e f = refl
+    by_test_of false false e f = absurd (false≢true f)
+
+-- of what is scheduled none is of an edge, where no upcall of one is in it
+none_of_edge : (upcall : Option Scheduled) → filter is_of_edge (cons_option upcall []) ≡ []
+    → IfSome upcall (λ u. is_of_edge u ≡ false)
+none_of_edge None none = tt
+none_of_edge (Some u) none = by_test_of (is_of_edge u) none
+  where
+    by_test_of : (b : Bool) → cond b (u ∷ []) [] ≡ [] → b ≡ false
+    by_test_of true e = cc
+    by_test_of false e = refl
+
+-- an edge of which a process is told comes once; where it is told of none, none does
+comes_once : (edge : Option (ℕ × Bool)) (upcall : Option Scheduled) (own o : Own) → SchedulesEdge edge own o
+    → filter is_of_edge (cons_option upcall []) ≡ cons_option (option_map (edge_upcall own) edge) []
+    → ComesOnce (option_map (edge_upcall own) edge) upcall own.inbox o.inbox
+comes_once None upcall own o schedules filters = none_of_edge upcall filters
+comes_once (Some edge) upcall own o schedules filters =
+    let u = edge_upcall own edge in
+    let is : o.inbox ≡ scheduled u own.inbox = ap (λ (x : Own). x.inbox) schedules in
+    subst (λ (inbox : Inbox). ComesOnce (Some u) upcall own.inbox inbox) (sym is)
+    (each_is_scheduled_once u own.inbox, null_changes_nothing u own.inbox)
+
+-- what holds in every step holds throughout any choices
+throughout : (P : World → Choice → Type 0) → ((w : World) (choice : Choice) → P w choice)
+    → (w : World) (choices : List Choice) → Throughout P w choices
+throughout P each w [] = tt
+throughout P each w (choice ∷ choices) = (each w choice, throughout P each (after w choice) choices)
 
 module _ (law : DriversScheduleTheirOwn) (refuse : RefusedByAnyDriver) (of_ecall : CallsAreOfEcall)
     (only : OnlyItsOwnEvents) (slot : ℕ) where
@@ -100,6 +149,17 @@ module _ (law : DriversScheduleTheirOwn) (refuse : RefusedByAnyDriver) (of_ecall
       (subst (λ (x : Record). IsThenScheduled (answer_schedules w.settings told r) r.own.inbox x.own.inbox) is
       (answer_leaves law refuse of_ecall w.settings told r))
 
+  step_comes : (w : World) (choice : Choice) (r s : Record) → slice_get w.records slot ≡ Some r
+      → slice_get (after w choice).records slot ≡ Some s
+      → ComesOnce (edge_scheduled slot w choice) (step_schedules slot w choice) r.own.inbox s.own.inbox
+  step_comes w choice r s there left =
+      let is : edge_scheduled slot w choice ≡ option_map (edge_upcall r.own) (told_edge_in w choice r) =
+      ap (option_and_then (λ (x : Record). option_map (edge_upcall x.own) (told_edge_in w choice x))) there in
+      subst (λ (o : Option Scheduled). ComesOnce o (step_schedules slot w choice) r.own.inbox s.own.inbox) (sym is)
+      (comes_once (told_edge_in w choice r) (step_schedules slot w choice) r.own s.own
+      (steps_serve_edges law refuse of_ecall only w choice slot r s there left).schedules
+      (step_filters w choice [] ∙ ap (λ (o : Option Scheduled). cons_option o []) is))
+
   -- and all
   each_knows : (choices : List Choice) (w : World)
       → option_map (λ (r : Record). r.pressed) (slice_get (after_all w choices).records slot)
@@ -132,9 +192,10 @@ module _ (law : DriversScheduleTheirOwn) (refuse : RefusedByAnyDriver) (of_ecall
 
 pub each_edge_comes_once : DriversScheduleTheirOwn → RefusedByAnyDriver → CallsAreOfEcall → OnlyItsOwnEvents
     → EachEdgeComesOnce
-each_edge_comes_once law refuse of_ecall only w slot = record {
-  order = λ choices. in_order choices w;
-  knows = λ choices. each_knows law refuse of_ecall only slot choices w;
-  scheduled = λ choices. each_filters law refuse of_ecall only slot choices w;
-  steps = λ choices choice r s. step_leaves law refuse of_ecall only slot (after_all w choices) choice r s;
+each_edge_comes_once law refuse of_ecall only w slot choices = record {
+  order = in_order choices w;
+  knows = each_knows law refuse of_ecall only slot choices w;
+  scheduled = each_filters law refuse of_ecall only slot choices w;
+  steps = throughout _ (step_leaves law refuse of_ecall only slot) w choices;
+  once = throughout _ (step_comes law refuse of_ecall only slot) w choices;
 }

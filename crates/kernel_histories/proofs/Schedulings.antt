@@ -29,7 +29,7 @@ use Rattle.kernel_model.specs.Laws.{CanStartAgain}
 use Rattle.kernel_model.specs.World.{World, after}
 use Rattle.kernel_model.specs.Replay.{after_all}
 use Rattle.kernel_model.specs.Histories.{HandedNothing, is_ended_in}
-use Rattle.kernel_histories.specs.Deliveries.{DeliveriesAreOfTheLast, DeliversAt, IsDelivered, IsOfTheLast}
+use Rattle.kernel_histories.specs.Deliveries.{DeliveriesAreOfTheLast, DeliversPlace, IsDelivered, IsOfTheLast}
 use Rattle.kernel_histories.specs.Deliveries.{IsSubscribed, Scheduling}
 use Rattle.kernel_histories.specs.Deliveries.{Takes, left_by_turn, pending_in, pending_of}
 use Rattle.kernel_histories.specs.Deliveries.{place_taken, removed, scheduled_in, schedulings, schedulings_after}
@@ -367,7 +367,7 @@ deliveries_are_of_the_last promise of_ecall w slot nothing = record {
       let waits : upcalls (schedulings slot w choices) ≡ r.own.inbox.pending = history choices ∙ ap pending_of is in
       All-weaker (λ told. LeavesTaken (takes (wait_of r) told.call) r s)
       (λ told. let taking = takes (wait_of r) told.call in
-      DeliversAt slot w choices r s taking (place_taken taking r.own.inbox.pending))
+      DeliversPlace slot w choices r s taking (place_taken taking r.own.inbox.pending))
       (λ told leaves. delivers_it choices r s (takes (wait_of r) told.call) (schedulings slot w choices) waits
       held_there
       (last choices) (place_taken (takes (wait_of r) told.call) r.own.inbox.pending) refl leaves)

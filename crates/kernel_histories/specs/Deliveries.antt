@@ -177,8 +177,8 @@ pub record IsDelivered (slot : ℕ) (w : World) (choices : List Choice) (r s : R
   pub last : IsOfTheLast slot w choices scheduling
 
 -- a turn delivers the scheduling at the place that it takes, if one waits there
-abbrev pub DeliversAt : ℕ → World → List Choice → Record → Record → Takes → Option ℕ → Type 0
-DeliversAt slot w choices r s takes place =
+abbrev pub DeliversPlace : ℕ → World → List Choice → Record → Record → Takes → Option ℕ → Type 0
+DeliversPlace slot w choices r s takes place =
     IfSome (option_and_then (slice_get (schedulings slot w choices)) place) (IsDelivered slot w choices r s takes)
 
 -- Of a world and a slot: any choices are made. Then each upcall that waits for the slot's process is the one that it
@@ -201,7 +201,7 @@ pub record DeliversTheLast (w : World) (slot : ℕ) : Type 0 where
       let v = after_all w choices in
       slice_get v.records slot ≡ Some r → slice_get (after v choice).records slot ≡ Some s →
       All (λ told. let taking = takes (wait_of r) told.call in
-      DeliversAt slot w choices r s taking (place_taken taking r.own.inbox.pending)) (told_in slot v choice)
+      DeliversPlace slot w choices r s taking (place_taken taking r.own.inbox.pending)) (told_in slot v choice)
 
 -- so it is where the process had handed nothing yet
 abbrev pub DeliveriesAreOfTheLast : Type 0

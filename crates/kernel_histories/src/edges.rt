@@ -7,9 +7,9 @@ use rv32_model::denials_are_due;
 
 /// In every run each edge of a button that is served while a process lives, has that button enabled
 /// and knew the other state of it, schedules upcall 0 of the buttons for it once, in the order of
-/// the script: the wait for that upcall alone is given, or it is put last, or dropped where as many
-/// are pending as may be. Nothing else schedules, drops or gives one of them (TRD 104, "Subscribe",
-/// "Yield").
+/// the script: the wait for that upcall alone is given, null or not; else a null one does nothing,
+/// and another is put last, or dropped and counted where as many are pending as may be. No other
+/// step schedules, drops or gives one of them (TRD 104, "Subscribe", "Yield").
 pub fn each_edge_comes_once()
     ensures { EachEdgeComesOnce }
 {

@@ -13,7 +13,7 @@ use Rattle.grant_values.specs.declared.storage.StorageRequest.{StorageRequest}
 use Rattle.process_model.specs.Own.{Own}
 use Rattle.process_model.specs.Handed.{held}
 use Rattle.process_model.specs.Served.{bytes_at}
-use Rattle.driver_model.specs.Requests.{waiting_in}
+use Rattle.driver_model.specs.Requests.{unanswered, waiting_in}
 use Rattle.tk_base.specs.declared.process.Verb.{Verb}
 use Rattle.tk_base.specs.declared.process.Verb.TheVariants as verbs
 use Rattle.tbf_headers.specs.declared.fault.HeaderFault.{HeaderFault}
@@ -78,15 +78,15 @@ served_asks flash bytes request own k Write is covers =
     (is, covers.0, omega (arith, covers.1, size))
 
 answer_asks : (flash : ℕ → ℕ) (bytes : List ℕ) (own : Own) (k : ℕ)
-    → Covers (storage.answered false flash bytes own).written k
+    → Covers (storage.answered false flash bytes own).moved k
     → IsSomeAnd (waiting_in storage.storages own) (AsksFor k)
 unfolding storage.answered
 answer_asks flash bytes own k = by_request (waiting_in storage.storages own)
   where
     by_request : (o : Option StorageRequest)
         → Covers (unwrap_or (option_map (λ request.
-        storage.storage_answer_of (storage.storage_served false flash bytes request own)) o)
-        (storage.unanswered own)).written k → IsSomeAnd o (AsksFor k)
+        storage.finished (storage.storage_served false flash bytes request own)) o)
+        (unanswered None own)).moved k → IsSomeAnd o (AsksFor k)
     by_request None covers = absurd covers
     by_request (Some request) covers = served_asks flash bytes request own k request.kind refl covers
 
@@ -125,7 +125,7 @@ answer_in_buffer law settings (Stored true) r is whole = record {
   own = law.stored false (flash_of r) r.storage r.own whole;
   storage = λ k within.
       ⊎_map (λ same. same) (answer_asks (flash_of r) r.storage r.own k)
-      (overwrites r.storage (storage.answered false (flash_of r) r.storage r.own).written k within);
+      (overwrites r.storage (storage.answered false (flash_of r) r.storage r.own).moved k within);
 }
 answer_in_buffer law settings (Stored false) r is whole = record {
   own = law.stored true (flash_of r) r.storage r.own whole;

@@ -18,7 +18,7 @@ use Rattle.driver_model.specs.Console as console
 use Rattle.driver_model.specs.Console.{console_reads, console_writes}
 use Rattle.driver_model.specs.Random as random
 use Rattle.driver_model.specs.Random.{randoms}
-use Rattle.driver_model.specs.Requests.{RequestKind, keeping_request, waiting_in}
+use Rattle.driver_model.specs.Requests.{RequestKind, keeping_request, unanswered, waiting_in}
 use Rattle.driver_model.specs.Steps.{DriverStep, own_after, scheduling, silently}
 use Rattle.driver_model.specs.Storage as storage
 use Rattle.driver_model.specs.Storage.{storages}
@@ -108,7 +108,7 @@ module _ (other : ℕ) (own : Own) where
       by_request : (waiting : Option RandomRequest)
           → kept other (own_after (unwrap_or (option_map
           (λ (request : RandomRequest). random.advanced (random.progress word request own)) waiting)
-          (random.unanswered own)).step) ≡ kept other own
+          (unanswered None own)).step) ≡ kept other own
       by_request None = refl
       by_request (Some request) =
           let p = random.progress word request own in
@@ -132,8 +132,8 @@ module _ (other : ℕ) (own : Own) where
     where
       by_request : (waiting : Option StorageRequest)
           → kept other (own_after (unwrap_or (option_map (λ (request : StorageRequest).
-          storage.storage_answer_of (storage.storage_served fault flash bytes request own)) waiting)
-          (storage.unanswered own)).step) ≡ kept other own
+          storage.finished (storage.storage_served fault flash bytes request own)) waiting)
+          (unanswered None own)).step) ≡ kept other own
       by_request None = refl
       by_request (Some request) =
           keeping storages None (storage.storage_served fault flash bytes request own).step apart

@@ -44,12 +44,12 @@ module _ (P : ℕ → Own → Own → Type 0) (each : OfEachKeeping P) (driver :
   Each [] = Unit {0}
   Each (row ∷ rows) = Leaves row.1 × Each rows
 
-  found : (rows : List (ℕ × Commanded)) (number : ℕ) → Each rows → Leaves (by_number own rows number)
+  found : (rows : List (ℕ × Commanded)) (number : ℕ) → Each rows → Leaves (by_number (λ o. rows) number own)
   unfolding Each
   found [] number holds = each.same driver own
   found (row ∷ rows) number holds = by_row (row.0 == number) holds.0 (found rows number holds.1)
     where
-      by_row : (b : Bool) → Leaves row.1 → Leaves (by_number own rows number)
+      by_row : (b : Bool) → Leaves row.1 → Leaves (by_number (λ o. rows) number own)
           → Leaves (unwrap_or (option_map (λ (r : ℕ × Commanded). r.1)
           (cond b (Some row) (find (λ (r : ℕ × Commanded). r.0 == number) rows))) (refusing NoCommand own))
       by_row true here later = here
@@ -81,8 +81,8 @@ module _ (P : ℕ → Own → Own → Type 0) (each : OfEachKeeping P) (around :
         if_so P each alarm.alarm_driver own (has_place alarm.alarm_driver own) _ _ (each.enters _ _ own) (each.same _
         own)
 
-    of_alarm : P alarm.alarm_driver own (alarm.command around.now number a2 a3 own).step.own
-    unfolding Each alarm.command alarm.commands
+    of_alarm : P alarm.alarm_driver own (by_number (alarm.commands around.now a2 a3) number own).step.own
+    unfolding Each alarm.commands
     of_alarm =
         found P each alarm.alarm_driver own (alarm.commands around.now a2 a3 own) number (
           each.same _ own,
@@ -96,8 +96,8 @@ module _ (P : ℕ → Own → Own → Type 0) (each : OfEachKeeping P) (around :
     if_cancelled None = each.same _ own
     if_cancelled (Some read) = each.keeps _ _ own
 
-    of_console : P console.console own (console.command number a2 own).step.own
-    unfolding Each console.command console.commands
+    of_console : P console.console own (by_number (console.commands a2) number own).step.own
+    unfolding Each console.commands
     of_console =
         found P each console.console own (console.commands a2 own) number (
           each.same _ own,
@@ -115,8 +115,8 @@ module _ (P : ℕ → Own → Own → Type 0) (each : OfEachKeeping P) (around :
     if_switched driver switch =
         if_so P each driver own (nat_lt a2 around.leds) _ _ (each.same driver own) (each.same driver own)
 
-    of_leds : (driver : ℕ) → P driver own (leds.command around.leds number a2 own).step.own
-    unfolding Each leds.command leds.commands
+    of_leds : (driver : ℕ) → P driver own (by_number (leds.commands around.leds a2) number own).step.own
+    unfolding Each leds.commands
     of_leds driver =
         found P each driver own (leds.commands around.leds a2 own) number
         (each.same driver own, (if_switched driver _, (if_switched driver _, (if_switched driver _, tt))))
@@ -125,8 +125,9 @@ module _ (P : ℕ → Own → Own → Type 0) (each : OfEachKeeping P) (around :
         → P buttons.buttons own (buttons.of_button around.buttons a2 own c).step.own
     if_there c h = if_so P each buttons.buttons own (nat_lt a2 around.buttons) _ _ h (each.same _ own)
 
-    of_buttons : P buttons.buttons own (buttons.command around.buttons around.pressed number a2 own).step.own
-    unfolding Each buttons.command buttons.commands
+    of_buttons : P buttons.buttons own
+        (by_number (buttons.commands around.buttons around.pressed a2) number own).step.own
+    unfolding Each buttons.commands
     of_buttons =
         found P each buttons.buttons own (buttons.commands around.buttons around.pressed a2 own) number (
           each.same _ own,
@@ -138,8 +139,8 @@ module _ (P : ℕ → Own → Own → Type 0) (each : OfEachKeeping P) (around :
           ),
         )
 
-    of_random : P random.random own (random.command number a2 own).step.own
-    unfolding Each random.command random.commands
+    of_random : P random.random own (by_number (random.commands a2) number own).step.own
+    unfolding Each random.commands
     of_random =
         found P each random.random own (random.commands a2 own) number
         (each.same _ own, (if_asked P each random.random own random.randoms _ refl, tt))
@@ -150,8 +151,8 @@ module _ (P : ℕ → Own → Own → Type 0) (each : OfEachKeeping P) (around :
         if_so P each storage.storage own (nat_le (request.offset + request.length) around.storage) _ _
         (if_asked P each storage.storage own storage.storages request refl) (each.same _ own)
 
-    of_storage : P storage.storage own (storage.command around.storage number a2 a3 own).step.own
-    unfolding Each storage.command storage.commands
+    of_storage : P storage.storage own (by_number (storage.commands around.storage a2 a3) number own).step.own
+    unfolding Each storage.commands
     of_storage =
         found P each storage.storage own (storage.commands around.storage a2 a3 own) number
         (each.same _ own, (each.same _ own, (if_fits _, (if_fits _, tt))))

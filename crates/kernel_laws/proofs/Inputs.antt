@@ -22,7 +22,7 @@ use Rattle.process_model.specs.Own.{Own}
 use Rattle.driver_model.specs.Commands.{BoardRequest, Waits, Leaves, Lights, QueueName, Writes, Reads, Randoms, Stores}
 use Rattle.driver_model.specs.Console as console
 use Rattle.driver_model.specs.Console.{console_reads}
-use Rattle.driver_model.specs.Requests.{waiting_in}
+use Rattle.driver_model.specs.Requests.{unanswered, waiting_in}
 use Rattle.kernel_model.specs.Record.{Record, flash_of}
 use Rattle.kernel_model.specs.Turn.{Taken, WriteDone, turned}
 use Rattle.kernel_model.specs.World.{Answer, DeviceAnswer, DeviceStep, Devices, Label, Stepped, World, acted, after}
@@ -141,7 +141,7 @@ unfolding console.received
 moved_first ring own = by_read (waiting_in console_reads own)
   where
     by_read : (o : Option WaitingRead) →
-        let moved = (unwrap_or (option_map (console.receiving ring own) o) (console.unreceived own)).moved in
+        let moved = (unwrap_or (option_map (console.receiving ring own) o) (unanswered [] own)).moved in
         moved ++ drop (length moved) ring ≡ ring
     by_read None = refl
     by_read (Some read) = taken_first _ ring

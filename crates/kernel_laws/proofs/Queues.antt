@@ -22,7 +22,7 @@ use Rattle.kernel_model.specs.Laws.{one_answered}
 use Rattle.kernel_model.specs.Named.{slots_in}
 use Rattle.kernel_model.proofs.Places.{of_stepped, queue_with}
 use Rattle.kernel_model.proofs.Told.{edge_answer, of_device, told_labels, with_rest}
-use Rattle.kernel_laws.specs.Queues.{FirstAreServed, IsOfFirst, KeepsOrder, QueuesKeepOrder, queue_for}
+use Rattle.kernel_laws.specs.Queues.{FirstAreServed, IsOfFirst, KeepsQueueOrder, QueuesKeepOrder, queue_for}
 
 -- a queue in which nobody came and none went has the order that it had
 all_stay : (xs : List ℕ) → filter (λ (s : ℕ). true) xs ≡ xs
@@ -39,19 +39,19 @@ twice p q (x ∷ xs) = by_test (q x) (twice p q xs)
     by_test true later = ap (λ (ys : List ℕ). cond (p x) (x ∷ ys) ys) later
     by_test false later = later
 
-same_order : (xs : List ℕ) → KeepsOrder xs xs
+same_order : (xs : List ℕ) → KeepsQueueOrder xs xs
 same_order xs =
     record { stays = λ s. true; come = []; is = sym (append-nil (filter (λ (s : ℕ). true) xs) ∙ all_stay xs) }
 
 -- so has one in which one more waits now, and one in which fewer do
-more : (before later : List ℕ) (slot : ℕ) → KeepsOrder before later → KeepsOrder before (later ++ slot ∷ [])
+more : (before later : List ℕ) (slot : ℕ) → KeepsQueueOrder before later → KeepsQueueOrder before (later ++ slot ∷ [])
 more before later slot k = record {
   stays = k.stays;
   come = k.come ++ slot ∷ [];
   is = ap (λ (xs : List ℕ). xs ++ slot ∷ []) k.is ∙ append_assoc (filter k.stays before) k.come (slot ∷ []);
 }
 
-fewer : (before later : List ℕ) (p : ℕ → Bool) → KeepsOrder before later → KeepsOrder before (filter p later)
+fewer : (before later : List ℕ) (p : ℕ → Bool) → KeepsQueueOrder before later → KeepsQueueOrder before (filter p later)
 fewer before later p k = record {
   stays = λ s. k.stays s && p s;
   come = filter p k.come;
@@ -61,20 +61,21 @@ fewer before later p k = record {
 
 -- where one queue changes in such a way, each keeps its order
 changed : (before : List ℕ) (queue name : QueueName) (change : List ℕ → List ℕ) (d : Devices)
-    → ((xs : List ℕ) → KeepsOrder before xs → KeepsOrder before (change xs))
-    → KeepsOrder before (slots_in queue d.waiting)
-    → KeepsOrder before (slots_in queue (with_queue name change d).waiting)
+    → ((xs : List ℕ) → KeepsQueueOrder before xs → KeepsQueueOrder before (change xs))
+    → KeepsQueueOrder before (slots_in queue d.waiting)
+    → KeepsQueueOrder before (slots_in queue (with_queue name change d).waiting)
 changed before queue name change d keeps k =
-    subst (KeepsOrder before) (sym (queue_with queue name change d)) (by_test (is_same name queue))
+    subst (KeepsQueueOrder before) (sym (queue_with queue name change d)) (by_test (is_same name queue))
   where
     by_test : (b : Bool)
-        → KeepsOrder before (cond b (change (slots_in queue d.waiting)) (slots_in queue d.waiting))
+        → KeepsQueueOrder before (cond b (change (slots_in queue d.waiting)) (slots_in queue d.waiting))
     by_test true = keeps (slots_in queue d.waiting) k
     by_test false = k
 
 -- what a process asks of the board, and a device's answer to it, change queues in such ways alone
 act_keeps : (before : List ℕ) (queue : QueueName) (slot : ℕ) (act : BoardRequest) (d : Devices)
-    → KeepsOrder before (slots_in queue d.waiting) → KeepsOrder before (slots_in queue (acted slot act d).waiting)
+    → KeepsQueueOrder before (slots_in queue d.waiting) → KeepsQueueOrder before
+    (slots_in queue (acted slot act d).waiting)
 act_keeps before queue slot (Waits name) d k =
     changed before queue name (λ slots. slots ++ slot ∷ []) d (λ xs. more before xs slot) k
 act_keeps before queue slot (Leaves name) d k =
@@ -82,32 +83,33 @@ act_keeps before queue slot (Leaves name) d k =
 act_keeps before queue slot (Lights led switch) d k = k
 
 acts_keep : (before : List ℕ) (queue : QueueName) (slot : ℕ) (acts : List BoardRequest) (d : Devices)
-    → KeepsOrder before (slots_in queue d.waiting) → KeepsOrder before (slots_in queue (routed slot acts d).waiting)
+    → KeepsQueueOrder before (slots_in queue d.waiting) → KeepsQueueOrder before
+    (slots_in queue (routed slot acts d).waiting)
 acts_keep before queue slot [] d k = k
 acts_keep before queue slot (act ∷ acts) d k =
     acts_keep before queue slot acts (acted slot act d) (act_keeps before queue slot act d k)
 
 answer_keeps : (before : List ℕ) (queue name : QueueName) (completed : Bool) (slot : ℕ) (d : Devices)
-    → KeepsOrder before (slots_in queue d.waiting)
-    → KeepsOrder before (slots_in queue (after_answer name completed slot d).waiting)
+    → KeepsQueueOrder before (slots_in queue d.waiting)
+    → KeepsQueueOrder before (slots_in queue (after_answer name completed slot d).waiting)
 answer_keeps before queue name completed slot d =
     changed before queue name (λ slots. cond completed (queue_without slot slots) slots) d
     (λ xs k. by_test completed xs k)
   where
-    by_test : (b : Bool) (xs : List ℕ) → KeepsOrder before xs
-        → KeepsOrder before (cond b (queue_without slot xs) xs)
+    by_test : (b : Bool) (xs : List ℕ) → KeepsQueueOrder before xs
+        → KeepsQueueOrder before (cond b (queue_without slot xs) xs)
     by_test true xs k = fewer before xs (λ s. not (s == slot)) k
     by_test false xs k = k
 
 module _ (w : World) (queue : QueueName) where
   abbrev Keeps : Stepped → Type 0
-  Keeps s = KeepsOrder (slots_in queue w.devices.waiting) (slots_in queue s.after.devices.waiting)
+  Keeps s = KeepsQueueOrder (slots_in queue w.devices.waiting) (slots_in queue s.after.devices.waiting)
 
-  same : KeepsOrder (slots_in queue w.devices.waiting) (slots_in queue w.devices.waiting)
+  same : KeepsQueueOrder (slots_in queue w.devices.waiting) (slots_in queue w.devices.waiting)
   same = same_order (slots_in queue w.devices.waiting)
 
   answered : (name : QueueName) (completed : Bool) (slot : ℕ)
-      → KeepsOrder (slots_in queue w.devices.waiting)
+      → KeepsQueueOrder (slots_in queue w.devices.waiting)
       (slots_in queue (after_answer name completed slot w.devices).waiting)
   answered name completed slot =
       answer_keeps (slots_in queue w.devices.waiting) queue name completed slot w.devices same

@@ -57,12 +57,11 @@ use Rattle.driver_model.specs.Console.{console_reads, console_writes, reading_in
 use Rattle.driver_model.specs.Drivers.{CommandContext, CommandHandler, handler_of}
 use Rattle.driver_model.specs.Laws.{RefusedByAnyDriver}
 use Rattle.driver_model.specs.Random.{advanced, answered as random_answered, completing, drawing, progress, randoms}
-use Rattle.driver_model.specs.Random.{unanswered as random_unanswered, wanted}
-use Rattle.driver_model.specs.Requests.{waiting_in}
+use Rattle.driver_model.specs.Random.{wanted}
+use Rattle.driver_model.specs.Requests.{unanswered, waiting_in}
 use Rattle.driver_model.specs.Steps.{DriverStep, own_after, scheduling, silently}
-use Rattle.driver_model.specs.Storage.{answered as storage_answered, moving, storage_answer_of, storage_served}
+use Rattle.driver_model.specs.Storage.{answered as storage_answered, moving, finished, storage_served}
 use Rattle.driver_model.specs.Storage.{storages}
-use Rattle.driver_model.specs.Storage.{unanswered as storage_unanswered}
 use Rattle.driver_model.specs.Upcalls.{scheduled_if}
 use Rattle.process_record.specs.declared.outcome.Outcome.TheVariants.{GoesOn, Waits}
 use Rattle.process_record.specs.declared.process.State.{State}
@@ -571,7 +570,7 @@ progress_inbox word request own = by_wanted (nat_le (wanted request own) request
 
 random_inbox : (word : Option ℕ) (own : Own) (o : Option RandomRequest)
     → (unwrap_or (option_map (λ (request : RandomRequest). advanced (progress word request own)) o)
-    (random_unanswered own)).step.own.inbox ≡ own.inbox
+    (unanswered None own)).step.own.inbox ≡ own.inbox
 random_inbox word own None = refl
 random_inbox word own (Some request) = progress_inbox word request own
 
@@ -586,7 +585,7 @@ served_inbox false flash bytes request own = by_kind request.kind
 
 storage_inbox : (fault : Bool) (flash : ℕ → ℕ) (bytes : List ℕ) (own : Own) (o : Option StorageRequest)
     → (unwrap_or (option_map (λ (request : StorageRequest).
-    storage_answer_of (storage_served fault flash bytes request own)) o) (storage_unanswered own)).step.own.inbox
+    finished (storage_served fault flash bytes request own)) o) (unanswered None own)).step.own.inbox
     ≡ own.inbox
 storage_inbox fault flash bytes own None = refl
 storage_inbox fault flash bytes own (Some request) = served_inbox fault flash bytes request own

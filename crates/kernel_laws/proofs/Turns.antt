@@ -25,7 +25,8 @@ use Rattle.kernel_model.specs.World.{is_let, may_be_made, only_at, only_in, ran}
 use Rattle.kernel_model.specs.Run.{may_go, next, ready_slots, situation_of}
 use Rattle.kernel_model.specs.Parts.{on_choice}
 use Rattle.kernel_model.specs.Replay.{chosen}
-use Rattle.kernel_laws.specs.Fairness.{HasTurn, IsReadyIn, ReadyProcessesHaveTurns, is_turn, makes_turn, turn_worlds}
+use Rattle.kernel_laws.specs.Fairness.{HasTurn, IsReadyIn, ReadyProcessesHaveTurns, chooses_turn, makes_turn}
+use Rattle.kernel_laws.specs.Fairness.{turn_worlds}
 use Rattle.kernel_laws.specs.Fairness.{worlds}
 use Rattle.kernel_model.proofs.Places.{of_acted, of_stepped, of_world, stepped_else, stepped_ready}
 use Rattle.kernel_model.proofs.Told.{told_length}
@@ -177,9 +178,9 @@ unfolding chosen
 run_follows zero w = nothing_follows w
 run_follows (suc n) w = by_next (next w) refl (λ c. run_follows n (after w c))
   where
-    is_no_turn : (o : Option Choice) → next w ≡ o → is_turn o ≡ false → makes_turn w ≡ false
+    is_no_turn : (o : Option Choice) → next w ≡ o → chooses_turn o ≡ false → makes_turn w ≡ false
     is_no_turn o e none =
-        ap (λ (b : Bool). nat_lt w.clock.steps STEP_LIMIT && b) (ap is_turn e ∙ none)
+        ap (λ (b : Bool). nat_lt w.clock.steps STEP_LIMIT && b) (ap chooses_turn e ∙ none)
         ∙ and_false (nat_lt w.clock.steps STEP_LIMIT)
 
     with_rest : (b : Bool) (rest : List World) → makes_turn w ≡ b → Follow w (cond b (w ∷ rest) rest)
@@ -192,14 +193,14 @@ run_follows (suc n) w = by_next (next w) refl (λ c. run_follows n (after w c))
         → let rest = turn_worlds n (after w (Run slot)) in Follow w (cond (makes_turn w) (w ∷ rest) rest)
     by_limit slot true below e later =
         let rest = turn_worlds n (after w (Run slot)) in
-        with_rest true rest (ap₂ (λ (b c : Bool). b && c) below (ap is_turn e))
+        with_rest true rest (ap₂ (λ (b c : Bool). b && c) below (ap chooses_turn e))
         (begins w slot rest e (grind (arith, nat_tests)) later)
     by_limit slot false none e later =
         let rest = turn_worlds n (after w (Run slot)) in
         let stays : after w (Run slot) ≡ w =
         ap (λ (s : Stepped). s.after) (stepped_else w (Run slot)
         (ap (λ (b : Bool). b && may_be_made w (Run slot)) none)) in
-        with_rest false rest (ap (λ (b : Bool). b && is_turn (next w)) none)
+        with_rest false rest (ap (λ (b : Bool). b && chooses_turn (next w)) none)
         (passes w (after w (Run slot)) rest (step_same w (Run slot)) (ap (λ (v : World). v.present) stays) later)
 
     by_next : (o : Option Choice) → next w ≡ o → ((c : Choice) → Follow (after w c) (turn_worlds n (after w c)))

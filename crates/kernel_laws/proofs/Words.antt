@@ -32,7 +32,7 @@ use Rattle.kernel_model.specs.Laws.{edge_done, edge_labels, one_answered}
 use Rattle.kernel_model.proofs.Told.{edge_answer, of_device, told_labels, with_rest}
 use Rattle.kernel_model.specs.Choices.{labels_of_all}
 use Rattle.kernel_model.specs.Replay.{after_all}
-use Rattle.kernel_laws.specs.Words.{WordsAreDrawnInOrder, of_lane, word_in, word_told, words_told}
+use Rattle.kernel_laws.specs.Words.{WordsAreDrawnInOrder, of_lane, drawn_in, word_told, words_told}
 use Rattle.kernel_model.proofs.Places.{of_stepped}
 use Rattle.kernel_laws.proofs.Lanes.{lane_joined, one_silent, served_here, tells_none}
 use Rattle.tk_base.specs.declared.process.Dev.TheVariants as dev
@@ -53,13 +53,13 @@ routed_words : (slot : ℕ) (acts : List BoardRequest) (d : Devices) → (routed
 routed_words slot [] d = refl
 routed_words slot (act ∷ acts) d = routed_words slot acts (acted slot act d) ∙ acted_words slot act d
 
-sent_none : (b : Bool) → word_in (cond b WriteDone Taken) ≡ []
+sent_none : (b : Bool) → drawn_in (cond b WriteDone Taken) ≡ []
 sent_none true = refl
 sent_none false = refl
 
 -- where the word that was drawn is the next one it is told, and the others are left
 drawn_is : (words : List ℕ) (drawn : Option ℕ) → IfSome drawn (λ word. slice_get words 0 ≡ Some word)
-    → words ≡ word_in (drawn_event drawn) ++ random.words_after drawn words
+    → words ≡ drawn_in (drawn_event drawn) ++ random.words_after drawn words
 drawn_is words None next = refl
 drawn_is [] (Some word) next = cc
 drawn_is (first ∷ words) (Some word) next = ap (λ (w : ℕ). w ∷ words) (the_one first word next)
@@ -97,7 +97,7 @@ module _ (tell : EventsTellSteps) (w : World) (lane : ℕ) where
       sym (ap (λ (words : List ℕ). words ++ words_in lane d) (one_silent word_told w.pace.window lane label none)
       ∙ ap (λ (words : List (List ℕ)). slice_index_or words lane []) same)
 
-  answers_quietly : (slot : ℕ) (r : Record) (a : DeviceAnswer) → word_in a.answer.event ≡ []
+  answers_quietly : (slot : ℕ) (r : Record) (a : DeviceAnswer) → drawn_in a.answer.event ≡ []
       → a.devices.words ≡ w.devices.words → DrawsInOrder (one_answered w slot r a)
   answers_quietly slot r a none same = quietly (answer_label slot a.answer) a.devices none same
 
@@ -113,7 +113,7 @@ module _ (tell : EventsTellSteps) (w : World) (lane : ℕ) where
       words = words_in (lane_in w) w.devices
 
       drawn : Option ℕ
-      drawn = (random.answered (slice_get words 0) r.own).drawn
+      drawn = (random.answered (slice_get words 0) r.own).moved
 
       label : Label
       label = answer_label slot (record { event = drawn_event drawn; printed = [] })
@@ -129,10 +129,11 @@ module _ (tell : EventsTellSteps) (w : World) (lane : ℕ) where
           → words_in lane w.devices ≡ words_told (cond b (label ∷ []) []) ++ slice_index_or left lane []
       by_lane true is =
           let same : lane ≡ lane_in w = sym (eqb-true (lane_by (only_for w.pace.window slot)) lane is) ∙ here in
-          subst (λ (l : ℕ). words_in l w.devices ≡ (word_in (drawn_event drawn) ++ []) ++ slice_index_or left l [])
+          subst (λ (l : ℕ). words_in l w.devices ≡ (drawn_in (drawn_event drawn) ++ []) ++ slice_index_or left l [])
           (sym same)
           (drawn_is words drawn (tell.drawn (slice_get words 0) r.own)
-          ∙ ap₂ (λ (told rest : List ℕ). told ++ rest) (sym (append-nil (word_in (drawn_event drawn)))) (sym left_here))
+          ∙ ap₂ (λ (told rest : List ℕ). told ++ rest) (sym (append-nil (drawn_in (drawn_event drawn))))
+          (sym left_here))
       by_lane false is =
           sym (get_or-set_other w.devices.words (lane_in w) lane (random.words_after drawn words) []
           (λ same. false≢true (sym is ∙ eq-eqb (lane_by (only_for w.pace.window slot)) lane (here ∙ sym same))))
@@ -144,7 +145,7 @@ module _ (tell : EventsTellSteps) (w : World) (lane : ℕ) where
       (edge_labels button pressed w)
       (told_labels (λ label. word_told label ≡ []) (telling_edge button pressed w.records w.devices).told 0 w.records
       (λ slot at r a here there is.
-      ap (λ (x : Answer). word_in x.event) (edge_answer button pressed (slice_get w.records at) a is)))))
+      ap (λ (x : Answer). drawn_in x.event) (edge_answer button pressed (slice_get w.records at) a is)))))
 
   deed_draws : (device : Dev) → DrawsInOrder (done w (device_step_of w device))
   deed_draws device =

@@ -26,7 +26,7 @@ use Rattle.process_model.specs.Handed.{handing}
 use Rattle.process_model.specs.Changes.{own_byte}
 use Rattle.process_model.specs.Permission.{denied}
 use Rattle.process_model.specs.Instruction.{ram_after}
-use Rattle.process_record.specs.Lines.{list_text, slot_named}
+use Rattle.process_record.specs.Lines.{listed_line, slot_named}
 use Rattle.process_record.specs.Parts.{cleared}
 use Rattle.driver_model.specs.Alarm as alarm
 use Rattle.driver_model.specs.Commands.{QueueName, Reads, Randoms, Stores}
@@ -105,7 +105,7 @@ operated_on =
 
 by_operator : Changes operated_on (Device dev.Event) RAM_START 9 0
 unfolding operated_on restart stepped carried_out may_be_made apply header_reading meaning_of tlv_places_from slot_named
-    list_text
+    listed_line
 by_operator = record { was = refl; is = refl; cause = (refl, inr (inr (refl, refl))) }
 
 -- a process that has allowed a buffer of four bytes, the first ones of its block
@@ -122,7 +122,7 @@ shows_clock =
 by_clock : Changes shows_clock (Run 0) RAM_START 9 5
 unfolding shows_clock user_turn on_word executed fetched instr_of decoding instruction_table denied ram_after
     call_of class_table served by_form turned stepped carried_out may_be_made header_reading meaning_of tlv_places_from
-    counts_of drivers shape_of alarm.command alarm.commands
+    counts_of drivers shape_of alarm.commands
 by_clock =
     record { was = refl; is = refl; cause = (refl, inl (inr (inr (inr (refl, (omega arith, omega arith)))))) }
 

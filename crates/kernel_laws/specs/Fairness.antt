@@ -16,13 +16,13 @@ worlds w [] = []
 worlds w (choice ∷ choices) = w ∷ worlds (after w choice) choices
 
 -- whether a choice is a turn of a process
-abbrev pub is_turn : Option Choice → Bool
-is_turn (Some (Run slot)) = true
-is_turn other = false
+abbrev pub chooses_turn : Option Choice → Bool
+chooses_turn (Some (Run slot)) = true
+chooses_turn other = false
 
 -- whether the round robin's next step is a turn of a process: at the limit of steps none is made any more
 abbrev pub makes_turn : World → Bool
-makes_turn v = nat_lt v.clock.steps STEP_LIMIT && is_turn (next v)
+makes_turn v = nat_lt v.clock.steps STEP_LIMIT && chooses_turn (next v)
 
 -- those before the turns of processes in the run of n steps by the round robin: device steps, and passes of time, may
 -- come between them

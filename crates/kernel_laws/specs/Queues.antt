@@ -8,7 +8,7 @@ use Rattle.kernel_model.specs.Named.{slots_in}
 
 -- Of a queue before and later: those that stay stand in the order in which they stood, and whoever begins to wait comes
 -- after them.
-pub record KeepsOrder (before later : List ℕ) : Type 0 where
+pub record KeepsQueueOrder (before later : List ℕ) : Type 0 where
   pub stays : ℕ → Bool
   pub come : List ℕ
   pub is : later ≡ filter stays before ++ come
@@ -16,7 +16,7 @@ pub record KeepsOrder (before later : List ℕ) : Type 0 where
 -- so it is with each queue in every step of every world
 abbrev pub QueuesKeepOrder : Type 0
 QueuesKeepOrder = (w : World) (choice : Choice) (queue : QueueName) →
-    KeepsOrder (slots_in queue w.devices.waiting) (slots_in queue (after w choice).devices.waiting)
+    KeepsQueueOrder (slots_in queue w.devices.waiting) (slots_in queue (after w choice).devices.waiting)
 
 -- the queue whose device tells a process something
 abbrev pub queue_for : Event → Option QueueName

@@ -11,13 +11,13 @@ use Rattle.kernel_model.specs.Choices.{labels_of_all}
 use Rattle.kernel_model.specs.Replay.{after_all}
 
 -- the random word that an answer tells, if it tells one
-abbrev pub word_in : Event → List ℕ
-word_in (Word word) = word ∷ []
-word_in other = []
+abbrev pub drawn_in : Event → List ℕ
+drawn_in (Word word) = word ∷ []
+drawn_in other = []
 
 -- the random word that a label tells a process, if it does
 abbrev pub word_told : Label → List ℕ
-word_told label = word_in label.event
+word_told label = drawn_in label.event
 
 -- all that steps tell, in order, whichever processes they are told
 abbrev pub words_told : List Label → List ℕ

@@ -405,7 +405,7 @@ module _ (follow : LinesFollowAnswers) (tell : EventsTellSteps) (keep : TurnsKee
             let word = slice_get (words_in (lane_in w) w.devices) 0 in
             let a = random.answered word q.own in
             answered at q (random_step (lane_in w) w.devices at q) _ _ there
-            (drawn_own w.settings q a.drawn ∙ ap own_after (sym (tell.randoms word q.own))) (follow.randoms word q.own);
+            (drawn_own w.settings q a.moved ∙ ap own_after (sym (tell.randoms word q.own))) (follow.randoms word q.own);
         stores = λ at q first there.
             let fails = is_fault w.devices.faults (served_in (lane_in w) w.devices + 1) in
             answered at q (storing (lane_in w) w.devices at q) _ _ there (stored_own w.settings q fails)

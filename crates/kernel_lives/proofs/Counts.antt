@@ -93,18 +93,18 @@ turns_kept n = record {
 }
 
 -- a turn of a process that may have one counts
-turn_counts : (settings : Settings) (time : ℕ) (r : Record) → may_turn r ≡ true
+pub turn_counts : (settings : Settings) (time : ℕ) (r : Record) → may_turn r ≡ true
     → (turned settings time r).after.process.turns ≡ r.process.turns + 1
 turn_counts settings time r may =
     after_turn Any any_service (Made (r.process.turns + 1)) (Made (r.process.turns + 1))
     (turns_kept (r.process.turns + 1)) settings time r
     (λ none. absurd (false≢true (sym none ∙ may))) refl refl
 
-answer_counts : (settings : Settings) (event : Event) (r : Record) → IsAnswer event
+pub answer_counts : (settings : Settings) (event : Event) (r : Record) → IsAnswer event
     → (apply settings event r).process.turns ≡ r.process.turns
 answer_counts settings event r is = ap (λ (x : Record). x.process.turns) (answer_changes settings event r is)
 
-act_counts : (verb : Verb) (r : Record) → (operated verb r).process.turns ≡ r.process.turns
+pub act_counts : (verb : Verb) (r : Record) → (operated verb r).process.turns ≡ r.process.turns
 act_counts verb r =
     of_operated (λ ended s. s.process.turns ≡ r.process.turns) r refl (λ held. refl) (λ lives. refl)
     (turns_again r.process.turns r refl) verb

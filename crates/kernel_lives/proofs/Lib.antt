@@ -2,7 +2,7 @@ mod Accounts
 mod Changes
 mod Lives
 mod Denials
-mod Counts
+pub mod Counts
 mod Reopened
 mod Prints
 mod Lists

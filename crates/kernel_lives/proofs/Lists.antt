@@ -412,7 +412,7 @@ module _ (follow : LinesFollowAnswers) (tell : EventsTellSteps) (w : World) (h :
       ∙ left_or_not (is_same Randoms here) a.completed (queue_without slot (slots_in here w.devices.waiting))
       (slots_in here w.devices.waiting))
       (moved_own (queue_left_by Randoms a.completed) r.own (own_after a.step) _
-      (drawn_own w.settings r a.drawn ∙ ap own_after (sym (tell.randoms (slice_get (words_in (lane_in w) w.devices) 0)
+      (drawn_own w.settings r a.moved ∙ ap own_after (sym (tell.randoms (slice_get (words_in (lane_in w) w.devices) 0)
       r.own)))
       (follow.randoms (slice_get (words_in (lane_in w) w.devices) 0) r.own).lines)
 

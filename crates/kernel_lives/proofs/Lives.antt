@@ -33,7 +33,7 @@ use Rattle.driver_model.specs.Random.{randoms}
 use Rattle.driver_model.specs.Storage as storage
 use Rattle.driver_model.specs.Storage.{storages}
 use Rattle.driver_model.specs.Steps.{scheduling, silently}
-use Rattle.driver_model.specs.Requests.{RequestKind, request_in, waiting_in}
+use Rattle.driver_model.specs.Requests.{RequestKind, request_in, unanswered, waiting_in}
 use Rattle.driver_model.specs.Laws.{StaysInPlace}
 use Rattle.driver_model.specs.Keeping.{DriversKeep, IsInOrder, KeepsLimit, KeepsOrder}
 use Rattle.driver_model.specs.Services.{OfEachService}
@@ -192,16 +192,16 @@ over_answer settings (Input bytes) r over is =
 over_answer settings (Word word) r over is =
     ap (λ (w : _). record_with_step r (unwrap_or
     (option_map (λ request. random.advanced (random.progress (Some word) request r.own)) w)
-    (random.unanswered r.own)).step) (none_waits randoms r.own over)
+    (unanswered None r.own)).step) (none_waits randoms r.own over)
 over_answer settings NoWord r over is =
     ap (λ (w : _). record_with_step r (unwrap_or
     (option_map (λ request. random.advanced (random.progress None request r.own)) w)
-    (random.unanswered r.own)).step) (none_waits randoms r.own over)
+    (unanswered None r.own)).step) (none_waits randoms r.own over)
 over_answer settings (Stored moved) r over is =
     ap (λ (w : _). let a =
     unwrap_or (option_map (λ request.
-    storage.storage_answer_of (storage.storage_served (not moved) (flash_of r) r.storage request r.own)) w)
-    (storage.unanswered r.own) in record (record_with_step r a.step) { storage = written_over r.storage a.written })
+    storage.finished (storage.storage_served (not moved) (flash_of r) r.storage request r.own)) w)
+    (unanswered None r.own) in record (record_with_step r a.step) { storage = written_over r.storage a.moved })
     (none_waits storages r.own over)
 over_answer settings (Act verb) r over is = absurd (cc)
 

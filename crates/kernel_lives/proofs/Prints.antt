@@ -1,7 +1,7 @@
 -- What a step prints, it prints of a buffer.
-use Rattle.std.proofs.Common.{◌≡◌, ◌<◌, ℕ, ◌+◌, ◌==◌, Bool, true, false, cond, [], ◌∷◌, drop, length, slice_get}
+use Rattle.std.proofs.Common.{◌≡◌, ◌<◌, ℕ, ◌+◌, ◌==◌, Bool, true, false, cond, List, [], ◌∷◌, drop, length}
 use Rattle.std.proofs.Common.{slice_index, unwrap_or, option_map, Option, None, Some, IfSome, is_some, refl, sym, ap}
-use Rattle.std.proofs.Common.{subst}
+use Rattle.std.proofs.Common.{slice_get, subst}
 use Rattle.std.proofs.Common.{◌∙◌, arith}
 use Rattle.std.specs.Prelude.{All}
 use Rattle.std.proofs.lemmas.List.{get_or-drop, get_or-take, length-take}
@@ -11,8 +11,8 @@ use Rattle.tk_base.specs.declared.process.Choice.TheVariants.{Run, Device, Pass}
 use Rattle.tk_base.specs.declared.process.Dev.{Dev}
 use Rattle.grant_values.specs.declared.console.WaitingWrite.{WaitingWrite}
 use Rattle.driver_model.specs.Console as console
-use Rattle.driver_model.specs.Console.{Sent, console_writes}
-use Rattle.driver_model.specs.Requests.{request_in, waiting_in}
+use Rattle.driver_model.specs.Console.{console_writes}
+use Rattle.driver_model.specs.Requests.{RequestAnswered, request_in, unanswered, waiting_in}
 use Rattle.kernel_model.specs.Record.{Record}
 use Rattle.tk_base.specs.declared.process.Verb.{Verb}
 use Rattle.kernel_model.specs.Turn.{Act, Event, Taken, WriteDone, turned}
@@ -45,29 +45,30 @@ if_so true o x e = (refl, e)
 if_so false o x e = cc
 
 -- what the UART prints of a process, if it prints anything
-sent_of : (r : Record) → 0 < length (console.sent (flash_of r) r.own).printed
-    → AreOfItsBuffer (console.sent (flash_of r) r.own).printed r
+sent_of : (r : Record) → 0 < length (console.sent (flash_of r) r.own).moved
+    → AreOfItsBuffer (console.sent (flash_of r) r.own).moved r
 unfolding console.sent
 sent_of r = by_waiting (waiting_in console_writes r.own) refl
   where
     by_portion : (write : WaitingWrite) (b : Bool) → waiting_in console_writes r.own ≡ Some write
-        → let s : Sent =
-        cond b (record { step = console.write_completing r.own write; printed = []; completed = true })
+        → let s : RequestAnswered (List ℕ) =
+        cond b (record { step = console.write_completing r.own write; moved = []; completed = true })
         (record {
           step = console.taking r.own write;
-          printed = console.next_bytes (flash_of r) write r.own;
+          moved = console.next_bytes (flash_of r) write r.own;
           completed =
               false;
         }) in
-        0 < length s.printed → AreOfItsBuffer s.printed r
+        0 < length s.moved → AreOfItsBuffer s.moved r
     by_portion write true is some = absurd (omega (arith, some))
     by_portion write false is some =
         let waits = if_so r.own.lives (request_in console_writes r.own) write is in
         record { lives = waits.0; write = write; waits = waits.1; each = next_of write r }
 
     by_waiting : (o : Option WaitingWrite) → waiting_in console_writes r.own ≡ o
-        → let s : Sent = unwrap_or (option_map (console.sending (flash_of r) r.own) o) (console.unsent r.own) in
-        0 < length s.printed → AreOfItsBuffer s.printed r
+        → let s : RequestAnswered (List ℕ) =
+        unwrap_or (option_map (console.sending (flash_of r) r.own) o) (unanswered [] r.own) in
+        0 < length s.moved → AreOfItsBuffer s.moved r
     by_waiting None is some = absurd (omega (arith, some))
     by_waiting (Some write) is some = by_portion write (console.portion write r.own == 0) is some
 
@@ -90,14 +91,14 @@ module _ (w : World) where
   sends : (slot : ℕ) (r : Record) → slice_get w.records slot ≡ Some r
       → Tells (one_answered w slot r (transmitting (lane_in w) w.clock.time w.devices slot r))
   sends slot r is =
-      let bytes = (console.sent (flash_of r) r.own).printed in
+      let bytes = (console.sent (flash_of r) r.own).moved in
       All-cons (PrintsItsBuffer w) _ [] (λ some.
       subst (λ (o : Option Record). (is_some o ≡ true)
       × IfSome o (IsPrintedBy (cond (console.sent (flash_of r) r.own).completed WriteDone Taken) slot bytes)) (sym is)
       (refl, by_completed (console.sent (flash_of r) r.own).completed (sent_of r some))) (All-nil (PrintsItsBuffer w))
     where
-      by_completed : (completed : Bool) → AreOfItsBuffer (console.sent (flash_of r) r.own).printed r
-          → IsPrintedBy (cond completed WriteDone Taken) slot (console.sent (flash_of r) r.own).printed r
+      by_completed : (completed : Bool) → AreOfItsBuffer (console.sent (flash_of r) r.own).moved r
+          → IsPrintedBy (cond completed WriteDone Taken) slot (console.sent (flash_of r) r.own).moved r
       by_completed true of_it = of_it
       by_completed false of_it = of_it
 

@@ -41,7 +41,7 @@ use Rattle.process_record.specs.declared.process.State.TheVariants.{Running, Yie
 use Rattle.process_record.specs.Parts.{after_fault}
 use Rattle.board_devices.specs.Storage.{overwritten}
 use Rattle.driver_model.specs.Bytes.{stored_buffer}
-use Rattle.driver_model.specs.Requests.{keeping_request, waiting_in}
+use Rattle.driver_model.specs.Requests.{keeping_request, unanswered, waiting_in}
 use Rattle.driver_model.specs.Steps.{own_after, DriverStep}
 use Rattle.driver_model.specs.Storage as storage
 use Rattle.driver_model.specs.Drivers.{CommandContext, CommandHandler, handler_of}
@@ -192,28 +192,28 @@ serves r request Write =
     (buffer_size (flash_of r) r.own buffer))
 
 served_writes : (r : Record)
-    → written_over r.storage (storage.answered false (flash_of r) r.storage r.own).written
+    → written_over r.storage (storage.answered false (flash_of r) r.storage r.own).moved
     ≡ all_written (writes_at (Stored true) r) r.storage
 unfolding storage.answered
 served_writes r = by_request (waiting_in storage.storages r.own)
   where
     by_request : (o : Option StorageRequest)
         → written_over r.storage (unwrap_or (option_map (λ request.
-        storage.storage_answer_of (storage.storage_served false (flash_of r) r.storage request r.own)) o)
-        (storage.unanswered r.own)).written
+        storage.finished (storage.storage_served false (flash_of r) r.storage request r.own)) o)
+        (unanswered None r.own)).moved
         ≡ all_written (unwrap_or (option_map (λ request. write_by r request request.kind) o) []) r.storage
     by_request None = refl
     by_request (Some request) = serves r request request.kind
 
-failed_writes : (r : Record) → written_over r.storage (storage.answered true (flash_of r) r.storage r.own).written
+failed_writes : (r : Record) → written_over r.storage (storage.answered true (flash_of r) r.storage r.own).moved
     ≡ r.storage
 unfolding storage.answered
 failed_writes r = by_request (waiting_in storage.storages r.own)
   where
     by_request : (o : Option StorageRequest)
         → written_over r.storage (unwrap_or (option_map (λ request.
-        storage.storage_answer_of (storage.storage_served true (flash_of r) r.storage request r.own)) o)
-        (storage.unanswered r.own)).written ≡ r.storage
+        storage.finished (storage.storage_served true (flash_of r) r.storage request r.own)) o)
+        (unanswered None r.own)).moved ≡ r.storage
     by_request None = refl
     by_request (Some request) = refl
 
@@ -312,8 +312,8 @@ module _ (flash : ℕ → ℕ) (bytes : List ℕ) (request : StorageRequest) (ow
   unfolding storage.answered
   answered read waits =
       ap (λ (o : Option StorageRequest). own_byte (own_after (unwrap_or (option_map (λ request.
-      storage.storage_answer_of (storage.storage_served false flash bytes request own)) o)
-      (storage.unanswered own)).step) ((stored_buffer own).0 + k)) waits ∙ moved request.kind read
+      storage.finished (storage.storage_served false flash bytes request own)) o)
+      (unanswered None own)).step) ((stored_buffer own).0 + k)) waits ∙ moved request.kind read
 
 pub reads_give_storage : ReadsGiveStorage
 unfolding apply

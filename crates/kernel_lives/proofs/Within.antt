@@ -16,7 +16,7 @@ use Rattle.process_model.specs.Own.{Own}
 use Rattle.process_model.specs.Served.{bytes_at, kept}
 use Rattle.board_devices.specs.Storage.{overwritten}
 use Rattle.driver_model.specs.Lines.{IsWithin}
-use Rattle.driver_model.specs.Requests.{keeping_request, request_in, waiting_in}
+use Rattle.driver_model.specs.Requests.{keeping_request, request_in, unanswered, waiting_in}
 use Rattle.driver_model.specs.Steps.{DriverStep, own_after}
 use Rattle.driver_model.specs.Storage as storage
 use Rattle.driver_model.specs.Storage.{storages}
@@ -68,8 +68,8 @@ module _ (size : ℕ) where
     where
       by_request : (waiting : Option StorageRequest)
           → IsWithin size (own_after (unwrap_or (option_map (λ (request : StorageRequest).
-          storage.storage_answer_of (storage.storage_served fault flash bytes request own)) waiting)
-          (storage.unanswered own)).step)
+          storage.finished (storage.storage_served fault flash bytes request own)) waiting)
+          (unanswered None own)).step)
       by_request None = h
       by_request (Some request) =
           subst (λ (q : Option StorageRequest). IfSome q (λ request. request.offset + request.length ≤ size))

@@ -26,10 +26,10 @@ use Rattle.process_model.specs.Handed.{held, lies_in_ram}
 use Rattle.process_model.specs.Own.{Own}
 use Rattle.process_model.specs.Served.{kept, own_scheduled, ram_at}
 use Rattle.driver_model.specs.Console as console
-use Rattle.driver_model.specs.Console.{Sent, console_writes}
+use Rattle.driver_model.specs.Console.{console_writes}
 use Rattle.driver_model.specs.Keeping.{DriversKeep}
 use Rattle.driver_model.specs.Lines.{OnlyDriversMoveLines}
-use Rattle.driver_model.specs.Requests.{request_in, waiting_in, with_request}
+use Rattle.driver_model.specs.Requests.{RequestAnswered, request_in, unanswered, waiting_in, with_request}
 use Rattle.driver_model.specs.Steps.{own_after, silently}
 use Rattle.script_text.specs.Settings.{ScriptEvent as Arrival}
 use Rattle.kernel_model.specs.Choices.{labels_of_all}
@@ -165,7 +165,7 @@ put_waits request own write is =
     ∙ put_told request own (kept_there own write is)
 
 -- what the UART's sending half tells
-abbrev sent_event : Sent → Event
+abbrev sent_event : RequestAnswered (List ℕ) → Event
 sent_event s = cond s.completed WriteDone Taken
 
 -- and does
@@ -210,20 +210,20 @@ module _ (settings : Settings) (r : Record) (whole : HasWholeOwn r) where
 
   sent_steps :
       let s = console.sent (flash_of r) r.own in
-      Steps r s.printed (is_done (sent_event s)) (apply settings (sent_event s) r)
+      Steps r s.moved (is_done (sent_event s)) (apply settings (sent_event s) r)
   unfolding console.sent apply
   sent_steps = by_waiting (write_at r) refl
     where
       by_portion : (write : WaitingWrite) → write_at r ≡ Some write → (b : Bool)
           → (console.portion write r.own == 0) ≡ b →
-          let s : Sent =
-          cond b (record { step = console.write_completing r.own write; printed = []; completed = true })
+          let s : RequestAnswered (List ℕ) =
+          cond b (record { step = console.write_completing r.own write; moved = []; completed = true })
           (record {
             step = console.taking r.own write;
-            printed = console.next_bytes (flash_of r) write r.own;
+            moved = console.next_bytes (flash_of r) write r.own;
             completed = false;
           }) in
-          Steps r s.printed (is_done (cond s.completed WriteDone Taken)) (apply settings (cond s.completed WriteDone
+          Steps r s.moved (is_done (cond s.completed WriteDone Taken)) (apply settings (cond s.completed WriteDone
           Taken) r)
       by_portion write is true none =
           subst (Steps r [] true) (sym (ap (λ (o : Option WaitingWrite). record_with_step r (unwrap_or
@@ -234,8 +234,9 @@ module _ (settings : Settings) (r : Record) (whole : HasWholeOwn r) where
           (option_map (console.taking r.own) o) (silently r.own))) is)) (takes_more write is)
 
       by_waiting : (o : Option WaitingWrite) → write_at r ≡ o →
-          let s : Sent = unwrap_or (option_map (console.sending (flash_of r) r.own) o) (console.unsent r.own) in
-          Steps r s.printed (is_done (cond s.completed WriteDone Taken)) (apply settings (cond s.completed WriteDone
+          let s : RequestAnswered (List ℕ) =
+          unwrap_or (option_map (console.sending (flash_of r) r.own) o) (unanswered [] r.own) in
+          Steps r s.moved (is_done (cond s.completed WriteDone Taken)) (apply settings (cond s.completed WriteDone
           Taken) r)
       by_waiting None is =
           subst (Steps r [] false) (sym (ap (λ (o : Option WaitingWrite). record_with_step r (unwrap_or
@@ -389,12 +390,12 @@ module _ (keep : DriversKeep) (alone : OnlyDriversMoveLines) (w : World) (slot :
           put_at at q _ (answer_label at (transmitting (lane_in w) w.clock.time w.devices at q).answer) there refl
           (λ here one.
           let event = cond (console.sent (flash_of q) q.own).completed WriteDone Taken in
-          let printed = (console.sent (flash_of q) q.own).printed in
+          let printed = (console.sent (flash_of q) q.own).moved in
           subst (λ (b : Bool). Steps r (cond b printed []) (is_done event) (apply w.settings event q))
           (sym (no_act (console.sent (flash_of q) q.own).completed))
           (subst (λ (x : Record).
           let s = console.sent (flash_of x) x.own in
-          Steps r s.printed (is_done (cond s.completed WriteDone Taken))
+          Steps r s.moved (is_done (cond s.completed WriteDone Taken))
           (apply w.settings (cond s.completed WriteDone Taken) x)) (sym one) (sent_steps w.settings r whole)))
 
   choice_written : (choice : Choice) → Written (carried_out w choice)

@@ -14,7 +14,7 @@ use Rattle.grant_values.specs.Values.{KeptValue, NoValue, ConsoleValue, fresh_va
 use Rattle.process_model.specs.Own.{Own}
 use Rattle.process_model.specs.Handed.{has_place, own_entering}
 use Rattle.process_model.specs.Served.{kept, with_written}
-use Rattle.driver_model.specs.Commands.{Commanded, Writes, refusing}
+use Rattle.driver_model.specs.Commands.{Commanded, Writes, by_number, refusing}
 use Rattle.driver_model.specs.Console as console
 use Rattle.driver_model.specs.Console.{console_in, console_reads, console_writes}
 use Rattle.driver_model.specs.Drivers.{CommandHandler, handler_by, handler_of}
@@ -107,11 +107,11 @@ module _ (own : Own) where
 
   row : (number n : ℕ) (c : Commanded) (rest : Option (ℕ × Commanded)) → Follows c → Follows (chosen rest)
       → Follows (chosen (cond (n == number) (Some (n, c)) rest))
-  row number n c rest here later = by_number (n == number)
+  row number n c rest here later = if_equal (n == number)
     where
-      by_number : (b : Bool) → Follows (chosen (cond b (Some (n, c)) rest))
-      by_number true = here
-      by_number false = later
+      if_equal : (b : Bool) → Follows (chosen (cond b (Some (n, c)) rest))
+      if_equal true = here
+      if_equal false = later
 
   if_so : (b : Bool) (c d : Commanded) → Follows c → Follows d → Follows (cond b c d)
   if_so true c d h k = h
@@ -147,8 +147,8 @@ module _ (own : Own) where
   of_cancelling None = same
   of_cancelling (Some read) = begins_same (write_of own) _ (read_beside None own)
 
-  of_console : (number count : ℕ) → Follows (console.command number count own)
-  unfolding console.command console.commands
+  of_console : (number count : ℕ) → Follows (by_number (console.commands count) number own)
+  unfolding console.commands
   of_console number count =
       row number 0 _ _ same (row number 1 _ _ (of_write count)
       (row number 2 _ _ (if_so (count == 0) _ _ same (of_read _))

@@ -9,7 +9,7 @@ use Rattle.tk_base.specs.declared.call.CallRule.TheVariants.{Break, Index, NoDri
 use Rattle.tk_base.specs.declared.call.CallRule.TheVariants.{Outside, Permission}
 use Rattle.tk_base.specs.Call.{error_of}
 use Rattle.tbf_headers.specs.declared.program.Main.{Main}
-use Rattle.tbf_headers.specs.Meaning.{Meaning, header_reading, region_in, region_count}
+use Rattle.tbf_headers.specs.Meaning.{Meaning, header_reading, permissions_by, region_in, region_count}
 use Rattle.syscall_filter.specs.Permission.{permitted}
 use Rattle.process_layout.specs.LayoutView.{first_break}
 use Rattle.process_layout.specs.Bounds.{permits_break}
@@ -219,6 +219,5 @@ by_form around r (forms.Exit kind code) = exit r kind code
 -- strict is no part of what a command sees of the board.
 unfoldable pub served : Bool → CommandContext → Record → SystemCall → Served
 served strict around r call =
-    let permissions = option_and_then (λ h. h.permissions) (result_ok (header_reading r.object)) in
-    if permitted strict permissions (form_of call) then by_form around r (form_of call)
+    if permitted strict (permissions_by (header_reading r.object)) (form_of call) then by_form around r (form_of call)
     else refused_with r Permission (failure_of (form_of call) Permission)

@@ -7,10 +7,15 @@ use Rattle.std.specs.List.{Any, list_any}
 use Rattle.tk_base.specs.declared.process.Choice.{Choice}
 use Rattle.tk_base.specs.declared.process.Choice.TheVariants.{Run}
 use Rattle.tk_base.specs.declared.process.Verb.TheVariants.{Restart}
+use Rattle.tk_base.specs.declared.kinds.PairKind.TheVariants.{ReadWrite}
 use Rattle.rv32_model.specs.Laws.{stores_at}
 use Rattle.process_model.specs.Own.{Own}
 use Rattle.process_model.specs.Changes.{ChangesAt, IsInside, IsWhole}
-use Rattle.driver_model.specs.Bytes.{clock_buffer, input_buffer, shows_clock, stored_buffer, word_buffer}
+use Rattle.process_model.specs.Handed.{held}
+use Rattle.driver_model.specs.Bytes.{clock_buffer}
+use Rattle.driver_model.specs.Alarm.{alarm_driver}
+use Rattle.driver_model.specs.Console as console
+use Rattle.driver_model.specs.Random as random
 use Rattle.driver_model.specs.Requests.{waiting_in}
 use Rattle.driver_model.specs.Storage as storage
 use Rattle.grant_values.specs.declared.storage.StorageKind.TheVariants.{Write}
@@ -25,11 +30,11 @@ use Rattle.kernel_model.specs.Choices.{OfEachProcess, Throughout}
 use Rattle.kernel_model.specs.Replay.{chosen, events}
 use Rattle.kernel_model.specs.Stretch.{IsStretch}
 
--- whether a call showed its process the clock: the command that does so, which broke no rule
+-- whether a call showed its process the clock: command 2 of the alarm does so, where it broke no rule
 abbrev pub showed_clock : Option CallMade → Bool
 showed_clock call =
     unwrap_or (option_map (λ made. made.class == 2
-    && (shows_clock (slice_index made.args 0) (slice_index made.args 1) && is_none made.rule)) call) false
+    && ((slice_index made.args 0 == alarm_driver && slice_index made.args 1 == 2) && is_none made.rule)) call) false
 
 -- A cause in a process's own turn, by what the turn told and by the record before and after it: a store that covers the
 -- address; the flag of its yield; that it started again, where the turn told an exit or a denial; the clock that was
@@ -44,9 +49,9 @@ IsDoneByTurn r s told at =
 -- the buffer that a process holds for the device that answers it so; one without bytes, where the answer moves none
 abbrev pub buffer_for : Event → Own → ℕ × ℕ
 buffer_for (Alarmed now) own = clock_buffer own
-buffer_for (Input bytes) own = input_buffer own
-buffer_for (Word word) own = word_buffer own
-buffer_for (Stored moved) own = stored_buffer own
+buffer_for (Input bytes) own = held ReadWrite console.console 1 own
+buffer_for (Word word) own = held ReadWrite random.random 0 own
+buffer_for (Stored moved) own = held ReadWrite storage.storage 0 own
 buffer_for other own = (0, 0)
 
 -- an answer that writes over a place of the storage: it serves a request that waits in the process's grant, and does

@@ -1,11 +1,10 @@
 -- That the system call filter holds in runs (Tock Binary Format, "Permissions"; the system call filter of Tock's
 -- kernel).
 use Rattle.std.specs.Prelude.{◌≡◌, ℕ, ◌==◌, Bool, true, not, if◌then◌else◌, List, [], ◌∷◌, All, Option, None, Some}
-use Rattle.std.specs.Prelude.{option_and_then, slice_index}
+use Rattle.std.specs.Prelude.{slice_index}
 use Rattle.std.specs.List.{list_any}
-use Rattle.std.specs.Result.{result_ok}
 use Rattle.tk_base.specs.declared.process.Choice.{Choice}
-use Rattle.tbf_headers.specs.Meaning.{header_reading}
+use Rattle.tbf_headers.specs.Meaning.{header_reading, permissions_by}
 use Rattle.tbf_headers.specs.Permissions.{allows, lists}
 use Rattle.process_record.specs.declared.emit.CallMade.{CallMade}
 use Rattle.kernel_model.specs.Record.{Record}
@@ -28,7 +27,7 @@ is_allowed strict (Some entries) made =
 
 -- the entries of the Permissions element of a process's object, if it has one
 abbrev pub permissions_of : Record → Option (List ℕ)
-permissions_of r = option_and_then (λ h. h.permissions) (result_ok (header_reading r.object))
+permissions_of r = permissions_by (header_reading r.object)
 
 -- a call that a turn tells, which names a driver and was not refused, is allowed by the process's own object
 abbrev pub IsFiltered : Settings → Record → TurnTrace → Type 0

@@ -20,7 +20,7 @@ use Rattle.tk_base.specs.Call.{error_of}
 use Rattle.rv32_model.specs.UserTurn.{MemoryAccess, denied_at}
 use Rattle.tbf_headers.specs.declared.fault.HeaderFault.{HeaderFault}
 use Rattle.tbf_headers.specs.declared.program.Main.{Main}
-use Rattle.tbf_headers.specs.Meaning.{Meaning, header_reading, region_in}
+use Rattle.tbf_headers.specs.Meaning.{Meaning, header_reading, permissions_by, region_in}
 use Rattle.syscall_abi.specs.declared.call.Call.{Call as SystemCall}
 use Rattle.syscall_abi.specs.declared.form.Swap.{Swap}
 use Rattle.syscall_abi.specs.declared.reply.Reply.{Reply}
@@ -96,7 +96,7 @@ commanded r c = record (driver_answered (record_with_step r c.step) c.answer) { 
 -- whether an object permits a call to its process, under a strict filter or an open one
 abbrev pub object_permits : Bool → List ℕ → SystemCall → Bool
 object_permits strict object call =
-    permitted strict (option_and_then (λ h. h.permissions) (result_ok (header_reading object))) (form_of call)
+    permitted strict (permissions_by (header_reading object)) (form_of call)
 
 -- a process that starts again by what its header says of its entry; as it was where it says nothing
 abbrev pub restarted_main : Record → Meaning → Option Main → Record

@@ -178,7 +178,7 @@ is_act other = false
 abbrev pub stored : Bool → Record → Record
 stored moved r =
     let a = storage.answered (not moved) (flash_of r) r.storage r.own in
-    let storage = unwrap_or (option_map (λ w. overwritten r.storage w.0 w.1) a.written) r.storage in
+    let storage = unwrap_or (option_map (λ w. overwritten r.storage w.0 w.1) a.moved) r.storage in
     record (record_with_step r a.step) { storage = storage }
 
 -- a process on which an operator acted: it is listed, held, let go or ended, where the verb applies, or starts again

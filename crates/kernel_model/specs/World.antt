@@ -1,11 +1,13 @@
 -- The world only routes: a step finds whose turn it is, or whom a device answers, and applies that event to that one
 -- record. Which steps there are, and what the devices do, is this board's own rule.
-use Rattle.std.specs.Prelude.{ℕ, zero, suc, ◌+◌, ◌/◌, ◌%◌, ◌==◌, Bool, true, false, not, ◌&&◌, nat_le, nat_lt}
+use Rattle.std.specs.Prelude.{ℕ, zero, suc, ◌+◌, ◌*◌, ◌/◌, ◌%◌, ◌==◌, Bool, true, false, not, ◌&&◌, nat_le, nat_lt}
 use Rattle.std.specs.Prelude.{if◌then◌else◌, List}
 use Rattle.std.specs.Prelude.{[], ◌∷◌, ◌++◌, option_and_then, unwrap_or}
 use Rattle.std.specs.Prelude.{drop, filter, length, map, slice_get, slice_index_or, slice_set, Option, None, Some}
 use Rattle.std.specs.Prelude.{is_some, option_to_list}
 use Rattle.std.specs.Option.{option_map}
+use Rattle.std.specs.List.{list_any}
+use Rattle.tk_base.specs.Bits.{has_bit, with_bit}
 use Rattle.tk_base.specs.declared.limits.TheConstants.{SLOT_COUNT, STEP_LIMIT}
 use Rattle.tk_base.specs.declared.process.Choice.{Choice}
 use Rattle.tk_base.specs.declared.process.Choice.TheVariants.{Run, Device, Pass}
@@ -14,7 +16,7 @@ use Rattle.tk_base.specs.declared.process.Dev.TheVariants as dev
 use Rattle.tk_base.specs.declared.process.Verb.{Verb}
 use Rattle.tk_base.specs.declared.process.Verb.TheVariants as verbs
 use Rattle.process_record.specs.Summary.{Unplaced}
-use Rattle.process_record.specs.Lines.{list_text, slot_named}
+use Rattle.process_record.specs.Lines.{listed_line, slot_named}
 use Rattle.process_record.specs.Operator.{ends_by}
 use Rattle.turn_scheduler.specs.RoundRobin.{used_after}
 use Rattle.kernel_model.specs.Record.{Record, slot_line_of}
@@ -22,7 +24,6 @@ use Rattle.kernel_model.specs.declared.settings.Settings.{Settings}
 use Rattle.board_devices.specs.Arriving.{differs, first_arrival_time, is_time}
 use Rattle.board_devices.specs.Clock.{clock_at}
 use Rattle.board_devices.specs.SerialLine.{SerialLine, line_at, with_input}
-use Rattle.board_devices.specs.Storage.{is_fault}
 use Rattle.script_text.specs.Settings.{ScriptEvent as Arrival, EventKind}
 use Rattle.script_text.specs.Settings as script
 use Rattle.process_model.specs.Own.{Own}
@@ -31,7 +32,7 @@ use Rattle.driver_model.specs.Alarm.{nearer}
 use Rattle.driver_model.specs.Console as console
 use Rattle.driver_model.specs.Random as random
 use Rattle.driver_model.specs.Storage as storage
-use Rattle.driver_model.specs.Leds.{with_switched}
+use Rattle.driver_model.specs.Leds.{is_on_after}
 use Rattle.driver_model.specs.Commands.{BoardRequest, Waits, Leaves, Lights, QueueName, Writes, Reads, Randoms, Stores}
 use Rattle.driver_model.specs.Commands.{leaving_all}
 use Rattle.kernel_model.specs.Turn.{Act, Event, Turn, Alarmed, Edge, Taken, WriteDone, Input, Word, NoWord, Stored}
@@ -185,14 +186,15 @@ after_answer name completed slot = with_queue name (λ slots. if completed then 
 abbrev pub telling : Event → Devices → DeviceAnswer
 telling event d = record { answer = record { event = event; printed = [] }; devices = d }
 
--- the UART of a lane takes the next bytes of the write of the process in a slot, or the write completes
+-- the UART of a lane takes the next bytes of the write of the process in a slot, and is free again after so many ticks
+-- for each; or the write completes
 abbrev pub transmitting : ℕ → ℕ → Devices → ℕ → Record → DeviceAnswer
 transmitting lane time d slot r =
     let s = console.sent (flash_of r) r.own in
     let line = line_at lane d.lines in
-    let sent = record line { free = console.free_after time line.ticks s.printed line.free } in
+    let sent = record line { free = if length s.moved == 0 then line.free else time + length s.moved * line.ticks } in
     record {
-      answer = record { event = if s.completed then WriteDone else Taken; printed = s.printed };
+      answer = record { event = if s.completed then WriteDone else Taken; printed = s.moved };
       devices = record (after_answer Writes s.completed slot d) { lines = slice_set d.lines lane sent };
     }
 
@@ -209,15 +211,15 @@ abbrev pub random_step : ℕ → Devices → ℕ → Record → DeviceAnswer
 random_step lane d slot r =
     let left = slice_index_or d.words lane [] in
     let a = random.answered (slice_get left 0) r.own in
-    let words = slice_set d.words lane (random.words_after a.drawn left) in
-    telling (unwrap_or (option_map Word a.drawn) NoWord)
+    let words = slice_set d.words lane (random.words_after a.moved left) in
+    telling (unwrap_or (option_map Word a.moved) NoWord)
     (record (after_answer Randoms a.completed slot d) { words = words })
 
 -- the storage request of the process in a slot is served, or fails, by its number among all that were in a lane
 abbrev pub storing : ℕ → Devices → ℕ → Record → DeviceAnswer
 storing lane d slot r =
     let count = slice_index_or d.served lane 0 in
-    let fails = is_fault d.faults (count + 1) in
+    let fails = list_any (λ number. number == count + 1) d.faults in
     let a = storage.answered fails (flash_of r) r.storage r.own in
     let served = slice_set d.served lane (if a.completed then count + 1 else count) in
     telling (Stored (not fails)) (record (after_answer Stores a.completed slot d) { served = served })
@@ -232,7 +234,8 @@ serving rs answer (Some slot) = option_map (λ r. answering slot (answer slot r)
 abbrev pub acted : ℕ → BoardRequest → Devices → Devices
 acted slot (Waits queue) d = with_queue queue (λ slots. slots ++ slot ∷ []) d
 acted slot (Leaves queue) d = with_queue queue (queue_without slot) d
-acted slot (Lights led switch) d = record d { leds = with_switched d.leds led switch }
+acted slot (Lights led switch) d =
+    record d { leds = with_bit d.leds led (is_on_after switch (has_bit d.leds led)) }
 
 -- what a turn asks the board to do, one after another
 abbrev pub routed : ℕ → List BoardRequest → Devices → Devices
@@ -251,7 +254,7 @@ telling_edge button pressed rs d =
 
 -- what an operator's act prints: the line of the process, where it is listed
 abbrev pub listed : Verb → ℕ → Record → List ℕ
-listed verbs.List slot r = list_text slot (slot_line_of r)
+listed verbs.List slot r = listed_line slot (slot_line_of r)
 listed other slot r = []
 
 -- an operator's act on the process in a slot, by its record; one that it ends, or starts again, waits in no queue any

@@ -2,7 +2,7 @@
 -- its turn, a device's step in its window, and what comes in.
 use Rattle.std.proofs.Common.{◌≡◌, ◌≢◌, ℕ, ◌==◌, ◌∷◌, ◌+◌, if◌then◌else◌, Bool, true, false, cond, List, [], filter}
 use Rattle.std.proofs.Common.{length, slice_get, slice_index_or, Option, None, Some, refl, sym, ap, ap₂, ◌∙◌, eqb-true}
-use Rattle.std.proofs.Common.{not, subst}
+use Rattle.std.proofs.Common.{◌*◌, not, subst}
 use Rattle.std.specs.Prelude.{All, drop}
 use Rattle.std.specs.Option.{option_and_then, option_map}
 use Rattle.std.proofs.lemmas.Option.{slice_get-map}
@@ -214,7 +214,8 @@ module _ (slot : ℕ) (v w : World) (alike : AreAlikeIn slot v w) where
     where
       sent_by : Record → ℕ → SerialLine → SerialLine
       sent_by r time line =
-          record line { free = console.free_after time line.ticks (console.sent (flash_of r) r.own).printed line.free }
+          let count = length (console.sent (flash_of r) r.own).moved in
+          record line { free = if count == 0 then line.free else time + count * line.ticks }
 
       lanes : (r : Record)
           → LanesAreAlike slot (transmitting slot v.clock.time v.devices slot r).devices
@@ -270,7 +271,7 @@ module _ (slot : ℕ) (v w : World) (alike : AreAlikeIn slot v w) where
       of_queue Randoms (random_step slot v.devices) (random_step slot w.devices)
       (record {
         answer = λ r. ap (λ (words : List ℕ). record {
-          event = drawn_event (random.answered (slice_get words 0) r.own).drawn;
+          event = drawn_event (random.answered (slice_get words 0) r.own).moved;
           printed = [];
         }) same_words;
         lanes = λ r. lanes r;
@@ -280,7 +281,7 @@ module _ (slot : ℕ) (v w : World) (alike : AreAlikeIn slot v w) where
       same_words = indexes_alike v.devices.words w.devices.words slot [] alike.lanes.words
 
       rest_by : Record → List ℕ → List ℕ
-      rest_by r words = random.words_after (random.answered (slice_get words 0) r.own).drawn words
+      rest_by r words = random.words_after (random.answered (slice_get words 0) r.own).moved words
 
       lanes : (r : Record)
           → LanesAreAlike slot (random_step slot v.devices slot r).devices (random_step slot w.devices slot r).devices

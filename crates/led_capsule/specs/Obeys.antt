@@ -3,7 +3,7 @@ use Rattle.std.specs.Prelude.{◌≡◌, Bool, List, length, Option, Result}
 use Rattle.tk_base.specs.declared.call.CallRule.{CallRule}
 use Rattle.syscall_abi.specs.declared.reply.Reply.{Reply}
 use Rattle.driver_model.specs.Commands.{Commanded}
-use Rattle.driver_model.specs.Replies.{reply_of}
+use Rattle.syscall_abi.specs.Reply.{reply_of}
 use Rattle.tk_base.specs.Bits.{bits_of}
 use Rattle.driver_model.specs.Leds.{lit_after}
 

@@ -1,14 +1,13 @@
 //! Commands to the LEDs (TRD 104, "Command").
 ghost use Rattle.std.specs.Prelude.{◌≡◌, length, OnErr, OnSome};
 ghost use Rattle.process_model.specs.Own.{Own};
-ghost use Rattle.driver_model.specs.Commands.{Switch, Toggle};
-ghost use Rattle.driver_model.specs.Leds.{command, is_on_after, switching};
+ghost use Rattle.driver_model.specs.Commands.{by_number, Switch, Toggle};
+ghost use Rattle.driver_model.specs.Leds.{commands, is_on_after, switching};
 ghost use Rattle.tk_base.specs.Bits.{bits_of, has_bit};
 ghost use Rattle.led_capsule.specs.Obeys.{LedsObey, LedsReply};
 
 use board_devices::Leds;
-use driver_model::reply_of;
-use syscall_abi::Reply;
+use syscall_abi::{Reply, reply_of};
 use tk_base::{CallRule, flags_are_bits};
 
 /// Whether an LED is on. One that there is not is off.
@@ -45,10 +44,10 @@ fn toggle(leds: &mut Leds, led: u32) -> Result<Reply, CallRule>
 }
 
 /// A command of a process to the LEDs: the reply, or the rule that refuses it.
-#[tactic(auto, unfolding(driver_model::specs::Leds::command, driver_model::specs::Leds::commands))]
+#[tactic(auto, unfolding(driver_model::specs::Leds::commands))]
 fn obey(leds: &mut Leds, number: u32, a2: u32) -> Result<Reply, CallRule>
     ensures obeys { (own : Own) → let lit = leds.old in
-        LedsObey (command (length lit) number a2 own) lit result leds.new }
+        LedsObey (by_number (commands (length lit) a2) number own) lit result leds.new }
     ensures kept { OnErr result (leds.new ≡ leds.old) }
 {
     match number {
@@ -66,7 +65,7 @@ fn obey(leds: &mut Leds, number: u32, a2: u32) -> Result<Reply, CallRule>
 /// No LED but `a2` changes, and none where it is refused.
 pub fn command(leds: &mut Leds, number: u32, a2: u32) -> (Reply, Option<CallRule>)
     ensures replies { (own : Own) → let lit = leds.old in
-        LedsReply (command (length lit) number a2 own) lit result leds.new }
+        LedsReply (by_number (commands (length lit) a2) number own) lit result leds.new }
     ensures kept { OnSome result.1 (leds.new ≡ leds.old) }
 {
     reply_of(obey(leds, number, a2))

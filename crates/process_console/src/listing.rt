@@ -1,7 +1,7 @@
 //! The line of a process that an operator lists.
 ghost use Rattle.std.specs.Prelude.{◌≡◌, ◌+◌, ◌≤◌, ◌++◌, length};
 ghost use Rattle.tk_base.specs.declared.limits.TheConstants.{PRINT_LIMIT};
-ghost use Rattle.process_record.specs.Lines.{list_text};
+ghost use Rattle.process_record.specs.Lines.{listed_line};
 
 use arrayvec::ArrayVec;
 use itoa::Buffer;
@@ -20,9 +20,9 @@ fn put(text: &mut ArrayVec<u8, PRINT_LIMIT>, piece: &[u8])
 
 /// The line of the process in a slot: the slot, its name, its state in one word, and a line feed.
 /// It takes at most 47 bytes.
-#[tactic(auto, unfolding(process_record::specs::Lines::list_text))]
+#[tactic(auto, unfolding(process_record::specs::Lines::listed_line))]
 pub fn list_line(slot: Slot, line: &SlotLine) -> ArrayVec<u8, PRINT_LIMIT>
-    ensures { result.items ≡ list_text slot line.now }
+    ensures { result.items ≡ listed_line slot line.now }
 {
     let mut text = ArrayVec::new();
     let mut digits = Buffer::new();

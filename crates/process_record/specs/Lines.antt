@@ -32,7 +32,7 @@ state_word Faulted wait = codes "faulted"
 state_word (Terminated code) wait = codes "terminated"
 
 -- the line of a process that is listed: its slot, its name, its state in one word
-unfoldable pub list_text : ℕ → SlotLine → List ℕ
-list_text slot line =
+unfoldable pub listed_line : ℕ → SlotLine → List ℕ
+listed_line slot line =
     let word = if line.held then codes "stopped" else state_word line.state line.wait in
     decimal slot ++ (codes " " ++ (name_text line.name.items ++ (codes " " ++ (word ++ codes "\n"))))

@@ -75,15 +75,12 @@ after_refusal p rule reply =
 abbrev pub waiting : Process → Process
 waiting p = record (after_call p) { state = Yielded }
 
--- the registers of an upcall that runs: a0 to a2 are its arguments and a3 the application data, ra is pc, and pc the
--- function with bit 0 cleared
-abbrev pub upcall_regs : Upcall → Registers → Registers
-upcall_regs u regs =
-    record (with_register (with_register (with_words 10 u.args regs) 13 u.app) 1 regs.pc) { pc = u.function / 2 * 2 }
-
--- the registers of a delivery: of one to a process that waited for one upcall alone its arguments, and all else stays
+-- The registers of a delivery. Of an upcall that runs a0 to a2 are its arguments and a3 the application data, ra is pc,
+-- and pc the function with bit 0 cleared; of one to a process that waited for it alone they are its arguments, and all
+-- else stays.
 abbrev pub delivery_regs : Delivery → Registers → Registers
-delivery_regs (Function upcall) regs = upcall_regs upcall regs
+delivery_regs (Function u) regs =
+    record (with_register (with_register (with_words 10 u.args regs) 13 u.app) 1 regs.pc) { pc = u.function / 2 * 2 }
 delivery_regs (Arguments args) regs = with_words 10 args regs
 
 -- a process goes on with what is delivered to it (TRD 104, "Yield")

@@ -7,7 +7,8 @@ ghost use Rattle.process_record.specs.Parts.{regs_from, past_call};
 ghost use Rattle.process_record.specs.Process.{after_turn, after_reply};
 ghost use Rattle.process_record.specs.Parts.{after_fault, after_exit};
 ghost use Rattle.process_record.specs.Process.{after_refusal, after_call, waiting, delivered};
-ghost use Rattle.process_record.specs.Process.{after_end, is_alive, upcall_regs};
+ghost use Rattle.process_record.specs.Process.{after_end, delivery_regs, is_alive};
+ghost use Rattle.upcall_queue.specs.declared.inbox.Delivery.TheVariants.{Function};
 ghost use Rattle.process_record.specs.Parts.{with_held};
 ghost use Rattle.syscall_abi.specs.Reply.{with_words};
 
@@ -232,7 +233,7 @@ fn put_arguments(regs: &mut Regs, arguments: [u32; 3])
 
 /// Puts an upcall into the registers, with which its function runs, and then goes back to pc.
 fn put_upcall(regs: &mut Regs, upcall: &Upcall)
-    ensures { regs.new ≡ upcall_regs upcall.now regs.old }
+    ensures { regs.new ≡ delivery_regs (Function upcall.now) regs.old }
 {
     let back = regs.pc();
     put_arguments(regs, upcall.args);

@@ -1,19 +1,18 @@
 //! The source of random bytes, and who waits for it.
 ghost use Rattle.std.specs.Prelude.{◌≡◌, None, IfSome, OnErr};
-ghost use Rattle.driver_model.specs.Commands.{Randoms};
-ghost use Rattle.driver_model.specs.Random.{command, randoms as request_kind};
+ghost use Rattle.driver_model.specs.Commands.{by_number, Randoms};
+ghost use Rattle.driver_model.specs.Random.{commands, randoms as request_kind};
 ghost use Rattle.driver_requests.specs.Answers.{AnswersFirst};
 ghost use Rattle.driver_requests.specs.Waiting.{first_of, without};
 ghost use Rattle.driver_requests.specs.Asking.{MayAskAt, MayBeTold, Obeys, Replies};
-ghost use Rattle.random_capsule.specs.Answers.{answer_to};
+ghost use Rattle.random_capsule.specs.Answers.{random_answer_to};
 
 use crate::visits::randoms;
 use board_devices::{Answer, Words};
-use driver_model::reply_of;
 use driver_requests::RequestQueue;
 use grant_enter::Home;
 use grant_values::RandomRequest;
-use syscall_abi::Reply;
+use syscall_abi::{Reply, reply_of};
 use tk_base::{CallRule, NotReady, ProcessId, Slot};
 
 /// The source of random bytes.
@@ -25,7 +24,7 @@ pub struct RandomCapsule {
 
 impl RandomCapsule {
     /// A command of the process of an id to the source: the reply, or the rule that refuses it.
-    #[tactic(auto, unfolding(driver_model::specs::Random::command, driver_model::specs::Random::commands))]
+    #[tactic(auto, unfolding(driver_model::specs::Random::commands))]
     fn obey(
         &mut self,
         home: &mut Home,
@@ -34,7 +33,7 @@ impl RandomCapsule {
         count: u32,
     ) -> Result<Reply, CallRule>
         requires { MayAskAt request_kind self.old.waiting home.old id }
-        ensures { Obeys Randoms id (command number count) self.old.waiting home.old
+        ensures { Obeys Randoms id (by_number (commands count) number) self.old.waiting home.old
             result self.new.waiting home.new }
     {
         match number {
@@ -63,7 +62,7 @@ impl RandomCapsule {
         count: u32,
     ) -> (Reply, Option<CallRule>)
         requires { MayAskAt request_kind self.old.waiting home.old id }
-        ensures { Replies Randoms id (command number count) self.old.waiting home.old
+        ensures { Replies Randoms id (by_number (commands count) number) self.old.waiting home.old
             result self.new.waiting home.new }
     {
         reply_of(self.obey(home, id, number, count))
@@ -86,7 +85,7 @@ impl RandomCapsule {
     ) -> Result<Answer, NotReady>
         requires { IfSome (first_of only self.old.waiting) (MayBeTold home.old) }
         ensures none { OnErr result (first_of only self.old.waiting ≡ None) }
-        ensures answers { AnswersFirst only (answer_to words.old home.old) self.old.waiting words.old
+        ensures answers { AnswersFirst only (random_answer_to words.old home.old) self.old.waiting words.old
             home.old result self.new.waiting words.new home.new }
     {
         self.waiting.answer::<RandomCapsule>(home, words, only)

@@ -33,13 +33,13 @@ fn told(drawn: Option<u32>) -> Kind
 }
 
 impl Serve<RandomRequest> for RandomCapsule {
-    ghost use Rattle.random_capsule.specs.Answers.{answer_to};
+    ghost use Rattle.random_capsule.specs.Answers.{random_answer_to};
 
     type Device = Words;
 
     ghost asks = { λ words own. Unit {0} };
 
-    ghost answer_to = { answer_to };
+    ghost answer_to = { random_answer_to };
 
     /// A step of the request of a process, if it is there and has one: the word that was drawn, or
     /// that none was, and whether the request completed.

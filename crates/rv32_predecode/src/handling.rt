@@ -1,6 +1,6 @@
 //! What is done with an instruction that was decoded before.
 ghost use Rattle.std.specs.Prelude.{◌≡◌, Some, is_some, IfSome, IfNone};
-ghost use Rattle.rv32_predecode.specs.Registers.{number_of};
+ghost use Rattle.rv32_predecode.specs.Registers.{index_of};
 ghost use Rattle.rv32_model.specs.declared.instr.Instr.TheVariants as instrs;
 ghost use Rattle.rv32_predecode.specs.Entries.{entry_instr, entry_length, entry_reach};
 
@@ -23,7 +23,7 @@ pub trait SizedVisitor: InstrVisitor {
 
 #[inline(always)]
 fn lui<H: SizedVisitor>(handler: &mut H, length: u8, rd: Register, imm: u32) -> H::Answer
-    ensures { H.handles (H.sized handler.old length) (Some (instrs.Lui (number_of rd) imm)) result handler.new }
+    ensures { H.handles (H.sized handler.old length) (Some (instrs.Lui (index_of rd) imm)) result handler.new }
 {
     handler.begin(length);
     handler.lui(rd.number(), imm)
@@ -31,7 +31,7 @@ fn lui<H: SizedVisitor>(handler: &mut H, length: u8, rd: Register, imm: u32) -> 
 
 #[inline(always)]
 fn auipc<H: SizedVisitor>(handler: &mut H, length: u8, rd: Register, imm: u32) -> H::Answer
-    ensures { H.handles (H.sized handler.old length) (Some (instrs.Auipc (number_of rd) imm)) result handler.new }
+    ensures { H.handles (H.sized handler.old length) (Some (instrs.Auipc (index_of rd) imm)) result handler.new }
 {
     handler.begin(length);
     handler.auipc(rd.number(), imm)
@@ -39,7 +39,7 @@ fn auipc<H: SizedVisitor>(handler: &mut H, length: u8, rd: Register, imm: u32) -
 
 #[inline(always)]
 fn jal<H: SizedVisitor>(handler: &mut H, length: u8, rd: Register, offset: u32) -> H::Answer
-    ensures { H.handles (H.sized handler.old length) (Some (instrs.Jal (number_of rd) offset)) result handler.new }
+    ensures { H.handles (H.sized handler.old length) (Some (instrs.Jal (index_of rd) offset)) result handler.new }
 {
     handler.begin(length);
     handler.jal(rd.number(), offset)
@@ -54,7 +54,7 @@ fn jalr<H: SizedVisitor>(
     offset: u32,
 ) -> H::Answer
     ensures { H.handles (H.sized handler.old length)
-        (Some (instrs.Jalr (number_of rd) (number_of rs1) offset)) result handler.new }
+        (Some (instrs.Jalr (index_of rd) (index_of rs1) offset)) result handler.new }
 {
     handler.begin(length);
     handler.jalr(rd.number(), rs1.number(), offset)
@@ -70,7 +70,7 @@ fn branch<H: SizedVisitor>(
     offset: u32,
 ) -> H::Answer
     ensures { H.handles (H.sized handler.old length)
-        (Some (instrs.Branch test (number_of rs1) (number_of rs2) offset)) result handler.new }
+        (Some (instrs.Branch test (index_of rs1) (index_of rs2) offset)) result handler.new }
 {
     handler.begin(length);
     handler.branch(test, rs1.number(), rs2.number(), offset)
@@ -86,7 +86,7 @@ fn load<H: SizedVisitor>(
     offset: u32,
 ) -> H::Answer
     ensures { H.handles (H.sized handler.old length)
-        (Some (instrs.Load kind (number_of rd) (number_of rs1) offset)) result handler.new }
+        (Some (instrs.Load kind (index_of rd) (index_of rs1) offset)) result handler.new }
 {
     handler.begin(length);
     handler.load(kind, rd.number(), rs1.number(), offset)
@@ -102,7 +102,7 @@ fn store<H: SizedVisitor>(
     offset: u32,
 ) -> H::Answer
     ensures { H.handles (H.sized handler.old length)
-        (Some (instrs.Store width (number_of rs1) (number_of rs2) offset)) result handler.new }
+        (Some (instrs.Store width (index_of rs1) (index_of rs2) offset)) result handler.new }
 {
     handler.begin(length);
     handler.store(width, rs1.number(), rs2.number(), offset)
@@ -118,7 +118,7 @@ fn op_imm<H: SizedVisitor>(
     imm: u32,
 ) -> H::Answer
     ensures { H.handles (H.sized handler.old length)
-        (Some (instrs.OpImm op (number_of rd) (number_of rs1) imm)) result handler.new }
+        (Some (instrs.OpImm op (index_of rd) (index_of rs1) imm)) result handler.new }
 {
     handler.begin(length);
     handler.op_imm(op, rd.number(), rs1.number(), imm)
@@ -134,7 +134,7 @@ fn op<H: SizedVisitor>(
     rs2: Register,
 ) -> H::Answer
     ensures { H.handles (H.sized handler.old length)
-        (Some (instrs.Op op (number_of rd) (number_of rs1) (number_of rs2))) result handler.new }
+        (Some (instrs.Op op (index_of rd) (index_of rs1) (index_of rs2))) result handler.new }
 {
     handler.begin(length);
     handler.op(op, rd.number(), rs1.number(), rs2.number())

@@ -1,6 +1,6 @@
 //! The name of a register.
 ghost use Rattle.std.specs.Prelude.{◌≡◌, IfSome};
-ghost use Rattle.rv32_predecode.specs.Registers.{number_of};
+ghost use Rattle.rv32_predecode.specs.Registers.{index_of};
 
 /// One of the 32 registers. That it is no other number is known to the compiler too.
 #[derive(Clone, Copy)]
@@ -42,7 +42,7 @@ pub enum Register {
 impl Register {
     /// The register of a number, where there is one.
     pub fn of(number: u8) -> Option<Register>
-        ensures { IfSome result (λ register. number_of register ≡ number) }
+        ensures { IfSome result (λ register. index_of register ≡ number) }
     {
         match number {
             0 => Some(Register::X0),
@@ -84,7 +84,7 @@ impl Register {
     /// Its number.
     #[inline(always)]
     pub fn number(self) -> u8
-        ensures { result ≡ number_of self }
+        ensures { result ≡ index_of self }
     {
         match self {
             Register::X0 => 0,

@@ -16,7 +16,7 @@ use Rattle.rv32_predecode.specs.Decoded.{IsFetched, TellsFetched, length_of}
 use Rattle.rv32_step.specs.declared.near.Served.{Served}
 use Rattle.rv32_step.specs.declared.near.Served.TheVariants as served
 use Rattle.rv32_step.specs.Executed.{at_pc}
-use Rattle.rv32_step.specs.Near.{address_of, IsPlaced, IsServed, IsTurned, Standing}
+use Rattle.rv32_step.specs.Near.{address_of, StandsAtPlace, IsServedNear, IsTurned, Standing}
 
 -- of what is fetched at pc
 is_executed : (denies : Access → ℕ → Width → Option Rule) (bytes : ℕ → ℕ) (regs : Registers) (told : Instr) (size : ℕ)
@@ -49,14 +49,14 @@ module _ (denies : Access → ℕ → Width → Option Rule) (start count : ℕ)
     (even : start % 2 ≡ 0) (ends : start + 2 * count ≤ 2 ^ 31) (inside : before.place < count) where
   served_by : (told : Instr) (size : ℕ) → IsFetched denies before.bytes (start + 2 * before.place) told size
       → 2 * before.place + reach_of (Some told) size ≤ 2 * count
-      → (IsPlaced start count before.place size (Some told) → IsServed answer
+      → (StandsAtPlace start count before.place size (Some told) → IsServedNear answer
       (executed denies before.bytes size (Some told) (at_pc before.regs (start + 2 * before.place))) start size
       (Some told) before after)
       → IsTurned answer
       (user_turn denies before.bytes (at_pc before.regs (start + 2 * before.place))) start count before after
   served_by told size is reach serves =
       let parcels = of_parcels is.word size is.long in
-      let placed : IsPlaced start count before.place size (Some told) = record {
+      let placed : StandsAtPlace start count before.place size (Some told) = record {
         even = even;
         ends = ends;
         inside = inside;
@@ -69,7 +69,7 @@ module _ (denies : Access → ℕ → Width → Option Rule) (start count : ℕ)
       (by_answer answer (executed denies before.bytes size (Some told) (at_pc before.regs (start + 2 * before.place)))
       parcels.0 (serves placed))
     where
-      by_answer : (a : Served) (t : UserTurn) → size % 2 ≡ 0 → IsServed a t start size (Some told) before after
+      by_answer : (a : Served) (t : UserTurn) → size % 2 ≡ 0 → IsServedNear a t start size (Some told) before after
           → IsTurned a t start count before after
       by_answer served.Straight t whole s = (s.0, goes_on told size before.place after.place count reach s.1 s.2 whole)
       by_answer served.Jumped t whole s = s
@@ -79,7 +79,7 @@ module _ (denies : Access → ℕ → Width → Option Rule) (start count : ℕ)
   -- an instruction that is known was served, and so its turn was made
   pub is_turned : (entry : Entry) → TellsFetched denies before.bytes (start + 2 * before.place) entry
       → 2 * before.place + entry_reach entry ≤ 2 * count → is_some (entry_instr entry) ≡ true
-      → (IsPlaced start count before.place (entry_length entry) (entry_instr entry) → IsServed answer
+      → (StandsAtPlace start count before.place (entry_length entry) (entry_instr entry) → IsServedNear answer
       (executed denies before.bytes (entry_length entry) (entry_instr entry) (at_pc before.regs
       (start + 2 * before.place)))
       start (entry_length entry) (entry_instr entry) before after)
@@ -94,7 +94,7 @@ module _ (denies : Access → ℕ → Width → Option Rule) (start count : ℕ)
       by_instr : (instr : Option Instr) (size : ℕ)
           → IfSome instr (λ told. IsFetched denies before.bytes (start + 2 * before.place) told size)
           → 2 * before.place + reach_of instr size ≤ 2 * count → is_some instr ≡ true
-          → (IsPlaced start count before.place size instr → IsServed answer
+          → (StandsAtPlace start count before.place size instr → IsServedNear answer
           (executed denies before.bytes size instr (at_pc before.regs
           (start + 2 * before.place))) start size instr before after)
           → IsTurned answer

@@ -20,7 +20,7 @@ HopsEvenly None = Unit
 HopsEvenly (Some instr) = HopsByParcels instr
 
 -- an instruction of one parcel or two stands at one of so many places
-pub record IsPlaced (start count place length : ℕ) (instr : Option Instr) : Type 0 where
+pub record StandsAtPlace (start count place length : ℕ) (instr : Option Instr) : Type 0 where
   pub even : start % 2 ≡ 0
   pub ends : start + 2 * count ≤ 2 ^ 31
   pub inside : place < count
@@ -41,15 +41,15 @@ GoesStraight (Some instr) = IsTrue (goes_straight instr)
 
 -- by how an instruction of a length was served, the turn was made; or registers, bytes and place are as they were, and
 -- it is a call, or nothing is said
-abbrev pub IsServed : Served → UserTurn → ℕ → ℕ → Option Instr → Standing → Standing → Type 0
-IsServed served.Straight turn start length instr before after =
+abbrev pub IsServedNear : Served → UserTurn → ℕ → ℕ → Option Instr → Standing → Standing → Type 0
+IsServedNear served.Straight turn start length instr before after =
     LeavesTurn turn before.bytes (at_pc after.regs (address_of start after.place)) after.bytes Went
     × GoesStraight instr × (after.place ≡ before.place + length / 2)
-IsServed served.Jumped turn start length instr before after =
+IsServedNear served.Jumped turn start length instr before after =
     LeavesTurn turn before.bytes (at_pc after.regs (address_of start after.place)) after.bytes Went
     × (after.place < 2 ^ 31)
-IsServed served.Called turn start length instr before after = (after ≡ before) × (turn.end ≡ Call)
-IsServed served.Elsewhere turn start length instr before after = after ≡ before
+IsServedNear served.Called turn start length instr before after = (after ≡ before) × (turn.end ≡ Call)
+IsServedNear served.Elsewhere turn start length instr before after = after ≡ before
 
 -- the same of the turn of whoever stands at one of so many places, as it goes on
 abbrev pub IsTurned : Served → UserTurn → ℕ → ℕ → Standing → Standing → Type 0

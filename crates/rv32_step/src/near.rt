@@ -136,15 +136,15 @@ impl<B: Predecoded> InstrVisitor for Near<'_, B> {
     ghost use Rattle.std.specs.Prelude.{◌+◌, ◌*◌};
     ghost use Rattle.rv32_model.specs.UserTurn.{executed};
     ghost use Rattle.rv32_step.specs.Executed.{at_pc};
-    ghost use Rattle.rv32_step.specs.Near.{IsPlaced, IsServed};
+    ghost use Rattle.rv32_step.specs.Near.{StandsAtPlace, IsServedNear};
 
     type Answer = Served;
 
     ghost handles = { λ before instr answer after.
         let bytes = B.bytes before.bus.now in
         let start = B.start before.bus.now in
-        (IsPlaced start (B.count before.bus.now) before.place before.length instr →
-        IsServed answer
+        (StandsAtPlace start (B.count before.bus.now) before.place before.length instr →
+        IsServedNear answer
         (executed (B.denies before.bus.now) bytes before.length instr
         (at_pc before.regs.now (start + 2 * before.place))) start before.length instr
         (record { regs = before.regs.now; bytes = bytes; place = before.place })

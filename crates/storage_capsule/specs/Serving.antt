@@ -17,10 +17,10 @@ abbrev pub store_fails_next : ℕ → StoredSlots → Bool
 store_fails_next slot s = is_fault s.faults (counted (served_at slot s))
 
 -- what serving a request comes to, which the storage counts
-abbrev pub serving : ℕ → List ℕ → StoredSlots → StorageRequest → Own → StorageServed
-serving slot flash s request own =
+abbrev pub storage_serving : ℕ → List ℕ → StoredSlots → StorageRequest → Own → StorageServed
+storage_serving slot flash s request own =
     storage_served (store_fails_next slot s) (flash_byte flash) (slot_bytes s slot) request own
 
 -- the storage after it counted a request that was served
-abbrev pub stored : ℕ → Option (ℕ × List ℕ) → StoredSlots → StoredSlots
-stored slot written s = storage_after slot written (with_served slot s)
+abbrev pub storage_stored : ℕ → Option (ℕ × List ℕ) → StoredSlots → StoredSlots
+storage_stored slot written s = storage_after slot written (with_served slot s)

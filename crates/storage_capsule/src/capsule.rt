@@ -1,9 +1,9 @@
 //! The storage, and who waits for it.
 ghost use Rattle.std.specs.Prelude.{◌≡◌, None, IfSome, OnErr};
 ghost use Rattle.grant_enter.specs.Homes.{own_of};
-ghost use Rattle.driver_model.specs.Commands.{Stores as InStores};
+ghost use Rattle.driver_model.specs.Commands.{by_number, Stores as InStores};
 ghost use Rattle.driver_model.specs.Lines.{IsWithin};
-ghost use Rattle.driver_model.specs.Storage.{command, storages};
+ghost use Rattle.driver_model.specs.Storage.{commands, storages};
 ghost use Rattle.driver_requests.specs.Answers.{AnswersFirst};
 ghost use Rattle.driver_requests.specs.Waiting.{first_of, without};
 ghost use Rattle.driver_requests.specs.Asking.{MayAskAt, MayBeTold, Obeys, Replies};
@@ -11,11 +11,10 @@ ghost use Rattle.storage_capsule.specs.Answers.{answer_to};
 
 use crate::commands::ask_within;
 use board_devices::{Answer, Stores};
-use driver_model::reply_of;
 use driver_requests::RequestQueue;
 use grant_enter::Home;
 use grant_values::{StorageKind, StorageRequest};
-use syscall_abi::Reply;
+use syscall_abi::{Reply, reply_of};
 use tk_base::{CallRule, NotReady, ProcessId, Slot};
 
 /// The storage.
@@ -28,7 +27,7 @@ pub struct StorageCapsule {
 impl StorageCapsule {
     /// A command of the process of an id to the storage, of which a slot has `size` bytes: the
     /// reply, or the rule that refuses it.
-    #[tactic(auto, unfolding(driver_model::specs::Storage::command, driver_model::specs::Storage::commands))]
+    #[tactic(auto, unfolding(driver_model::specs::Storage::commands))]
     fn obey(
         &mut self,
         home: &mut Home,
@@ -39,7 +38,7 @@ impl StorageCapsule {
         a3: u32,
     ) -> Result<Reply, CallRule>
         requires { MayAskAt storages self.old.waiting home.old id }
-        ensures { Obeys InStores id (command size number a2 a3) self.old.waiting home.old
+        ensures { Obeys InStores id (by_number (commands size a2 a3) number) self.old.waiting home.old
             result self.new.waiting home.new }
     {
         let (offset, length) = (a2, a3);
@@ -84,7 +83,7 @@ impl StorageCapsule {
         a3: u32,
     ) -> (Reply, Option<CallRule>)
         requires { MayAskAt storages self.old.waiting home.old id }
-        ensures { Replies InStores id (command size number a2 a3) self.old.waiting home.old
+        ensures { Replies InStores id (by_number (commands size a2 a3) number) self.old.waiting home.old
             result self.new.waiting home.new }
     {
         reply_of(self.obey(home, size, id, number, a2, a3))

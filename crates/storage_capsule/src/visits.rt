@@ -45,7 +45,7 @@ pub(crate) struct Transfer<'a> {
 
 impl<'a> VisitRequest<StorageRequest> for Transfer<'a> {
     ghost use Rattle.std.specs.Prelude.{◌≡◌, ◌+◌, ◌<◌, ◌≤◌, ◌^◌, None};
-    ghost use Rattle.storage_capsule.specs.Serving.{serving, stored};
+    ghost use Rattle.storage_capsule.specs.Serving.{storage_serving, storage_stored};
 
     type Answer = &'a mut Stores;
 
@@ -54,14 +54,14 @@ impl<'a> VisitRequest<StorageRequest> for Transfer<'a> {
         × (request.offset + request.length ≤ transfer.stores.now.size) };
 
     ghost step = { λ transfer request seen.
-        (serving transfer.slot seen.flash transfer.stores.now request seen.own).step };
+        (storage_serving transfer.slot seen.flash transfer.stores.now request seen.own).step };
 
     ghost rest = { λ transfer request seen. None };
 
     ghost answers = { λ transfer request seen stores.
-        let s = serving transfer.slot seen.flash transfer.stores.now request seen.own in
+        let s = storage_serving transfer.slot seen.flash transfer.stores.now request seen.own in
         (stores.ghost_name ≡ transfer.stores.ghost_name)
-        × (stores.now ≡ stored transfer.slot s.written transfer.stores.now) };
+        × (stores.now ≡ storage_stored transfer.slot s.written transfer.stores.now) };
 
     fn run(
         self,

@@ -13,7 +13,7 @@ use Rattle.grant_model.specs.Encoding.{EncodesGrants, Tells, decode_grants}
 use Rattle.grant_region.specs.Region.{with_room, roomed, below, above, Leaves, LeavesArea, Parts, parts_of}
 use Rattle.grant_region.specs.Laws.{PartsJoin}
 use Rattle.swap_tables.specs.declared.handover.Handover.{Handover}
-use Rattle.swap_tables.specs.Swaps.{Swaps, SwapsHeld, swapped}
+use Rattle.swap_tables.specs.Swaps.{Swaps, SwapsHeld, with_swapped_pair}
 use Rattle.swap_tables.proofs.Held.{shape-is}
 
 -- each driver's cost is a word
@@ -97,13 +97,13 @@ swaps-made law h r before e app front area area' kernel known is same absent lay
     let new : LeavesArea e before.app (front ++ area') (change (fresh h.driver)) =
     left e before.app app front area area' (fresh h.driver) (change (fresh h.driver)) l first rest long
     (there h area area' r made some none) in
-    let whole : change (fresh h.driver) ∷ gs ≡ swapped h gs =
+    let whole : change (fresh h.driver) ∷ gs ≡ with_swapped_pair h gs =
     sym (with_fresh h.driver gs change) ∙ ap (with_grant h.driver change) (sym (ap (entering h.driver gs) absent)) in
     record {
       former = sym (ap (pair_of h.kind h.number) absent);
       layout = layout ∙ ap (λ c. with_room (cost_of c) before.layout) (sym (shape-is h.driver h.counts known))
           ∙ sym (ap (roomed h.driver before.layout) absent);
-      grants = subst (λ k. Leaves before (parts_of e (front ++ area') k) (swapped h gs)) (sym same)
+      grants = subst (λ k. Leaves before (parts_of e (front ++ area') k) (with_swapped_pair h gs)) (sym same)
           (subst (Leaves before (parts_of e (front ++ area') before.kernel)) whole
           (law.made before e (front ++ area') (change (fresh h.driver)) is new));
     }

@@ -38,14 +38,14 @@ abbrev pub held_pair : PairKind → ℕ → ℕ → List ℕ → ℕ × ℕ
 held_pair kind driver number kernel = pair_of kind number (grant_of driver (decode_grants kernel))
 
 -- a process's grants once the driver is entered and its pair is another
-abbrev pub swapped : Handover → List Grant → List Grant
-swapped h gs = with_grant h.driver (with_pair h.kind h.number h.pair) (entered h.driver gs)
+abbrev pub with_swapped_pair : Handover → List Grant → List Grant
+with_swapped_pair h gs = with_grant h.driver (with_pair h.kind h.number h.pair) (entered h.driver gs)
 
 -- a swap gives the former pair and stores the new one; all else is as it was
 pub record Swaps (h : Handover) (before after : Parts) (answer : ℕ × ℕ) : Type 0 where
   pub former : answer ≡ held_pair h.kind h.driver h.number before.kernel
   pub layout : after.layout ≡ roomed h.driver before.layout (grant_of h.driver (decode_grants before.kernel))
-  pub grants : Leaves before after (swapped h (decode_grants before.kernel))
+  pub grants : Leaves before after (with_swapped_pair h (decode_grants before.kernel))
 
 -- what comes of a swap: the pair is swapped exactly where the driver has a place; elsewhere nothing changes
 pub record SwapOutcome (h : Handover) (before after : Parts) (result : Result (ℕ × ℕ) NoRoom) : Type 0 where

@@ -1,7 +1,9 @@
 -- What a process gets back for a system call: TRD 104, "Return Values".
-use Rattle.std.specs.Prelude.{ℕ, ◌+◌, ◌/◌, ◌%◌, ◌^◌, Bool, true, false, List, [], ◌∷◌}
+use Rattle.std.specs.Prelude.{ℕ, ◌+◌, ◌/◌, ◌%◌, ◌^◌, Bool, true, false, List, [], ◌∷◌, Option, None, Some, Result, Ok}
+use Rattle.std.specs.Prelude.{Err}
 use Rattle.tk_base.specs.Regs.{Registers}
-use Rattle.tk_base.specs.Call.{code_of}
+use Rattle.tk_base.specs.Call.{code_of, error_of}
+use Rattle.tk_base.specs.declared.call.CallRule.{CallRule}
 use Rattle.tk_base.specs.Regs.{with_register}
 use Rattle.syscall_abi.specs.declared.reply.Reply.{Reply}
 use Rattle.syscall_abi.specs.declared.reply.Reply.TheVariants.{Failure, FailureU32, FailureU32U32, FailureU64, Success}
@@ -50,3 +52,9 @@ is_failure (SuccessU32U32 first second) = false
 is_failure (SuccessU64 value) = false
 is_failure (SuccessU32U32U32 first second third) = false
 is_failure (SuccessU32U64 first value) = false
+
+-- what a process gets back for a command, by its driver's answer: the reply, and the rule that refuses the command, if
+-- one does; the reply is then a failure with the rule's error
+abbrev pub reply_of : Result Reply CallRule → Reply × Option CallRule
+reply_of (Ok reply) = (reply, None)
+reply_of (Err rule) = (Failure (error_of rule), Some rule)

@@ -8,4 +8,4 @@ mod reply;
 
 pub use call::Call;
 pub use form::{CallForm, Swap};
-pub use reply::Reply;
+pub use reply::{Reply, reply_of};

@@ -1,8 +1,8 @@
 //! What a process gets back for a system call.
 ghost use Rattle.std.specs.Prelude.{◌≡◌, ◌+◌, ◌≤◌, length};
-ghost use Rattle.syscall_abi.specs.Reply.{put_reply, with_words, is_failure, low, high};
+ghost use Rattle.syscall_abi.specs.Reply.{put_reply, reply_of, with_words, is_failure, low, high};
 
-use tk_base::{ErrorCode, Regs};
+use tk_base::{CallRule, ErrorCode, Regs};
 
 /// What a process gets back for a system call (TRD 104, "Return Values"). The variant's number
 /// stands in a0, its values in a1 to a3; of a u64 the low word stands before the high one.
@@ -71,6 +71,18 @@ impl Reply {
                 | Reply::FailureU32U32(..)
                 | Reply::FailureU64(..)
         )
+    }
+}
+
+/// A driver's answer to a command as the process gets it (TRD 104, "Return Values"): the reply, and
+/// the rule that refuses the command, if one does; the reply is then a failure with that rule's
+/// error, and nothing else.
+pub fn reply_of(answer: Result<Reply, CallRule>) -> (Reply, Option<CallRule>)
+    ensures { result ≡ reply_of answer }
+{
+    match answer {
+        Ok(reply) => (reply, None),
+        Err(rule) => (Reply::Failure(rule.error()), Some(rule)),
     }
 }
 

@@ -4,7 +4,7 @@
 ghost use Rattle.std.specs.Prelude.{◌≡◌, option_map};
 ghost use Rattle.syscall_abi.specs.Call.{form_of};
 ghost use Rattle.syscall_filter.specs.Permission.{listed, permission};
-ghost use Rattle.tbf_headers.specs.Shown.{permissions_of};
+ghost use Rattle.tbf_headers.specs.Shown.{permissions_shown};
 
 use syscall_abi::{Call, CallForm};
 use tbf_headers::Perms;
@@ -17,7 +17,7 @@ use tk_base::CallRule;
 /// command, a subscribe or an allow. All other calls are permitted, and so is every call without
 /// the TLV under a filter that is not strict.
 pub fn filter(permissions: Option<Perms<'_>>, strict: bool, call: &Call) -> Result<(), CallRule>
-    ensures { result ≡ permission (option_map permissions_of permissions.entry) strict call.now }
+    ensures { result ≡ permission (option_map permissions_shown permissions.entry) strict call.now }
 {
     let permitted = match permissions {
         Some(permissions) => lists_call(&permissions, call),
@@ -32,7 +32,7 @@ pub fn filter(permissions: Option<Perms<'_>>, strict: bool, call: &Call) -> Resu
 
 /// Whether the entries permit a call.
 fn lists_call(perms: &Perms<'_>, call: &Call) -> bool
-    ensures { result ≡ listed (permissions_of perms.now) (form_of call.now) }
+    ensures { result ≡ listed (permissions_shown perms.now) (form_of call.now) }
 {
     match call.form() {
         CallForm::Command {

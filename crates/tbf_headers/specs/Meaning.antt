@@ -1,6 +1,7 @@
 -- What the bytes of an object's header mean, or the first fault in them (Tock Binary Format, "TBF Header Base").
 use Rattle.std.specs.Prelude.{ℕ, ◌+◌, ◌*◌, ◌/◌, ◌%◌, ◌==◌, Bool, not, ◌||◌, nat_lt, if◌then◌else◌, List, length, take}
-use Rattle.std.specs.Prelude.{find, Option, Some, None, option_map, Result, Ok, Err}
+use Rattle.std.specs.Prelude.{find, Option, Some, None, option_and_then, option_map, Result, Ok, Err}
+use Rattle.std.specs.Result.{result_ok}
 use Rattle.std.specs.Option.{option_map_or}
 use Rattle.tbf_headers.specs.declared.fault.HeaderFault.{HeaderFault}
 use Rattle.tbf_headers.specs.declared.fault.HeaderFault.TheVariants.{Short, Version, Sizes, Checksum, Tlv}
@@ -84,3 +85,7 @@ of_app f (Err fault) = None
 abbrev pub main_by : Result Meaning HeaderFault → Option Main
 main_by (Ok h) = h.main
 main_by (Err fault) = None
+
+-- the entries of the Permissions TLV, if the header can be read and has one
+abbrev pub permissions_by : Result Meaning HeaderFault → Option (List ℕ)
+permissions_by read = option_and_then (λ h. h.permissions) (result_ok read)

@@ -11,8 +11,8 @@ use Rattle.tbf_headers.specs.Meaning.{Meaning, header_reading, header_of, meanin
 use Rattle.tbf_headers.specs.Parts.{unless_bad}
 
 -- the content of the Permissions TLV
-abbrev pub permissions_of : Perms → List ℕ
-permissions_of p = p.content.now
+abbrev pub permissions_shown : Perms → List ℕ
+permissions_shown p = p.content.now
 
 -- the content of the TLV of writeable flash regions
 abbrev pub regions_of : Regions → List ℕ
@@ -28,7 +28,7 @@ shown h = record {
   fixed = h.fixed;
   name = option_copied h.name;
   regions = option_map regions_of h.regions;
-  permissions = option_map permissions_of h.perms;
+  permissions = option_map permissions_shown h.perms;
 }
 
 -- the meaning that was read, or the fault

@@ -9,7 +9,7 @@ ghost use Rattle.tbf_headers.specs.Parts.{first_bad};
 ghost use Rattle.tbf_headers.specs.Meaning.{header_reading, meaning_of, region_in, region_count};
 ghost use Rattle.tbf_headers.specs.Meaning.{main_of, program_or_main};
 ghost use Rattle.tbf_headers.specs.Parts.{program_of, fixed_of};
-ghost use Rattle.tbf_headers.specs.Shown.{shown, shown_result, permissions_of, regions_of};
+ghost use Rattle.tbf_headers.specs.Shown.{shown, shown_result, permissions_shown, regions_of};
 ghost use Rattle.tbf_headers.specs.Shown.{IsChecked, IsSized};
 
 use crate::app::{AppHeader, AppStart, start_after, sum};
@@ -93,7 +93,7 @@ impl<'a> Header<'a> {
 
     /// The permissions. None where there is no such TLV.
     pub fn perms(&self) -> Option<Perms<'a>>
-        ensures { option_map permissions_of result ≡ (shown self.now).permissions }
+        ensures { option_map permissions_shown result ≡ (shown self.now).permissions }
     {
         self.perms
     }
@@ -174,7 +174,7 @@ fn perms_in(header: &[u8]) -> Option<Perms<'_>>
     requires aligned { length header.now % 4 ≡ 0 }
     requires short { length header.now < 65536 }
     requires good { first_bad header.now ≡ None }
-    ensures { option_map permissions_of result ≡ content 6 header.now }
+    ensures { option_map permissions_shown result ≡ content 6 header.now }
 {
     let c = content_of(header, PERMISSIONS)?;
     Some(Perms::of(c))
@@ -259,7 +259,7 @@ fn known_header(object: &[u8]) -> &[u8]
 pub fn permissions_in(object: &[u8]) -> Option<Perms<'_>>
     requires { IsOk (header_reading object.now) }
     ensures { IfOk (header_reading object.now)
-        (λ h. option_map permissions_of result ≡ h.permissions) }
+        (λ h. option_map permissions_shown result ≡ h.permissions) }
 {
     perms_in(known_header(object))
 }

@@ -14,12 +14,12 @@ pub struct Perms<'a> {
 
 impl<'a> Perms<'a> {
     ghost use Rattle.tbf_headers.specs.Permissions.{allows, lists};
-    ghost use Rattle.tbf_headers.specs.Shown.{permissions_of};
+    ghost use Rattle.tbf_headers.specs.Shown.{permissions_shown};
 
     /// The permissions of a TLV's content.
     pub(crate) fn of(content: &'a [u8]) -> Perms<'a>
         requires { 2 + 16 * half content.now 0 ≤ length content.now }
-        ensures { permissions_of result ≡ content.now }
+        ensures { permissions_shown result ≡ content.now }
     {
         Perms { content }
     }
@@ -27,7 +27,7 @@ impl<'a> Perms<'a> {
     /// Whether some entry permits a command of a driver: the entry is of the driver, its offset is
     /// command / 64 and its bit command % 64 is set.
     pub fn allows(&self, driver: u32, command: u32) -> bool
-        ensures { result ≡ allows (permissions_of self.now) driver command }
+        ensures { result ≡ allows (permissions_shown self.now) driver command }
     {
         let content = self.content;
         let count = usize::from(half_at(content, 0));
@@ -41,7 +41,7 @@ impl<'a> Perms<'a> {
 
     /// Whether some entry is of a driver.
     pub fn lists(&self, driver: u32) -> bool
-        ensures { result ≡ lists (permissions_of self.now) driver }
+        ensures { result ≡ lists (permissions_shown self.now) driver }
     {
         let content = self.content;
         let count = usize::from(half_at(content, 0));

@@ -5,7 +5,7 @@ ghost use Rattle.board_opening.specs.Opening.{opening};
 ghost use Rattle.tool_words.specs.declared.words.TheConstants.{MOST_TURNS};
 ghost use Rattle.tool_words.specs.Words.{command_of};
 ghost use Rattle.tool_tasks.specs.Comes.{Running};
-ghost use Rattle.tool_tasks.specs.Causes.{told_by};
+ghost use Rattle.tool_tasks.specs.Causes.{shelf_account};
 ghost use Rattle.tool_tasks.specs.Ready.{IsWithinLimits, task_of};
 ghost use Rattle.tool_answers.specs.Accounts.{RunIsAccountedFor, RunIsPartitioned};
 ghost use Rattle.tool_answers.specs.Served.{Serves};
@@ -100,7 +100,7 @@ fn act<H: Shelf, K: Sink>(
     out: &mut K,
     last: &mut Option<Board>,
 ) -> ServeOutcome
-    ensures { Happens (told_by H.tells shelf.old shelf.new) (sink_account K.tells out.old out.new)
+    ensures { Happens (shelf_account H.tells shelf.old shelf.new) (sink_account K.tells out.old out.new)
         (command_of words.now) last.new result }
 {
     *last = None;
@@ -155,8 +155,8 @@ pub fn serve<H: Shelf, K: Sink>(
 ) -> u8
     ensures serves { Serves H.tells shelf.old shelf.new K.tells out.old out.new words.now last.new
         result }
-    ensures run { RunIsAccountedFor (told_by H.tells shelf.old shelf.new) (command_of words.now) }
-    ensures partitions { RunIsPartitioned (told_by H.tells shelf.old shelf.new)
+    ensures run { RunIsAccountedFor (shelf_account H.tells shelf.old shelf.new) (command_of words.now) }
+    ensures partitions { RunIsPartitioned (shelf_account H.tells shelf.old shelf.new)
         (command_of words.now) }
 {
     runs_from_boot_are_accounted_for();

@@ -7,7 +7,7 @@ use Rattle.tk_outside.specs.Laws.{WritesCompose}
 use Rattle.kernel_model.specs.World.{World}
 use Rattle.tool_words.specs.declared.refusal.Refusal.TheVariants.{Memory}
 use Rattle.tool_tasks.specs.declared.prepare.RunFiles.{RunFiles}
-use Rattle.tool_tasks.specs.RunFiles.{opened_by}
+use Rattle.tool_tasks.specs.RunFiles.{opening_of_files}
 use Rattle.tool_answers.specs.declared.outcome.ServeOutcome.{ServeOutcome}
 use Rattle.tool_answers.specs.declared.outcome.ServeOutcome.TheVariants.{Done, Refused, SinkFailed}
 use Rattle.tool_answers.specs.Parts.{RefusalIs, sink_account}
@@ -26,7 +26,7 @@ pub record AnswersSoFar {K : Type 0} (tells : K → SinkFacts) (old now : K) (op
 
 -- the world after a command, where the two files open with this one
 pub after_is : (files : RunFiles) (opening w : World) (ask : Ask) (new : World)
-    → opened_by files.flash.items files.script.items ≡ Some opening → IsAfter files w ask new
+    → opening_of_files files.flash.items files.script.items ≡ Some opening → IsAfter files w ask new
     → new ≡ world_after opening w ask
 after_is files opening w Boot new o e = same_some new opening (sym e ∙ o)
   where
@@ -59,7 +59,7 @@ module _ {K : Type 0} {tells : K → SinkFacts} where
 
       -- one answer more
       pub more : (files : RunFiles) (later : K) (new : World)
-          → opened_by files.flash.items files.script.items ≡ Some opening
+          → opening_of_files files.flash.items files.script.items ≡ Some opening
           → WroteAll tells now later (answer_text here ask) → IsAfter files here ask new
           → AnswersSoFar tells old later opening new asks (drop (i + 1) asks)
       more files later new o w e = record {

@@ -7,7 +7,7 @@ use Rattle.tk_outside.specs.Laws.{WritesCompose}
 use Rattle.kernel_model.specs.World.{World}
 use Rattle.tool_words.specs.declared.refusal.Refusal.TheVariants.{Memory}
 use Rattle.tool_tasks.specs.declared.prepare.RunFiles.{RunFiles}
-use Rattle.tool_tasks.specs.RunFiles.{opened_by}
+use Rattle.tool_tasks.specs.RunFiles.{opening_of_files}
 use Rattle.tool_answers.specs.declared.outcome.ServeOutcome.{ServeOutcome}
 use Rattle.tool_answers.specs.declared.outcome.ServeOutcome.TheVariants.{Done, Refused, SinkFailed}
 use Rattle.tool_answers.specs.Parts.{RefusalIs, sink_account}
@@ -143,7 +143,7 @@ module _ {K : Type 0} {tells : K → SinkFacts} {old now : K} {opening here : Wo
 
     -- one answer more
     pub more : (files : RunFiles) (later : K) (new : World)
-        → opened_by files.flash.items files.script.items ≡ Some opening
+        → opening_of_files files.flash.items files.script.items ≡ Some opening
         → WroteAll tells now later (answer_text here (line_ask line)) → IsAfter files here (line_ask line) new
         → Converses tells old later opening new before rest
     unfolding commands

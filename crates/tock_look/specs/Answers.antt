@@ -8,11 +8,11 @@ use Rattle.board_views.specs.declared.going.Stop.{Stop}
 use Rattle.board_views.specs.Memories.{memory_text, storage_text}
 use Rattle.board_views.specs.Places.{at_text}
 use Rattle.board_views.specs.Searches.{last_before, until_goal}
-use Rattle.board_views.specs.States.{state_text}
+use Rattle.board_views.specs.States.{board_state_text}
 use Rattle.board_views.specs.StopLines.{found_text, stop_text}
 use Rattle.board_views.specs.Stops.{stop_at, turns_stop, until_turns, within}
 use Rattle.tool_tasks.specs.declared.prepare.RunFiles.{RunFiles}
-use Rattle.tool_tasks.specs.RunFiles.{opened_by}
+use Rattle.tool_tasks.specs.RunFiles.{opening_of_files}
 use Rattle.tool_answers.specs.Served.{SinkAccount, All, Part}
 use Rattle.tock_look.specs.declared.asks.Ask.{Ask}
 use Rattle.tock_look.specs.declared.asks.Ask.TheVariants.{Boot, State, At, Steps, Trace, Memory, Storage, Turns, Until}
@@ -36,7 +36,7 @@ stopped_text w slot stop = stop_text stop ++ at_text w slot
 
 abbrev pub shown_text : World → View → List ℕ
 shown_text w shows.Nothing = []
-shown_text w shows.State = state_text w
+shown_text w shows.State = board_state_text w
 shown_text w (shows.Place slot) = at_text w slot
 shown_text w (shows.Stopped slot stop) = stopped_text w slot stop
 shown_text w (shows.Memory slot at count) = memory_text w slot at count
@@ -103,7 +103,7 @@ answers_text opening w (ask ∷ asks) = answer_text w ask ++ answers_text openin
 
 -- a world is the one after a command, by the two files
 abbrev pub IsAfter : RunFiles → World → Ask → World → Type 0
-IsAfter files w Boot new = opened_by files.flash.items files.script.items ≡ Some new
+IsAfter files w Boot new = opening_of_files files.flash.items files.script.items ≡ Some new
 IsAfter files w State new = new ≡ w
 IsAfter files w (At slot) new = new ≡ w
 IsAfter files w (Steps slot most) new = new ≡ (round most w).world

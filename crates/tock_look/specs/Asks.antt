@@ -77,8 +77,8 @@ numbers_after ns (word ∷ words) =
     (most_of word)
 
 -- those of a word, which stand between commas; `-` has none
-unfoldable pub numbers_of : List ℕ → Option (List ℕ)
-numbers_of word =
+unfoldable pub numbers_between : List ℕ → Option (List ℕ)
+numbers_between word =
     if bytes_eq word (codes "-") then Some [] else numbers_after [] (slice_split (λ b. b == 44) word)
 
 -- The watched places that numbers give, behind others: each has three numbers, and fewer at the end are none. None
@@ -91,7 +91,7 @@ watched_after ps other = Some ps
 
 -- those of a word
 abbrev pub watched_of : List ℕ → Option (List Watched)
-watched_of word = option_and_then (watched_after []) (numbers_of word)
+watched_of word = option_and_then (watched_after []) (numbers_between word)
 
 -- how many steps are made at most, and an area of addresses, which may be left out
 abbrev pub limits_of : List ℕ → Option Limits
@@ -100,7 +100,7 @@ limits_of (most ∷ low ∷ high ∷ []) = Some (record { most = most; low = low
 limits_of other = None
 
 abbrev pub limits_in : List ℕ → Option Limits
-limits_in word = option_and_then limits_of (numbers_of word)
+limits_in word = option_and_then limits_of (numbers_between word)
 
 -- the limits, watched places and addresses of three words
 abbrev pub places : Limits → List Watched → List ℕ → Places
@@ -109,7 +109,8 @@ places limits watched addresses =
 
 abbrev pub places_of : List ℕ → List ℕ → List ℕ → Option Places
 places_of limits watched addresses =
-    option_and_then (λ l. option_and_then (λ ws. option_map (places l ws) (numbers_of addresses)) (watched_of watched))
+    option_and_then
+    (λ l. option_and_then (λ ws. option_map (places l ws) (numbers_between addresses)) (watched_of watched))
     (limits_in limits)
 
 -- the goal of a slot

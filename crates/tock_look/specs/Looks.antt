@@ -62,7 +62,7 @@ abbrev pub AnswersAsked : LineAccount → SinkAccount → World → List Ask →
 AnswersAsked lines sent world [] outcome = AnswersLines lines sent world outcome
 AnswersAsked lines sent world (ask ∷ asks) outcome = AnswersAll sent (answers_text world world (ask ∷ asks)) outcome
 
-pub record IsAnswered (told : ShelfAccount) (lines : LineAccount) (sent : SinkAccount) (looking : Looking)
+pub record AnswersLooking (told : ShelfAccount) (lines : LineAccount) (sent : SinkAccount) (looking : Looking)
     (outcome : ServeOutcome) : Type 0 where
   pub world : World
   pub opens : Opens told looking world
@@ -81,7 +81,7 @@ LooksAt lines sent (Some world) asks outcome = AnswersAsked lines sent world ask
 
 abbrev pub LooksOn : ShelfAccount → LineAccount → SinkAccount → Looking → ServeOutcome → Type 0
 LooksOn told lines sent looking outcome =
-    IsAnswered told lines sent looking outcome ⊎ IsRefused told sent looking outcome
+    AnswersLooking told lines sent looking outcome ⊎ IsRefused told sent looking outcome
 
 -- words that are no command: nothing is read, and the line says so
 abbrev pub IsNoCommand : SinkAccount → ServeOutcome → Type 0

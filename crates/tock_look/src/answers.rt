@@ -4,7 +4,7 @@ ghost use Rattle.tk_outside.specs.Writes.{Writes};
 ghost use Rattle.kernel_model.specs.Run.{round};
 ghost use Rattle.board_views.specs.Searches.{last_before, until_goal};
 ghost use Rattle.board_views.specs.Stops.{within};
-ghost use Rattle.tool_tasks.specs.RunFiles.{AreWithinLimits, opened_by};
+ghost use Rattle.tool_tasks.specs.RunFiles.{AreWithinLimits, opening_of_files};
 ghost use Rattle.tool_answers.specs.Parts.{sink_account};
 ghost use Rattle.tock_look.specs.Answers.{Answers, AnswersWith, last_text, traced_text, until_text};
 ghost use Rattle.tock_look.specs.Answers.{view_text, words_line};
@@ -57,7 +57,7 @@ fn trace<K: Sink>(board: &mut Board, slot: Slot, most: u32, out: &mut K) -> Resu
 pub fn board_of(alloc: Global, files: &RunFiles) -> Result<Board, NoMemory>
     requires { AreWithinLimits files.now }
     ensures { IfOk result (λ board.
-        opened_by files.now.flash.items files.now.script.items ≡ Some board) }
+        opening_of_files files.now.flash.items files.now.script.items ≡ Some board) }
 {
     let Ok(said) = said_in(alloc, &files.script) else {
         return Err(NoMemory);

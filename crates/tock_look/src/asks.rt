@@ -4,7 +4,7 @@ ghost use Rattle.std.specs.List.{slice_split};
 ghost use Rattle.std.specs.Option.{option_map};
 ghost use Rattle.tock_look.specs.Asks.{ask_of, asked, asks_of, is_last, is_traced, limits_in, limits_of};
 ghost use Rattle.tock_look.specs.Asks.{line_ask, looking_shown, most_of, numbered_ask, numbers_after};
-ghost use Rattle.tock_look.specs.Asks.{numbers_for, numbers_of, places_of, plain_ask, search_ask, searching};
+ghost use Rattle.tock_look.specs.Asks.{numbers_for, numbers_between, places_of, plain_ask, search_ask, searching};
 ghost use Rattle.tock_look.specs.Asks.{slot_ask, slot_of, stepping, two_numbers_ask, watched_after};
 ghost use Rattle.tock_look.specs.Asks.{watched_of, with_two};
 
@@ -204,9 +204,9 @@ fn listed_in(alloc: Global, word: &str) -> Result<Vec<&str>, AllocError>
 }
 
 /// The numbers of a word, which stand between commas; `-` has none.
-#[tactic(auto, unfolding(crate::specs::Asks::numbers_of))]
+#[tactic(auto, unfolding(crate::specs::Asks::numbers_between))]
 fn numbers_in(alloc: Global, word: &str) -> Result<Option<ArrayVec<u32, GOAL_ADDRESSES>>, NoMemory>
-    ensures { IfOk result (λ numbers. option_map (λ v. v.items) numbers ≡ numbers_of word.now) }
+    ensures { IfOk result (λ numbers. option_map (λ v. v.items) numbers ≡ numbers_between word.now) }
 {
     if word == "-" {
         return Ok(Some(ArrayVec::new()));

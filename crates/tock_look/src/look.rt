@@ -1,7 +1,7 @@
 //! The program over a shelf and a sink.
 ghost use Rattle.std.specs.Prelude.{◌≡◌, Some};
-ghost use Rattle.tool_tasks.specs.Causes.{told_by};
-ghost use Rattle.tool_tasks.specs.RunFiles.{AreWithinLimits, opened_by};
+ghost use Rattle.tool_tasks.specs.Causes.{shelf_account};
+ghost use Rattle.tool_tasks.specs.RunFiles.{AreWithinLimits, opening_of_files};
 ghost use Rattle.tool_words.specs.declared.refusal.Refusal.TheVariants.{Memory};
 ghost use Rattle.tool_answers.specs.Parts.{RefusalIs, sink_account};
 ghost use Rattle.tock_look.specs.Asks.{looking_of};
@@ -29,7 +29,7 @@ fn answer_all<K: Sink>(
     out: &mut K,
 ) -> ServeOutcome
     requires within { AreWithinLimits files.now }
-    requires opened { opened_by files.now.flash.items files.now.script.items ≡ Some board.old }
+    requires opened { opening_of_files files.now.flash.items files.now.script.items ≡ Some board.old }
     ensures { AnswersAll (sink_account K.tells out.old out.new)
         (answers_text board.old board.old asks.now) result }
 {
@@ -61,7 +61,7 @@ fn answer_lines<L: LineSource, K: Sink>(
     out: &mut K,
 ) -> ServeOutcome
     requires within { AreWithinLimits files.now }
-    requires opened { opened_by files.now.flash.items files.now.script.items ≡ Some board.old }
+    requires opened { opening_of_files files.now.flash.items files.now.script.items ≡ Some board.old }
     ensures { AnswersLines (line_account L.lines lines.old lines.new)
         (sink_account K.tells out.old out.new) board.old result }
 {
@@ -91,7 +91,7 @@ fn look_at<L: LineSource, K: Sink>(
     requires within { AreWithinLimits files.now }
     ensures { LooksAt (line_account L.lines lines.old lines.new)
         (sink_account K.tells out.old out.new)
-        (opened_by files.now.flash.items files.now.script.items) asks.now result }
+        (opening_of_files files.now.flash.items files.now.script.items) asks.now result }
 {
     let Ok(mut board) = board_of(alloc, files) else {
         return refuse(Refusal::Memory, out);
@@ -124,7 +124,7 @@ pub fn look<H: Shelf, L: LineSource, K: Sink>(
     lines: &mut L,
     out: &mut K,
 ) -> ServeOutcome
-    ensures { Looks (told_by H.tells shelf.old shelf.new)
+    ensures { Looks (shelf_account H.tells shelf.old shelf.new)
         (line_account L.lines lines.old lines.new) (sink_account K.tells out.old out.new)
         (looking_of words.now) result }
 {

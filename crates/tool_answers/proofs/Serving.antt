@@ -10,7 +10,7 @@ use Rattle.tool_answers.specs.declared.outcome.ServeOutcome.{ServeOutcome}
 use Rattle.tool_answers.specs.declared.outcome.ServeOutcome.TheVariants.{Done, Refused, SinkFailed}
 use Rattle.tool_words.specs.Words.{Command}
 use Rattle.tool_words.specs.Refusals.{refusal_line}
-use Rattle.tool_tasks.specs.Comes.{Task, IsTask, comes_to, files_of, left_by}
+use Rattle.tool_tasks.specs.Comes.{Task, IsTask, comes_to, files_of, world_left_by}
 use Rattle.tool_tasks.specs.Causes.{ShelfAccount, Cause}
 use Rattle.tool_answers.specs.Served.{SinkAccount, All}
 use Rattle.tool_answers.specs.Parts.{IsWritten, SinkRose}
@@ -28,9 +28,9 @@ abbrev LeavesAlike : Option World → Type 0 → Type 0
 LeavesAlike left Leaves = (Leaves → IsSome left) × (IsSome left → Leaves)
 
 command_leaves : (command : Command) (texts : List (List ℕ)) (task : Task) → comes_to command texts ≡ Some (Ok task)
-    → LeavesAlike (left_by task) (LeavesBoard (Some command))
+    → LeavesAlike (world_left_by task) (LeavesBoard (Some command))
 command_leaves =
-    of_command (λ command task. LeavesAlike (left_by task) (LeavesBoard (Some command)))
+    of_command (λ command task. LeavesAlike (world_left_by task) (LeavesBoard (Some command)))
     (λ mode name script turns flash settings. (λ u. refl, λ s. tt))
     (λ number turns settings. (λ u. refl, λ s. tt)) (λ name flash. none) (λ names flash. none)
     (λ name offset edit flash. none)
@@ -76,18 +76,18 @@ module _ (told : ShelfAccount) (sent : SinkAccount) (last : Option World) where
 
   -- a board is left by a run
   task_leaves : (words : Option Command) (task : Task) → IsTask told.before.bytes words task
-      → LeavesAlike (left_by task) (LeavesBoard words)
+      → LeavesAlike (world_left_by task) (LeavesBoard words)
   task_leaves None task h = absurd h
   task_leaves (Some command) task h =
       let all = all_texts told.before.bytes command _ (files_of command) [] h in
       command_leaves command all.0 task all.1
 
-  board_left : (words : Option Command) (task : Task) → IsTask told.before.bytes words task → last ≡ left_by task
+  board_left : (words : Option Command) (task : Task) → IsTask told.before.bytes words task → last ≡ world_left_by task
       → LeavesBoard words → IsSome last
   board_left words task h e b = subst (λ (o : Option World). IsSome o) (sym e) ((task_leaves words task h).0 b)
 
   run_left : (words : Option Command) (task :
-      Task) → IsTask told.before.bytes words task → last ≡ left_by task → IsSome last
+      Task) → IsTask told.before.bytes words task → last ≡ world_left_by task → IsSome last
       → LeavesBoard words
   run_left words task h e s = (task_leaves words task h).1 (subst (λ (o : Option World). IsSome o) e s)
 

@@ -7,7 +7,7 @@ use Rattle.tool_words.specs.declared.refusal.Refusal.{Refusal}
 use Rattle.tool_words.specs.declared.refusal.Refusal.TheVariants.{Memory}
 use Rattle.tool_words.specs.Words.{Command}
 use Rattle.tool_words.specs.Refusals.{refusal_line, status_of}
-use Rattle.tool_tasks.specs.Comes.{Task, left_by, task_text}
+use Rattle.tool_tasks.specs.Comes.{Task, world_left_by, task_text}
 use Rattle.tool_tasks.specs.Causes.{ShelfAccount}
 use Rattle.tool_answers.specs.declared.outcome.ServeOutcome.{ServeOutcome}
 use Rattle.tool_answers.specs.declared.outcome.ServeOutcome.TheVariants.{Done, Refused, SinkFailed}
@@ -49,7 +49,7 @@ RefusalIs sent refusal SinkFailed = Part sent (refusal_line refusal)
 
 -- what doing a task leads to
 abbrev pub TaskIs : SinkAccount → Task → Option World → ServeOutcome → Type 0
-TaskIs sent task last Done = All sent (task_text task) × (last ≡ left_by task)
+TaskIs sent task last Done = All sent (task_text task) × (last ≡ world_left_by task)
 TaskIs sent task last (Refused refusal) = ⊥
 TaskIs sent task last SinkFailed = Part sent (task_text task) × (last ≡ None)
 

@@ -13,8 +13,8 @@ use Rattle.tool_words.specs.declared.refusal.Refusal.{Refusal}
 use Rattle.tool_words.specs.declared.refusal.Refusal.TheVariants.{Usage, Fault, TooLong, Script, Image, Memory}
 use Rattle.tool_words.specs.Words.{Command, Runs, Soaks, command_of}
 use Rattle.tool_words.specs.Refusals.{refusal_line, status_of}
-use Rattle.tool_tasks.specs.Comes.{Named, Task, IsTask, files_of, left_by, refused_at, task_text}
-use Rattle.tool_tasks.specs.Causes.{ShelfAccount, Cause, told_by}
+use Rattle.tool_tasks.specs.Comes.{Named, Task, IsTask, files_of, world_left_by, refused_at, task_text}
+use Rattle.tool_tasks.specs.Causes.{ShelfAccount, Cause, shelf_account}
 
 -- what a sink was before the call and after it, and what it tells
 pub record SinkAccount : Type 1 where
@@ -35,7 +35,7 @@ Part sent text = WrotePart sent.tells sent.old sent.new text
 -- are read or generated, the list of the flash file, or an image. The board that a run leaves shows its last world.
 abbrev pub TaskIsDone : ShelfAccount → SinkAccount → Option Command → Option World → Type 0
 TaskIsDone told sent words last =
-    (task : Task) × IsTask told.before.bytes words task × All sent (task_text task) × (last ≡ left_by task)
+    (task : Task) × IsTask told.before.bytes words task × All sent (task_text task) × (last ≡ world_left_by task)
 
 -- a refusal: its cause holds, and its line was written
 abbrev pub TaskIsRefused : ShelfAccount → SinkAccount → Option Command → Refusal → Type 0
@@ -101,5 +101,5 @@ pub record ProgramDoes (told : ShelfAccount) (sent : SinkAccount) (words : Optio
 abbrev pub Serves : {H K Z : Type 0} → (H → ShelfFacts) → H → H → (K → SinkFacts) → K → K → List (String Z)
     → Option World → ℕ → Type 0
 Serves shelf shelf_old shelf_new sink sink_old sink_new words last answer =
-    ProgramDoes (told_by shelf shelf_old shelf_new)
+    ProgramDoes (shelf_account shelf shelf_old shelf_new)
     (record { Sink = _; tells = sink; old = sink_old; new = sink_new }) (command_of words) last answer

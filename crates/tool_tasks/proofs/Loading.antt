@@ -24,7 +24,7 @@ use Rattle.tool_tasks.specs.Comes.{Named, Task, Running, Listing, Making, comes_
 use Rattle.tool_tasks.specs.Parts.{IsTaskOf, IsText, edit_made}
 use Rattle.tool_tasks.specs.Comes.{edited_by, flash_named, refused_at, run_under}
 use Rattle.tool_tasks.specs.Parts.{script_named, refusal_of_task}
-use Rattle.tool_tasks.specs.Causes.{ShelfAccount, CauseOf, IsRefusedFor, told_by}
+use Rattle.tool_tasks.specs.Causes.{ShelfAccount, CauseOf, IsRefusedFor, shelf_account}
 use Rattle.tool_tasks.specs.Parts.{ReadingComesTo, IsUnsound}
 use Rattle.tool_tasks.specs.Ready.{HasNoReading, IsUnread, KeepsShelf}
 
@@ -95,8 +95,8 @@ module _ (told : ShelfAccount) (command : Command) (f : Named) where
 
 -- the same, told over a later call alone
 pub unread_later : {H : Type 0} (tells : H → ShelfFacts) (old mid new : H) (file : File) (name : List ℕ)
-    (refusal : Refusal) → KeepsShelf tells old mid → IsUnread (told_by tells mid new) file name refusal
-    → IsUnread (told_by tells old new) file name refusal
+    (refusal : Refusal) → KeepsShelf tells old mid → IsUnread (shelf_account tells mid new) file name refusal
+    → IsUnread (shelf_account tells old new) file name refusal
 unread_later tells old mid new file name Usage k u = absurd u
 unread_later tells old mid new file name (Fault other) k u =
     let count = k.count in

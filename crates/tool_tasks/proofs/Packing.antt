@@ -23,7 +23,7 @@ use Rattle.tool_tasks.specs.Comes.{Named, Making, Passes, ReadsAll, ReadsUpTo, c
 use Rattle.tool_tasks.specs.Parts.{IsTaskOf, IsText}
 use Rattle.tool_tasks.specs.Comes.{flash_named, refused_at}
 use Rattle.tool_tasks.specs.Parts.{pack_made, refusal_of_task}
-use Rattle.tool_tasks.specs.Causes.{CauseOf, IsRefusedFor, told_by}
+use Rattle.tool_tasks.specs.Causes.{CauseOf, IsRefusedFor, shelf_account}
 use Rattle.tool_tasks.specs.Parts.{ReadingComesTo}
 use Rattle.tool_tasks.specs.Ready.{IsNotPacked, IsPackedFile, IsUnpacked, KeepsShelf}
 use Rattle.tool_tasks.proofs.Files.{all_on, up_to_on}
@@ -119,7 +119,7 @@ module _ {H : Type 0} (tells : H → ShelfFacts) (old now after : H) (names done
     -- the reading comes to this file
     here : (Holds : List (List ℕ) → Named → Type 0)
         → ((texts : List (List ℕ)) → ArePacked n image texts → Holds texts (flash_named name))
-        → ReadingComesTo (told_by tells old after) (Packs names) Holds
+        → ReadingComesTo (shelf_account tells old after) (Packs names) Holds
     here Holds h =
         subst
         (λ (files : List Named). ReadsUpTo (tells old).bytes (Packs names) Holds [] files)
@@ -129,9 +129,9 @@ module _ {H : Type 0} (tells : H → ShelfFacts) (old now after : H) (names done
 
     cause : (text : List ℕ) (fault : ImageFault) (why : PackFault) → IsText (tells now).bytes name text
         → length text ≤ FLASH_LIMIT → pack_refusal n image text ≡ Some why → pack_refused why ≡ Image fault
-        → CauseOf (told_by tells old after) (Packs names) (Image fault)
+        → CauseOf (shelf_account tells old after) (Packs names) (Image fault)
     cause text fault why r within e said =
-        here (IsRefusedFor (told_by tells old after) (Packs names) (Image fault))
+        here (IsRefusedFor (shelf_account tells old after) (Packs names) (Image fault))
         (λ texts so_far. record {
           text = text;
           read = text_later tells old now name text p.keeps r;
@@ -141,26 +141,26 @@ module _ {H : Type 0} (tells : H → ShelfFacts) (old now after : H) (names done
               ∙ ap (λ (x : Refusal). Some x) said;
         })
 
-    no_memory : (refusal : Refusal) → refusal ≡ Memory → CauseOf (told_by tells old after) (Packs names) refusal
-    no_memory refusal e = subst (λ (x : Refusal). CauseOf (told_by tells old after) (Packs names) x) (sym e) tt
+    no_memory : (refusal : Refusal) → refusal ≡ Memory → CauseOf (shelf_account tells old after) (Packs names) refusal
+    no_memory refusal e = subst (λ (x : Refusal). CauseOf (shelf_account tells old after) (Packs names) x) (sym e) tt
 
     not_packed : (refusal : Refusal) (p : IsUnpacked (tells now).bytes name n image refusal) (o : Option PackFault)
         → pack_refusal n image p.text ≡ o → refusal ≡ pack_refused (unwrap_or o packs.Memory)
-        → CauseOf (told_by tells old after) (Packs names) refusal
+        → CauseOf (shelf_account tells old after) (Packs names) refusal
     not_packed refusal u None e r = no_memory refusal r
     not_packed refusal u (Some packs.Objects) e r =
-        subst (λ (x : Refusal). CauseOf (told_by tells old after) (Packs names) x) (sym r)
+        subst (λ (x : Refusal). CauseOf (shelf_account tells old after) (Packs names) x) (sym r)
         (cause u.text TooMany packs.Objects u.read u.within e refl)
     not_packed refusal u (Some packs.Size) e r =
-        subst (λ (x : Refusal). CauseOf (told_by tells old after) (Packs names) x) (sym r)
+        subst (λ (x : Refusal). CauseOf (shelf_account tells old after) (Packs names) x) (sym r)
         (cause u.text Size packs.Size u.read u.within e refl)
     not_packed refusal u (Some packs.Memory) e r = no_memory refusal r
 
     -- the file is not read, or not packed
-    pub refused : (refusal : Refusal) → IsNotPacked (told_by tells now after) name n image refusal
-        → CauseOf (told_by tells old after) (Packs names) refusal
+    pub refused : (refusal : Refusal) → IsNotPacked (shelf_account tells now after) name n image refusal
+        → CauseOf (shelf_account tells old after) (Packs names) refusal
     refused refusal (inl u) =
-        not_read (told_by tells old after) (Packs names) (flash_named name) refusal
+        not_read (shelf_account tells old after) (Packs names) (flash_named name) refusal
         (λ Holds h. here Holds (λ texts so_far. h texts))
         (unread_later tells old now after Flash name refusal p.keeps u)
     refused refusal (inr u) = not_packed refusal u (pack_refusal n image u.text) refl u.cause

@@ -12,8 +12,8 @@ pub record ShelfAccount : Type 1 where
   pub rose : Type 0
 
 -- what a shelf tells over a call that led from one state to another
-abbrev pub told_by : {H : Type 0} → (H → ShelfFacts) → H → H → ShelfAccount
-told_by tells old new = record { before = tells old; rose = FaultsRose tells old new }
+abbrev pub shelf_account : {H : Type 0} → (H → ShelfFacts) → H → H → ShelfAccount
+shelf_account tells old new = record { before = tells old; rose = FaultsRose tells old new }
 
 -- a file for whose bytes a command is refused
 pub record IsRefusedFor (told : ShelfAccount) (command : Command) (refusal : Refusal) (before : List (List ℕ))

@@ -36,9 +36,9 @@ task_text (Listing flash) = list_text flash
 task_text (Making flash) = flash
 
 -- the world that the board shows that it leaves: the last one of a run
-abbrev pub left_by : Task → Option World
-left_by (Running mode n world) = Some (round n world).world
-left_by other = None
+abbrev pub world_left_by : Task → Option World
+world_left_by (Running mode n world) = Some (round n world).world
+world_left_by other = None
 
 -- a file that a command names
 pub record Named : Type 0 where

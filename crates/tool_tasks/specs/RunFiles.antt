@@ -13,13 +13,13 @@ use Rattle.tool_tasks.specs.Comes.{Running}
 use Rattle.tool_tasks.specs.Parts.{IsTaskOf}
 
 -- the opening world of a flash image under a script, if the script has a reading
-abbrev pub opened_by : List ℕ → List ℕ → Option World
-opened_by flash script = option_map (λ settings. opening settings flash) (result_ok (reading script))
+abbrev pub opening_of_files : List ℕ → List ℕ → Option World
+opening_of_files flash script = option_map (λ settings. opening settings flash) (result_ok (reading script))
 
 -- files are those of a run, by what a shelf tells: the run is one of the world that they open
 pub record AreFilesOf (shelf : ShelfFacts) (words : RunCommand) (files : RunFiles) : Type 0 where
   pub world : World
-  pub opens : opened_by files.flash.items files.script.items ≡ Some world
+  pub opens : opening_of_files files.flash.items files.script.items ≡ Some world
   pub task : IsTaskOf shelf.bytes (runs_of words) (Running words.mode words.turns world)
 
 -- each within its limit

@@ -12,7 +12,7 @@ ghost use Rattle.tool_words.specs.Words.{command_of, edit_given, edits_of, packs
 ghost use Rattle.tool_words.specs.Words.{Lists};
 ghost use Rattle.tool_tasks.specs.Comes.{edited_by};
 ghost use Rattle.tool_tasks.specs.Parts.{IsText};
-ghost use Rattle.tool_tasks.specs.Causes.{Cause, CauseOf, told_by};
+ghost use Rattle.tool_tasks.specs.Causes.{Cause, CauseOf, shelf_account};
 ghost use Rattle.tool_tasks.specs.Ready.{HasNoReading, IsReady, IsReadyFor, IsSoak};
 ghost use Rattle.tool_tasks.specs.Ready.{IsNotPacked, IsPackedFile, IsUnread, IsWithinLimits};
 ghost use Rattle.tool_tasks.specs.Ready.{KeepsShelf, refusal_of};
@@ -67,7 +67,7 @@ fn read_file<H: Shelf>(
 ) -> Result<Vec<u8>, Refusal>
     ensures text { IfOk result (λ v. IsText (H.tells shelf.old).bytes name.now v.items) }
     ensures within { IfOk result (λ v. length v.items ≤ limit_of file) }
-    ensures unread { IfErr result (IsUnread (told_by H.tells shelf.old shelf.new) file name.now) }
+    ensures unread { IfErr result (IsUnread (shelf_account H.tells shelf.old shelf.new) file name.now) }
     ensures keeps { KeepsShelf H.tells shelf.old shelf.new }
 {
     match read_whole(alloc, shelf, name, file.limit()) {
@@ -95,7 +95,7 @@ fn load_run<H: Shelf>(alloc: Global, words: RunCommand<'_>, shelf: &mut H) -> Re
     ensures task { IfOk result (IsReadyFor (H.tells shelf.old) (runs_of words.entry)) }
     ensures within { IfOk result IsWithinLimits }
     ensures refused { IfErr result
-        (CauseOf (told_by H.tells shelf.old shelf.new) (runs_of words.entry)) }
+        (CauseOf (shelf_account H.tells shelf.old shelf.new) (runs_of words.entry)) }
 {
     let flash = read_file(alloc, shelf, File::Flash, words.flash)?;
     let script = read_file(alloc, shelf, File::Script, words.script)?;
@@ -125,7 +125,7 @@ pub fn load_files<H: Shelf>(
     ensures task { IfOk result (AreFilesOf (H.tells shelf.old) words.entry) }
     ensures within { IfOk result AreWithinLimits }
     ensures refused { IfErr result
-        (CauseOf (told_by H.tells shelf.old shelf.new) (runs_of words.entry)) }
+        (CauseOf (shelf_account H.tells shelf.old shelf.new) (runs_of words.entry)) }
 {
     let flash = read_file(alloc, shelf, File::Flash, words.flash)?;
     let script = read_file(alloc, shelf, File::Script, words.script)?;
@@ -157,7 +157,7 @@ fn load_list<H: Shelf>(alloc: Global, name: &str, shelf: &mut H) -> Result<Ready
     ensures task { IfOk result (IsReadyFor (H.tells shelf.old) (Lists name.now)) }
     ensures within { IfOk result IsWithinLimits }
     ensures refused { IfErr result
-        (CauseOf (told_by H.tells shelf.old shelf.new) (Lists name.now)) }
+        (CauseOf (shelf_account H.tells shelf.old shelf.new) (Lists name.now)) }
 {
     let flash = read_file(alloc, shelf, File::Flash, name)?;
     Ok(Ready::List { flash })
@@ -184,7 +184,7 @@ fn load_edit<H: Shelf>(
     ensures task { IfOk result (IsReadyFor (H.tells shelf.old) (edits_of words.entry)) }
     ensures within { IfOk result IsWithinLimits }
     ensures refused { IfErr result
-        (CauseOf (told_by H.tells shelf.old shelf.new) (edits_of words.entry)) }
+        (CauseOf (shelf_account H.tells shelf.old shelf.new) (edits_of words.entry)) }
 {
     let mut flash = read_file(alloc, shelf, File::Flash, words.flash)?;
     match make_edit(&mut flash, words.offset, words.edit) {
@@ -216,7 +216,7 @@ fn pack_file<H: Shelf>(
     requires short { length image.old.items ≤ FLASH_LIMIT }
     ensures packed { OnOk result (IsPackedFile (H.tells shelf.old) name.now
         objects.old image.old.items objects.new image.new.items) }
-    ensures refused { IfErr result (IsNotPacked (told_by H.tells shelf.old shelf.new) name.now
+    ensures refused { IfErr result (IsNotPacked (shelf_account H.tells shelf.old shelf.new) name.now
         objects.old image.old.items) }
     ensures keeps { KeepsShelf H.tells shelf.old shelf.new }
 {
@@ -232,7 +232,7 @@ fn load_pack<H: Shelf>(alloc: Global, files: &[String], shelf: &mut H) -> Result
     ensures task { IfOk result (IsReadyFor (H.tells shelf.old) (packs_of files.now)) }
     ensures within { IfOk result IsWithinLimits }
     ensures refused { IfErr result
-        (CauseOf (told_by H.tells shelf.old shelf.new) (packs_of files.now)) }
+        (CauseOf (shelf_account H.tells shelf.old shelf.new) (packs_of files.now)) }
 {
     let mut flash = Vec::new(alloc);
     let mut objects = 0;
@@ -250,7 +250,7 @@ pub fn prepare<H: Shelf>(alloc: Global, words: &[String], shelf: &mut H) -> Resu
     ensures task { IfOk result (IsReady (H.tells shelf.old) (command_of words.now)) }
     ensures within { IfOk result IsWithinLimits }
     ensures refused { IfErr result
-        (Cause (told_by H.tells shelf.old shelf.new) (command_of words.now)) }
+        (Cause (shelf_account H.tells shelf.old shelf.new) (command_of words.now)) }
 {
     match Command::of(words) {
         Some(Command::Run(words)) => load_run(alloc, words, shelf),

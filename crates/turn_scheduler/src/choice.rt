@@ -1,12 +1,12 @@
 //! The next step of the board.
-ghost use Rattle.std.specs.Prelude.{◌≡◌, ◌-◌, ◌^◌, ◌<◌, ◌≤◌, None};
-ghost use Rattle.tk_base.specs.declared.process.Choice.TheVariants.{Pass};
+ghost use Rattle.std.specs.Prelude.{◌≡◌, None};
+ghost use Rattle.turn_scheduler.specs.Parts.{goes_on_in};
 ghost use Rattle.turn_scheduler.specs.RoundRobin.{ready_device, choice};
 ghost use Rattle.turn_scheduler.specs.Status.{IsChoiceAhead, choice_by, lanes_told};
 ghost use Rattle.turn_scheduler.specs.Status.{situation_shown};
 
 use crate::situated::Situated;
-use crate::slots::{next_slot, slot_going_on};
+use crate::slots::{next_in_order, slot_going_on};
 use crate::status::Status;
 use partition_turns::next_in_window;
 use tk_base::{Choice, Dev};
@@ -39,15 +39,6 @@ fn ready_device<S: Situated>(situated: &S) -> Option<Dev>
     None
 }
 
-/// The ticks that pass until a time that lies ahead.
-fn pass_to(at: u64, time: u64) -> Choice
-    requires ahead { time ≤ at }
-    requires near { at - time < 2 ^ 32 }
-    ensures { result ≡ Pass (at - time) }
-{
-    Choice::Pass((at - time) as u32)
-}
-
 /// The next choice in a situation in which no device step is ready, as [`next_choice_in`] says it.
 /// It asks what the situation is told under.
 // Most often the present slot goes on: that is inlined, and the rest is not.
@@ -64,25 +55,28 @@ pub fn next_in_calm<S: Situated>(situated: &S) -> Option<Choice>
     }
 }
 
-/// The same: the slot that has the next turn of a process, or a Pass.
+/// The next choice where the present slot does not go on: the next slot in turn that is ready, or a
+/// Pass.
 #[inline(never)]
-#[tactic(auto, unfolding(crate::specs::RoundRobin::choice))]
+#[tactic(auto, unfolding(crate::specs::RoundRobin::choice, crate::specs::RoundRobin::next_slot))]
 fn next_in_turn<S: Situated>(situated: &S) -> Option<Choice>
     requires none { ready_device (S.situation situated.now).devices ≡ None }
     requires asks { S.asks situated.now }
+    requires over { goes_on_in (S.situation situated.now) ≡ None }
     ensures { result ≡ choice (S.situation situated.now) }
 {
-    if let Some(slot) = next_slot(situated) {
+    if let Some(slot) = next_in_order(situated, situated.present().slot) {
         return Some(Choice::Run(slot));
     }
     let at = situated.next()?;
-    Some(pass_to(at, situated.time()))
+    Some(Choice::Pass((at - situated.time()) as u32))
 }
 
 /// The next choice in a situation, as round robin chooses: the first ready device step; else the
-/// slot that has the next turn of a process ([`next_slot`]); else a Pass to the time at which a
-/// device step becomes ready, which takes `next - time` ticks; else none. It asks what the
-/// situation is told under.
+/// slot that has the next turn of a process; else a Pass to the time at which a device step becomes
+/// ready, which takes `next - time` ticks; else none. The next turn has the present slot, if it is
+/// ready and has used fewer turns than its slice; else the next ready one after it in cyclic order,
+/// the present one last (with none present, from slot 0). It asks what the situation is told under.
 #[tactic(auto, unfolding(crate::specs::RoundRobin::choice))]
 pub fn next_choice_in<S: Situated>(situated: &S) -> Option<Choice>
     requires { S.asks situated.now }

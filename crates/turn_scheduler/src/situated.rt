@@ -7,6 +7,17 @@ ghost use Rattle.turn_scheduler.specs.RoundRobin.{ready_device};
 
 use tk_base::{Dev, Slot};
 
+/// Whose turn it is, as round robin asks for it.
+#[derive(Clone, Copy)]
+pub struct Present {
+    /// The slot that had the last turn of a process.
+    pub slot: Option<Slot>,
+    /// How many turns of its slice that slot has used.
+    pub used: u32,
+    /// How many turns a slot may have in a row while another one is ready.
+    pub slice: u32,
+}
+
 /// What tells the situation of a board, each part where it is asked for. So who knows that a device
 /// step is ready looks at no slot, and the time at which one becomes ready is looked for only where
 /// nothing is.
@@ -45,15 +56,9 @@ pub trait Situated {
     fn time(&self) -> u64
         ensures { result ≡ (situation self.now).time };
 
-    /// The slot that had the last turn of a process.
-    fn present(&self) -> Option<Slot>
-        ensures { result ≡ (situation self.now).present };
-
-    /// How many turns of its slice the present slot has used.
-    fn used(&self) -> u32
-        ensures { result ≡ (situation self.now).used };
-
-    /// How many turns a slot may have in a row while another one is ready.
-    fn slice(&self) -> u32
-        ensures { result ≡ (situation self.now).slice };
+    /// The present slot, and its slice.
+    fn present(&self) -> Present
+        ensures slot { result.slot ≡ (situation self.now).present }
+        ensures used { result.used ≡ (situation self.now).used }
+        ensures slice { result.slice ≡ (situation self.now).slice };
 }

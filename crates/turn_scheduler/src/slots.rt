@@ -4,9 +4,9 @@ ghost use Rattle.std.specs.List.{range_with_len};
 ghost use Rattle.tk_base.specs.declared.limits.TheConstants.{SLOT_COUNT};
 ghost use Rattle.turn_scheduler.specs.RoundRobin.{slots_after, used_after};
 ghost use Rattle.turn_scheduler.specs.Parts.{place_is_ready};
-ghost use Rattle.turn_scheduler.specs.Parts.{goes_on_in, slot_in};
+ghost use Rattle.turn_scheduler.specs.Parts.{goes_on_in};
 
-use crate::situated::Situated;
+use crate::situated::{Present, Situated};
 use tk_base::{SLOT_COUNT, Slot};
 
 /// The first slot that is ready, from one on and below another.
@@ -25,7 +25,7 @@ fn first_ready<S: Situated>(situated: &S, from: usize, to: usize) -> Option<Slot
 
 /// The next ready slot after the present one in cyclic order, the present one last; with none
 /// present, the first from slot 0.
-fn next_in_order<S: Situated>(situated: &S, present: Option<Slot>) -> Option<Slot>
+pub(crate) fn next_in_order<S: Situated>(situated: &S, present: Option<Slot>) -> Option<Slot>
     ensures { result
         ≡ find (place_is_ready (S.situation situated.now).ready) (slots_after present) }
 {
@@ -49,24 +49,12 @@ fn next_in_order<S: Situated>(situated: &S, present: Option<Slot>) -> Option<Slo
 pub(crate) fn slot_going_on<S: Situated>(situated: &S) -> Option<Slot>
     ensures { result ≡ goes_on_in (S.situation situated.now) }
 {
-    let present = situated.present()?;
-    if situated.used() < situated.slice() && situated.slot_is_ready(present) {
+    let Present { slot, used, slice } = situated.present();
+    let present = slot?;
+    if used < slice && situated.slot_is_ready(present) {
         return Some(present);
     }
     None
-}
-
-/// The slot that has the next turn of a process: the present one, if it is ready and has used fewer
-/// turns than its slice; else the next ready one after it in cyclic order, the present one last
-/// (with none present, from slot 0). None exactly where no slot is ready.
-#[tactic(auto, unfolding(crate::specs::RoundRobin::next_slot))]
-pub fn next_slot<S: Situated>(situated: &S) -> Option<Slot>
-    ensures { result ≡ slot_in (S.situation situated.now) }
-{
-    match slot_going_on(situated) {
-        Some(slot) => Some(slot),
-        None => next_in_order(situated, situated.present()),
-    }
 }
 
 /// How many turns of its slice a slot has used after one more turn, after which it is the present

@@ -2,7 +2,7 @@
 ghost use Rattle.std.specs.Prelude.{◌≡◌};
 ghost use Rattle.turn_scheduler.specs.Parts.{place_is_ready};
 
-use crate::situated::Situated;
+use crate::situated::{Present, Situated};
 use arrayvec::ArrayVec;
 use partition_turns::Lanes;
 use tk_base::{Dev, SLOT_COUNT, Slot};
@@ -65,15 +65,11 @@ impl Situated for Status {
         self.time
     }
 
-    fn present(&self) -> Option<Slot> {
-        self.present
-    }
-
-    fn used(&self) -> u32 {
-        self.used
-    }
-
-    fn slice(&self) -> u32 {
-        self.slice
+    fn present(&self) -> Present {
+        Present {
+            slot: self.present,
+            used: self.used,
+            slice: self.slice,
+        }
     }
 }

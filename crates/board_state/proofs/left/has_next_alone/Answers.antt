@@ -6,5 +6,5 @@ use Rattle.board_state.proofs.left.has_next_alone.Goals as goal
 pub returns : goal.returns
 returns c =
     c.is_some.ensures
-    ∙ ap is_some (c.next_time_for.ensures.at
+    ∙ ap is_some (c.next_time.ensures.at
     ∙ ap (λ (x : Work). x.next) (work_shown c.args.state.now c.requires (record { only = Some c.args.slot })))

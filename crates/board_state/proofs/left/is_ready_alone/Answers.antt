@@ -5,6 +5,6 @@ use Rattle.board_state.proofs.left.is_ready_alone.Goals as goal
 
 pub returns : goal.returns
 returns c =
-    c.is_ready_for.ensures
+    c.is_ready.ensures
     ∙ ap (λ (x : Work). x.ready c.args.device)
     (work_shown c.args.state.now c.requires (record { only = Some c.args.slot }))

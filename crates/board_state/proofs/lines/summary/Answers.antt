@@ -2,7 +2,7 @@ use Rattle.std.proofs.Common.{All, List, ap, map, sym, subst, ◌∙◌}
 use Rattle.grant_enter.specs.Homes.{nobody}
 use Rattle.process_record.specs.declared.process.Process.{Process}
 use Rattle.std.specs.List.{zip}
-use Rattle.board_drivers.specs.Residents.{InFlash, IsResident, line_in}
+use Rattle.board_drivers.specs.Residents.{InFlash, IsResident, resident_line}
 use Rattle.board_state.proofs.Boards.{summary_shown}
 use Rattle.board_drivers.proofs.Pairs.{all-firsts}
 use Rattle.board_state.proofs.lines.summary.Goals as goal
@@ -22,7 +22,7 @@ pub returns : goal.returns
 returns c =
     summary_shown c.args.state.now c.slot_lines.result c.copied.result c.bits.result c.requires
     (c.slot_lines.ensures
-    ∙ ap (λ (processes : List Process). map (line_in c.args.state.now.machine.home.flash)
+    ∙ ap (λ (processes : List Process). map (resident_line c.args.state.now.machine.home.flash)
     (zip processes c.args.state.now.machine.home.owns)) c.deref.ensures.value)
     (c.copied.ensures ∙ c.deref-2.ensures.0)
     c.bits.ensures

@@ -14,11 +14,11 @@ use Rattle.board_turns.specs.declared.machine.Machine.{Machine}
 use Rattle.board_turns.specs.Machines.{IsCalmUntil, KeepsAlarms, KeepsOtherAlarms}
 use Rattle.board_turns.proofs.Turns.{as_left}
 use Rattle.board_state.specs.Shows.{IsBoard, world_of}
-use Rattle.board_state.proofs.Boards.{ready_within}
+use Rattle.board_state.proofs.Boards.{below_limit, ready_within}
 use Rattle.driver_model.specs.Alarm.{ticks_left_in}
 use Rattle.board_state.proofs.Changes.{others_stay_ready, owns_after, turn_later, turn_shown, world_after}
 use Rattle.board_drivers.proofs.Records.{beside}
-use Rattle.board_state.proofs.Devices.{made_so}
+use Rattle.board_state.proofs.Devices.{below_shown, made_so, refused_so}
 use Rattle.board_state.proofs.Boards.{may_turn_on}
 use Rattle.board_state.proofs.Looks.{free_there}
 use Rattle.board_state.proofs.KnownEnds.{known_at}
@@ -28,10 +28,22 @@ use Rattle.board_state.proofs.TurnLines.{turn_leaves_alarm, turn_stays_calm, tur
 use Rattle.board_state.proofs.turns.make_turn.Goals as goal
 use Rattle.board_state.proofs.turns.make_turn.Goals.{After-clear, After-look_at, After-note_turn}
 
+-- what is kept of the slot says whether it can have a turn
+pub returns-then-not-has-clause-step : goal.returns-then-not-has-clause-step
+returns-then-not-has-clause-step c =
+    let w = world_of c.args.state.now in
+    refused_so w w w (Run c.args.slot) c.args.emit.now refl refl
+    (sym (c.has.ensures ∙ c.requires.board.ready c.args.slot
+    ∙ below_limit c.args.state.now c.args.slot c.requires.board
+    (below_shown c.args.state.now w refl c.requires.limit)) ∙ c.if-not-has.true)
+
 -- the slot is one that can have a turn
 can_run_is : (c : After-clear) → is_ready (world_of c.args.state.now) (Run c.args.slot) ≡ true
-can_run_is c = sym c.may_run.ensures
-    ∙ c.if-not-may_run.false
+can_run_is c =
+    sym (c.has.ensures ∙ c.requires.board.ready c.args.slot
+    ∙ below_limit c.args.state.now c.args.slot c.requires.board
+    (below_shown c.args.state.now (world_of c.args.state.now) refl c.requires.limit))
+    ∙ c.if-not-has.false
 
 within : (c : After-clear)
     → (c.args.state.now.machine.moment.steps < STEP_LIMIT) × (c.args.slot < length c.args.state.now.processes.items)
@@ -214,5 +226,5 @@ returns-clause-step c =
     }) ≡ (carried_out (world_of b) (Run c.args.slot)).after) (sym (noted a.After-note_turn (looked a.After-look_at)))
     (world_after b c.args.slot x processes.items shown t few c.used_after-state.result
     c.used_after-state.ensures.value))
-    (c.turn_at.ensures.emit ∙ ap (λ (e : Emit). with_shown (record e { slot = Some c.args.slot }) shown) c.clear.ensures
+    (c.turn_at.ensures.emit ∙ ap (λ (e : Emit). with_shown e shown) c.clear.ensures
     ∙ turn_shown b c.args.slot x processes.items shown t few (record { items = [] }) refl)

@@ -2,7 +2,8 @@ use Rattle.std.proofs.Common.{ℕ, List, ◌+◌, ◌-◌}
 use Rattle.std.specs.List.{flat_map, range_with_len}
 use Rattle.tk_base.specs.Regs.{register}
 use Rattle.board_report.proofs.Parts.{part_between}
-use Rattle.board_views.specs.Places.{registers_shown, word_text}
+use Rattle.board_views.specs.Lines.{word_text}
+use Rattle.board_views.specs.Places.{registers_shown}
 use Rattle.board_views.proofs.Texts.{range_around, range_more}
 use Rattle.board_views.proofs.place.write_registers.Goals as goal
 

@@ -2,7 +2,7 @@ use Rattle.std.specs.List.{flat_map, range_with_len}
 use Rattle.std.proofs.Common.{◌+◌}
 use Rattle.tk_base.specs.Regs.{register}
 use Rattle.tk_outside.specs.Writes.{WroteAll}
-use Rattle.board_views.specs.Places.{word_text}
+use Rattle.board_views.specs.Lines.{word_text}
 use Rattle.board_views.proofs.place.write_registers.Given as goal
 
 -- the registers so far were written

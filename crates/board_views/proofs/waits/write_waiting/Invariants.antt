@@ -1,7 +1,7 @@
 use Rattle.std.proofs.Common.{take}
 use Rattle.std.specs.List.{flat_map}
 use Rattle.tk_outside.specs.Writes.{WroteAll}
-use Rattle.board_views.specs.Places.{word_text}
+use Rattle.board_views.specs.Lines.{word_text}
 use Rattle.board_views.proofs.waits.write_waiting.Given as goal
 
 -- the slots so far were written

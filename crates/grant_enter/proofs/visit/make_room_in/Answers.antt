@@ -1,9 +1,10 @@
-use Rattle.std.proofs.Common.{◌≡◌, ℕ, List, ap, ◌∙◌, rules, refl}
+use Rattle.std.proofs.Common.{◌≡◌, ℕ, List, ap, ◌∙◌, rules, refl, arith}
 use Rattle.grant_model.specs.Grants.{grant_of}
 use Rattle.grant_model.specs.Encoding.{decode_grants}
 use Rattle.grant_region.specs.Region.{fits, parts_of}
 use Rattle.grant_enter.proofs.Blocks.{AreLent, both_ok, lent_kernel, lent_parts}
 use Rattle.grant_enter.proofs.Entering.{area_stands, makes_room, on_both}
+use Rattle.grant_enter.proofs.Values.{few_pairs}
 use Rattle.grant_enter.proofs.visit.make_room_in.Goals as goal
 
 pub make_room-made-requires-clause-parts : goal.make_room-made-requires-clause-parts
@@ -35,3 +36,8 @@ returns-clause-area c =
     both_ok c.make_room-made.result (area_stands c.values_are_found.ensures c.args.driver c.args.memory.now
     c.args.layout.now _ c.make_room-made.new.layout _ (kernel ∙ lent_kernel c.args.memory.now c.args.layout.now
     c.requires.block.settled)) (returns-clause-made c) c.make_room-made.ensures.area
+
+pub cost_of-requires : goal.cost_of-requires
+cost_of-requires c =
+    let few = few_pairs c.args.driver c.args.counts.now c.requires.counts in
+    omega (arith, few)

@@ -1,10 +1,10 @@
 use Rattle.std.proofs.Common.{rules, tests}
 use Rattle.std.proofs.lemmas.Iterator.{YieldsList-from_slice}
 use Rattle.std.proofs.lemmas.Iterator.Search.{all_from_yields_List}
-use Rattle.image_make.specs.Parts.{is_visible}
+use Rattle.image_make.specs.Parts.{is_name_byte}
 use Rattle.image_make.proofs.edits.are_visible.Goals as goal
 
 pub returns : goal.returns
 returns c =
-    all_from_yields_List is_visible _ _ _ c.all.ensures.ran (YieldsList-from_slice c.args.bytes.now cc)
+    all_from_yields_List is_name_byte _ _ _ c.all.ensures.ran (YieldsList-from_slice c.args.bytes.now cc)
     (λ x b q k. search (rules, tests))

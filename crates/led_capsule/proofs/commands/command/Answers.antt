@@ -1,5 +1,5 @@
 use Rattle.std.proofs.Common.{ap, ◌∙◌}
-use Rattle.driver_model.specs.Replies.{reply_of}
+use Rattle.syscall_abi.specs.Reply.{reply_of}
 use Rattle.led_capsule.proofs.commands.command.Goals as goal
 
 pub returns-clause-replies : goal.returns-clause-replies

@@ -1,6 +1,6 @@
 use Rattle.std.proofs.Common.{None, refl}
 use Rattle.tool_words.specs.Words.{command_of}
-use Rattle.tool_tasks.specs.Causes.{told_by}
+use Rattle.tool_tasks.specs.Causes.{shelf_account}
 use Rattle.tool_tasks.specs.Ready.{task_of}
 use Rattle.tool_answers.specs.Parts.{sink_account}
 use Rattle.tool_answers.proofs.Serving.{ends_happen, refused_happens}
@@ -8,14 +8,14 @@ use Rattle.tock_cli.proofs.serve.act.Goals as goal
 
 pub returns-in-Ok : goal.returns-in-Ok
 returns-in-Ok g c =
-    let told = told_by g.H.Shelf.tells c.args.shelf.now c.prepare.new.shelf in
+    let told = shelf_account g.H.Shelf.tells c.args.shelf.now c.prepare.new.shelf in
     let sent = sink_account g.K.Sink.tells c.args.out.now c.finish.new.out in
     ends_happen told sent (command_of c.args.words.now) c.finish.new.last (task_of c.in-Ok.ready) c.finish.result
     c.in-Ok.ensures.task c.finish.ensures
 
 pub returns-in-Err : goal.returns-in-Err
 returns-in-Err g c =
-    let told = told_by g.H.Shelf.tells c.args.shelf.now c.prepare.new.shelf in
+    let told = shelf_account g.H.Shelf.tells c.args.shelf.now c.prepare.new.shelf in
     let sent = sink_account g.K.Sink.tells c.args.out.now c.refuse.new.out in
     refused_happens told sent (command_of c.args.words.now) None c.in-Err.refusal c.refuse.result
     c.in-Err.ensures.refused refl c.refuse.ensures

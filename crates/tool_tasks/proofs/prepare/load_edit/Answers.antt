@@ -5,13 +5,13 @@ use Rattle.tool_words.specs.Words.{edit_given, edits_of}
 use Rattle.tool_words.specs.Parts.{edit_words}
 use Rattle.tool_tasks.specs.Comes.{Making, edited_by}
 use Rattle.tool_tasks.specs.Parts.{IsTaskOf}
-use Rattle.tool_tasks.specs.Causes.{CauseOf, told_by}
+use Rattle.tool_tasks.specs.Causes.{CauseOf, shelf_account}
 use Rattle.tool_tasks.proofs.Loading.{edit_no_task, edit_task, edit_unread, whole_back}
 use Rattle.tool_tasks.proofs.prepare.load_edit.Goals as goal
 
 pub returns-in_err-flash-clause-refused : goal.returns-in_err-flash-clause-refused
 returns-in_err-flash-clause-refused g c =
-    let told = told_by g.H.Shelf.tells c.args.shelf.now c.read_file.new.shelf in
+    let told = shelf_account g.H.Shelf.tells c.args.shelf.now c.read_file.new.shelf in
     let cause = edit_unread told (edit_words c.args.words) c.in_err-flash.field-0.0 c.in_err-flash.ensures.unread in
     search rules
 
@@ -29,7 +29,7 @@ returns-in-Ok-clause-task g c =
 
 pub returns-in-Err-clause-refused : goal.returns-in-Err-clause-refused
 returns-in-Err-clause-refused g c =
-    let told = told_by g.H.Shelf.tells c.args.shelf.now c.read_file.new.shelf in
+    let told = shelf_account g.H.Shelf.tells c.args.shelf.now c.read_file.new.shelf in
     let flash = c.in_ok-flash.ensures in
     let edited = subst (λ (xs : List ℕ). edited_by (edit_given c.args.words.edit) c.args.words.offset xs
     ≡ Err c.in-Err.fault) c.deref_mut.ensures.value c.in-Err.ensures.0 in

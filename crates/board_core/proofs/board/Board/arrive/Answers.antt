@@ -10,7 +10,7 @@ use Rattle.board_devices.specs.Arriving.{is_time}
 use Rattle.board_drivers.proofs.Edges.{arrived_alarms, may_be_told, parts_with, some_left}
 use Rattle.kernel_model.specs.World.{World}
 use Rattle.board_state.specs.Makes.{MakesStep, act_meant}
-use Rattle.board_state.specs.PartsOf.{parts_of}
+use Rattle.board_state.specs.PartsOf.{board_parts}
 use Rattle.board_state.specs.Shows.{IsBoard, world_of}
 use Rattle.board_state.proofs.Arrivals.{arrived_board, arrived_shown, parts_then, world_arrived}
 use Rattle.board_state.proofs.Devices.{below_shown, made_so, may_act, not_acting, refused_so}
@@ -51,7 +51,7 @@ pub arrive-requires-clause-few : goal.arrive-requires-clause-few
 arrive-requires-clause-few c = omega (arith, c.len-slots.ensures, c.self.invariant.few)
 
 -- what holds of the board's parts once it came in
-parts : (c : After-arrive) → AreBoardParts (parts_with (parts_of c.self.inside.state) c.arrive.new.home
+parts : (c : After-arrive) → AreBoardParts (parts_with (board_parts c.self.inside.state) c.arrive.new.home
     c.arrive.new.self)
 parts c = parts_then c.self.inside.state c.arrive.new.home c.arrive.new.self c.arrive.ensures
     c.lines_follow_answers.ensures c.self.invariant
@@ -60,7 +60,7 @@ parts c = parts_then c.self.inside.state c.arrive.new.home c.arrive.new.self c.a
 pub look_ahead-self-inside-requires-clause-alarms : goal.look_ahead-self-inside-requires-clause-alarms
 look_ahead-self-inside-requires-clause-alarms c =
     subst KeepsAlarms (sym (ap later c.look_at_all.ensures.rest))
-    (arrived_alarms (parts_of c.self.inside.state) c.lines_follow_answers.ensures c.arrive.new.home c.arrive.new.self
+    (arrived_alarms (board_parts c.self.inside.state) c.lines_follow_answers.ensures c.arrive.new.home c.arrive.new.self
     c.arrive.ensures c.self.inside.state.machine.alarms c.self.invariant.machine.alarms)
 
 pub look_ahead-self-inside-requires-clause-time : goal.look_ahead-self-inside-requires-clause-time
@@ -109,12 +109,12 @@ returns c =
     ∙ c.if-not-is_time.false in
     let meant : act_meant (world_of b) ≡ None =
     sym c.act_meant.ensures ∙ c.in_default.is in
-    made_so (world_of b) c.args.self.now _ (Device Event) c.args.emit.now c.hide.new.emit c.self.view_is
+    made_so (world_of b) c.args.self.now _ (Device Event) c.args.emit.now c.clear.new.emit c.self.view_is
     (may_act (world_of b) Event (below_shown b c.args.self.now c.self.view_is c.requires) may)
     (ap (λ (m : Machine). world_of (record b { machine = record m { calm = c.look_ahead-self-inside.result } }))
     (ap later c.look_at_all.ensures.rest)
     ∙ world_arrived b c.arrive.new.home c.arrive.new.self c.arrive.ensures may meant c.devices_answer_one.ensures)
-    (c.hide.ensures
+    (c.clear.ensures
     ∙ arrived_shown b c.arrive.new.home c.arrive.new.self c.arrive.ensures may meant c.devices_answer_one.ensures)
 
 pub operate-requires-clause-limit : goal.operate-requires-clause-limit

@@ -4,8 +4,8 @@ use Rattle.board_state.proofs.Ready.{passed_board, passes}
 use Rattle.board_core.proofs.board.Board.pass.Goals as goal
 
 pub returns : goal.returns
-returns c = passes c.self.inside.state c.args.self.now c.args.ticks c.from.result c.args.emit.now c.hide.new.emit
-    c.self.view_is c.from.ensures (sym c.may_pass.ensures ∙ c.if-not-may_pass.false) c.hide.ensures
+returns c = passes c.self.inside.state c.args.self.now c.args.ticks c.from.result c.args.emit.now c.clear.new.emit
+    c.self.view_is c.from.ensures (sym c.may_pass.ensures ∙ c.if-not-may_pass.false) c.clear.ensures
 
 pub invariant_of-self : goal.invariant_of-self
 invariant_of-self c =

@@ -17,7 +17,7 @@ use Rattle.board_turns.specs.declared.machine.Machine.{Machine}
 use Rattle.board_turns.proofs.Turns.{as_left}
 use Rattle.board_state.specs.declared.state.BoardState.{BoardState}
 use Rattle.board_state.specs.Shows.{IsBoard, world_of}
-use Rattle.board_state.specs.KnownEnds.{IsKnownEnd}
+use Rattle.board_state.specs.KnownEnds.{IsKnownOfChoice}
 use Rattle.board_state.specs.Stretches.{slot_runs}
 use Rattle.board_state.proofs.Ready.{calm_shown}
 use Rattle.board_state.proofs.Stretches.{end_known, ends_shown, looked_ahead, next_stays, nothing_comes, rests_there}
@@ -222,9 +222,9 @@ returns-clause-known c e =
     c.calm_ahead-self-inside.ensures.calm in
     let end = c.turns_at-stretch.result.end in
     let present = c.present_after-present in
-    subst (λ (o : Option Choice). IfSome o (IsKnownEnd (world_of (turned a c.turns_at-stretch.new.self)) end))
+    subst (λ (o : Option Choice). IfSome o (IsKnownOfChoice (world_of (turned a c.turns_at-stretch.new.self)) end))
     (sym c.in-Some.ensures.some)
-    (subst (λ (y : Machine). IsKnownEnd (world_of (turned a y)) end (Run c.in-Some.slot)) (sym (same_machine a))
+    (subst (λ (y : Machine). IsKnownOfChoice (world_of (turned a y)) end (Run c.in-Some.slot)) (sym (same_machine a))
     (end_known b board c.in-Some.slot c.turns_at-stretch.result.went c.turns_left-left.result present.result.1
     present.result.0 c.turns_at-stretch.new.self c.turns_at-stretch.new.processes.items
     c.turns_at-stretch.ensures.quiet c.from-ticks.result c.from-ticks.ensures))

@@ -15,7 +15,7 @@ use Rattle.board_turns.specs.declared.machine.Machine.{Machine}
 use Rattle.board_turns.specs.Machines.{IsCalmUntil, KeepsAlarms, KeepsOtherAlarms}
 use Rattle.board_turns.specs.ReadySlots.{OtherTurnsTell, TurnsTell}
 use Rattle.board_turns.specs.Turning.{ChangesSlot}
-use Rattle.board_state.specs.PartsOf.{parts_of}
+use Rattle.board_state.specs.PartsOf.{board_parts}
 use Rattle.board_state.specs.Shows.{IsBoard, world_of}
 use Rattle.board_state.proofs.Changes.{a_step_later, others_stay_ready, owns_after}
 use Rattle.board_state.proofs.Devices.{all_still, below_shown, made_so, may_tell, not_acting, others_still, refused_so}
@@ -25,12 +25,12 @@ use Rattle.board_core.proofs.board.Board.tell.Goals as goal
 use Rattle.board_core.proofs.board.Board.tell.Goals.{After-forget_fired, After-look_at, In-Ok, In_default}
 
 -- it may not act
-idle : (c : In_default) → Acted (parts_of c.self.inside.state) c.args.device (Err _) c.act.new.printed.items
+idle : (c : In_default) → Acted (board_parts c.self.inside.state) c.args.device (Err _) c.act.new.printed.items
     c.act.new.self.home c.act.new.self.drivers
 idle c =
     let b = c.self.inside.state in
-    subst (λ (o : Result Answer NotReady). Acted (parts_of b) c.args.device o c.act.new.printed.items
-    c.act.new.self.home c.act.new.self.drivers) c.in_default.is (c.act.ensures.acts (parts_of b)
+    subst (λ (o : Result Answer NotReady). Acted (board_parts b) c.args.device o c.act.new.printed.items
+    c.act.new.self.home c.act.new.self.drivers) c.in_default.is (c.act.ensures.acts (board_parts b)
     (are_parts b c.self.invariant))
 
 -- so the machine is as it was
@@ -56,12 +56,12 @@ returns-in_default c =
     (not_acting (world_of b) c.args.device (idle a).0)
 
 -- it told a process something
-told : (c : In-Ok) → DeviceTold (parts_of c.self.inside.state) c.args.device c.in-Ok.answer.to.slot
+told : (c : In-Ok) → DeviceTold (board_parts c.self.inside.state) c.args.device c.in-Ok.answer.to.slot
     c.act.new.printed.items c.act.new.self.home c.act.new.self.drivers
 told c =
     let b = c.self.inside.state in
-    subst (λ (o : Result Answer NotReady). Acted (parts_of b) c.args.device o c.act.new.printed.items
-    c.act.new.self.home c.act.new.self.drivers) c.in-Ok.is (c.act.ensures.acts (parts_of b)
+    subst (λ (o : Result Answer NotReady). Acted (board_parts b) c.args.device o c.act.new.printed.items
+    c.act.new.self.home c.act.new.self.drivers) c.in-Ok.is (c.act.ensures.acts (board_parts b)
     (are_parts b c.self.invariant))
 
 -- the change of its process

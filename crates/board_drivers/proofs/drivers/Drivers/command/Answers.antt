@@ -2,8 +2,8 @@ use Rattle.std.proofs.Common.{◌≡◌, ℕ, Some, rules, ap, ap₂, sym, ◌�
 use Rattle.grant_values.specs.declared.drivers.Driver.TheVariants.{Alarm, Buttons, Console, Leds, Random, Storage}
 use Rattle.grant_values.specs.Drivers.{driver_of}
 use Rattle.driver_model.specs.Steps.{own_after}
-use Rattle.driver_model.specs.Commands.{Writes, Reads, Randoms, Stores}
-use Rattle.driver_model.specs.Replies.{reply_of}
+use Rattle.driver_model.specs.Commands.{by_number, Writes, Reads, Randoms, Stores}
+use Rattle.syscall_abi.specs.Reply.{reply_of}
 use Rattle.driver_model.specs.Buttons as buttons
 use Rattle.driver_model.specs.Storage as storage
 use Rattle.driver_requests.specs.Waiting.{queue_after}
@@ -81,7 +81,7 @@ returns-in-Some-Buttons-clause-comes c =
     let came = c.command-in-Some-Buttons.ensures.answer in
     let count : c.count-count.result ≡ c.args.self.now.buttons.count = c.count-count.ensures.number in
     let pressed : c.pressed-pressed.result ≡ c.args.self.now.buttons.pressed = c.pressed-pressed.ensures in
-    let asks = λ (n mask : ℕ). buttons.command n mask c.args.order.now.number c.args.order.now.a2 own in
+    let asks = λ (n mask : ℕ). by_number (buttons.commands n mask c.args.order.now.a2) c.args.order.now.number own in
     let is : driver_of c.args.order.now.driver ≡ Some Buttons = search rules in
     commands_by Buttons c.args.tick c.args.id c.args.order.now c.args.self.now c.args.self.now own
     (own_of c.command-in-Some-Buttons.new.home c.args.id.slot) c.command-in-Some-Buttons.result is (
@@ -110,7 +110,8 @@ returns-in-Some-Storage-clause-comes c =
     let own = own_of c.args.home.now c.args.id.slot in
     let does = c.command-in-Some-Storage.ensures in
     let size : c.size-size.result ≡ c.args.self.now.stores.size = c.size-size.ensures.size in
-    let asks = λ (n : ℕ). storage.command n c.args.order.now.number c.args.order.now.a2 c.args.order.now.a3 own in
+    let asks = λ (n : ℕ).
+    by_number (storage.commands n c.args.order.now.a2 c.args.order.now.a3) c.args.order.now.number own in
     let is : driver_of c.args.order.now.driver ≡ Some Storage = search rules in
     commands_by Storage c.args.tick c.args.id c.args.order.now c.args.self.now _ own
     (own_of c.command-in-Some-Storage.new.home c.args.id.slot) c.command-in-Some-Storage.result is (

@@ -13,26 +13,26 @@ use Rattle.board_drivers.specs.Parts.{BoardParts}
 
 pub transmit-requires-clause-told : goal.transmit-requires-clause-told
 transmit-requires-clause-told c =
-    first_may_be_told c.only-only.result Writes c.args.self.now.moment.settings c.args.self.now.moment.time
+    first_may_be_told c.served-served.result.only Writes c.args.self.now.moment.settings c.args.self.now.moment.time
     c.args.self.now.moment.steps c.args.self.now.home
     c.args.self.now.drivers c.requires.machine.driven c.requires.machine.lost c.requires.limit
 
 pub receive-requires : goal.receive-requires
 receive-requires c = record {
-  told = first_may_be_told c.only-only.result Reads c.args.self.now.moment.settings c.args.self.now.moment.time
+  told = first_may_be_told c.served-served.result.only Reads c.args.self.now.moment.settings c.args.self.now.moment.time
       c.args.self.now.moment.steps
       c.args.self.now.home c.args.self.now.drivers c.requires.machine.driven c.requires.machine.lost c.requires.limit;
 }
 
 pub answer-requires : goal.answer-requires
 answer-requires c =
-    first_may_be_told c.only-only.result Randoms c.args.self.now.moment.settings c.args.self.now.moment.time
+    first_may_be_told c.served-served.result.only Randoms c.args.self.now.moment.settings c.args.self.now.moment.time
     c.args.self.now.moment.steps c.args.self.now.home
     c.args.self.now.drivers c.requires.machine.driven c.requires.machine.lost c.requires.limit
 
 pub answer-requires-in-Store-clause-told : goal.answer-requires-in-Store-clause-told
 answer-requires-in-Store-clause-told c =
-    first_may_be_told c.only-only.result Stores c.args.self.now.moment.settings c.args.self.now.moment.time
+    first_may_be_told c.served-served.result.only Stores c.args.self.now.moment.settings c.args.self.now.moment.time
     c.args.self.now.moment.steps c.args.self.now.home
     c.args.self.now.drivers c.requires.machine.driven c.requires.machine.lost c.requires.limit
 
@@ -74,8 +74,8 @@ returns-in-Uart-clause-acts c b h =
     c.transmit.new.printed
     c.lines_follow_answers.ensures c.events_tell_steps.ensures c.reads_own_flash.ensures
     c.held_buffers_lie_in_place.ensures
-    c.args.printed.now c.requires.empty c.only-only.result c.lane-lane.result c.at-uart.result.now
-    (c.only-only.ensures ∙ c.served-served.ensures.only)
+    c.args.printed.now c.requires.empty c.served-served.result.only c.lane-lane.result c.at-uart.result.now
+    c.served-served.ensures.only
     (c.lane-lane.ensures ∙ ap lane_by c.served-served.ensures.only)
     c.at-uart.ensures.value
     does.ready
@@ -92,8 +92,8 @@ returns-in-Receive-clause-acts c b h =
     acted_by here _ Receive _ _ _ _ c.in-Receive.is
     (acts_received here h c.receive.result c.receive.new.home c.receive.new.self c.receive.new.uart
     c.lines_follow_answers.ensures c.events_tell_steps.ensures
-    c.args.printed.now.items c.requires.empty c.only-only.result c.lane-lane.result c.at-line.result.now
-    (c.only-only.ensures ∙ c.served-served.ensures.only)
+    c.args.printed.now.items c.requires.empty c.served-served.result.only c.lane-lane.result c.at-line.result.now
+    c.served-served.ensures.only
     (c.lane-lane.ensures ∙ ap lane_by c.served-served.ensures.only)
     c.at-line.ensures.value
     does.ready
@@ -111,8 +111,8 @@ returns-in-Random-clause-acts c b h =
     (acts_drawn here h c.answer.result c.answer.new.home c.answer.new.self
     c.answer.new.words
     c.lines_follow_answers.ensures c.events_tell_steps.ensures c.args.printed.now.items c.requires.empty
-    c.only-only.result
-    c.lane-lane.result c.at-words.result.now (c.only-only.ensures ∙ c.served-served.ensures.only)
+    c.served-served.result.only
+    c.lane-lane.result c.at-words.result.now c.served-served.ensures.only
     (c.lane-lane.ensures ∙ ap lane_by c.served-served.ensures.only)
     c.at-words.ensures.value does.none does.answers)
 
@@ -129,4 +129,4 @@ returns-in-Store-clause-acts c b h =
     c.answer-in-Store.new.stores
     c.lines_follow_answers.ensures c.reads_own_flash.ensures c.held_buffers_lie_in_place.ensures
     c.args.printed.now.items
-    c.requires.empty c.only-only.result (c.only-only.ensures ∙ c.served-served.ensures.only) does.none does.answers)
+    c.requires.empty c.served-served.result.only c.served-served.ensures.only does.none does.answers)

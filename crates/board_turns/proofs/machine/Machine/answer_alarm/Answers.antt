@@ -1,4 +1,4 @@
-use Rattle.std.proofs.Common.{◌+◌, ◌<◌, ◌^◌, ℕ, Option, sym, subst, ◌∙◌, arith}
+use Rattle.std.proofs.Common.{◌+◌, ◌<◌, ◌^◌, ℕ, Option, sym, subst, arith}
 use Rattle.std.proofs.lemmas.List.Elements.{All-weaker}
 use Rattle.board_devices.specs.Clock.{clock_at}
 use Rattle.process_model.specs.Own.{Own}
@@ -22,6 +22,6 @@ pub returns-clause-answers : goal.returns-clause-answers
 returns-clause-answers c =
     subst (λ (only : Option ℕ). AlarmAnswers only
     (clock_at c.args.self.now.moment.settings.start c.args.self.now.moment.time) c.args.self.now.home
-    c.answer_by.result c.answer_by.new.home) (c.only-only.ensures ∙ c.served.ensures.only)
-    (subst (λ (now : ℕ). AlarmAnswers c.only-only.result now c.args.self.now.home c.answer_by.result
+    c.answer_by.result c.answer_by.new.home) c.served-only.ensures.only
+    (subst (λ (now : ℕ). AlarmAnswers c.served-only.result.only now c.args.self.now.home c.answer_by.result
     c.answer_by.new.home) c.tick-tick.ensures c.answer_by.ensures.answers)

@@ -2,7 +2,7 @@ use Rattle.std.proofs.Common.{ap, subst}
 use Rattle.grant_enter.specs.Homes.{Homes, own_of}
 use Rattle.board_drivers.specs.Residents.{resident}
 use Rattle.board_turns.specs.declared.machine.Machine.{Machine}
-use Rattle.board_turns.specs.Operating.{Operates}
+use Rattle.board_turns.specs.Operating.{OperatesOnResident}
 use Rattle.board_turns.proofs.Acting.{operates}
 use Rattle.board_turns.proofs.machine.Machine.operate.Goals as goal
 
@@ -13,7 +13,7 @@ returns-clause-operates c =
     let p = c.args.process.now in
     let q = c.act.new.process in
     record {
-      operates = subst (λ (h : Homes). Operates c.args.verb h.flash (resident h slot p)
+      operates = subst (λ (h : Homes). OperatesOnResident c.args.verb h.flash (resident h slot p)
           (resident c.act.new.home slot q)) (ap (λ (x : Machine). x.home) c.let_go.ensures.rest)
           (operates c.args.verb before.flash p q (own_of before slot) (own_of c.act.new.home slot) c.act.ensures.stays
           c.act.ensures.leaves);

@@ -3,4 +3,4 @@ use Rattle.grant_enter.specs.Seats.{first_seat}
 use Rattle.grant_enter.proofs.home.Home.new.Given as goal
 
 abbrev pub invariant-loop-footprint : goal.invariant-loop-footprint
-invariant-loop-footprint l = l.seats.items ≡ map first_seat (take l.footprint-index l.footprints)
+invariant-loop-footprint l = l.seats.items ≡ map (first_seat l.flash) (take l.footprint-index l.footprints)

@@ -1,8 +1,8 @@
 use Rattle.std.proofs.Common.{◌+◌, drop}
 use Rattle.std.specs.List.{flat_map}
 use Rattle.board_report.proofs.Parts.{part_between, texts_around}
-use Rattle.board_views.specs.Places.{word_text}
-use Rattle.board_views.proofs.state.write_words.Goals as goal
+use Rattle.board_views.specs.Lines.{word_text}
+use Rattle.board_views.proofs.lines.write_words.Goals as goal
 
 pub returns-in_err-write_word : goal.returns-in_err-write_word
 returns-in_err-write_word g c =

@@ -1,8 +1,8 @@
 use Rattle.std.proofs.Common.{take}
 use Rattle.std.specs.List.{flat_map}
 use Rattle.tk_outside.specs.Writes.{WroteAll}
-use Rattle.board_views.specs.Places.{word_text}
-use Rattle.board_views.proofs.state.write_words.Given as goal
+use Rattle.board_views.specs.Lines.{word_text}
+use Rattle.board_views.proofs.lines.write_words.Given as goal
 
 -- the words so far were written
 abbrev pub invariant-loop-word : goal.invariant-loop-word
