@@ -11,7 +11,7 @@ ghost use Rattle.board_state.specs.KnownEnds.{IsKnownOfChoice};
 ghost use Rattle.board_core.specs.Stretches.{EndsStretch};
 
 use crate::board::Board;
-use board_state::{is_over, present_after, runs, turn_in, turns_left, used_before};
+use board_state::{is_over, present_after, running_in, turns_left, used_before};
 use driver_model::time_brings_an_alarm_nearer;
 use kernel_laws::round_is_stretch;
 use kernel_lives::steps_are_accounted_for;
@@ -56,7 +56,7 @@ impl Board {
         next_is_ready();
         time_brings_an_alarm_nearer();
         let next_choice = self.next_choice();
-        let Some(slot) = turn_in(&next_choice) else {
+        let Some(slot) = running_in(&next_choice, &self.state.processes) else {
             return Part {
                 made: 0,
                 is_over: true,
@@ -64,14 +64,6 @@ impl Board {
                 end: TurnEnd::Went,
             };
         };
-        if !runs(&self.state.processes, slot) {
-            return Part {
-                made: 0,
-                is_over: true,
-                next_choice,
-                end: TurnEnd::Went,
-            };
-        }
         self.state.machine.calm = self.state.machine.calm_ahead();
         if self.state.machine.calm <= self.state.machine.moment.time {
             return Part {

@@ -7,7 +7,7 @@ ghost use Rattle.kernel_model.specs.Named.{lane_by};
 ghost use Rattle.board_drivers.specs.Calm.{end_of, only_of};
 
 use crate::served::Served;
-use board_devices::Clock;
+use board_devices::clock_at;
 use kernel_model::Settings;
 use partition_turns::{window_end, window_slot};
 
@@ -55,6 +55,6 @@ impl Moment {
     pub fn tick(&self) -> u32
         ensures { result ≡ clock_at self.now.settings.start self.now.time }
     {
-        Clock::new(self.settings.start).now(self.time)
+        clock_at(self.settings.start, self.time)
     }
 }

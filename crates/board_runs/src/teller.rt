@@ -11,7 +11,7 @@ use board_report::write_trace;
 use gathered_output::{OutputBuffer, Text, puts_compose};
 use process_record::Emit;
 use run_text::{Mode, Tally};
-use tk_outside::{Failed, Sink, put_all};
+use tk_outside::{Failed, Sink};
 
 /// What is told of a run, with what has to be kept for it from step to step.
 #[derive(Clone, Copy, Debug, PartialEq, Eq)]
@@ -24,24 +24,20 @@ pub enum RunWriter {
     Soak { tally: Tally },
 }
 
-/// What is written at once of a step.
+/// The lines of a step, which began at a time.
 #[derive(Clone, Copy)]
-struct StepText<'a> {
-    writer: RunWriter,
+struct StepLines<'a> {
+    time: u64,
     step: &'a Emit,
 }
 
-impl Text for StepText<'_> {
-    ghost use Rattle.board_runs.specs.RunWriter.{told_text};
+impl Text for StepLines<'_> {
+    ghost use Rattle.board_report.specs.Trace.{trace_text};
 
-    ghost bytes = { λ text. told_text text.writer text.step.now };
+    ghost bytes = { λ lines. trace_text lines.time lines.step.now };
 
     fn write_to<K: Sink>(&self, out: &mut K) -> Result<(), Failed> {
-        match self.writer {
-            RunWriter::Boot => put_all(out, &self.step.printed),
-            RunWriter::Trace { time } => write_trace(time, self.step, out),
-            RunWriter::Soak { .. } => Ok(()),
-        }
+        write_trace(self.time, self.step, out)
     }
 }
 
@@ -77,17 +73,16 @@ impl RunWriter {
             ≤ counted_bytes self.old + PRINT_LIMIT) }
     {
         puts_compose::<K>();
-        let writer = *self;
         match self {
             RunWriter::Boot => {
                 // Of most steps nothing is told, and they pay for nothing.
                 if step.printed.is_empty() {
                     return Ok(());
                 }
-                buffer.put(&StepText { writer, step }, out)
+                buffer.put_bytes(&step.printed, out)
             }
             RunWriter::Trace { time } => {
-                buffer.put(&StepText { writer, step }, out)?;
+                buffer.put(&StepLines { time: *time, step }, out)?;
                 *time = board.time();
                 Ok(())
             }

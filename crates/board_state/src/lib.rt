@@ -18,7 +18,7 @@ pub use lines::summary;
 pub use operator::{act_meant, operate};
 pub use settings::settings_of;
 pub use shown::{clear, show};
-pub use slices::{is_over, present_after, runs, turn_in, turns_left, used_before};
+pub use slices::{is_over, present_after, running_in, turns_left, used_before};
 pub use standard::{devices_ready, lanes};
 pub use state::BoardState;
 pub use turns::make_turn;

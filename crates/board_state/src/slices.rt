@@ -11,26 +11,19 @@ use board_drivers::Moment;
 use process_record::{Process, State};
 use tk_base::{Choice, STEP_LIMIT, Slot};
 
-/// Whether the process in a slot runs.
-pub fn runs(processes: &[Process], slot: Slot) -> bool
-    ensures { result ≡ slot_runs (slice_get processes.now slot) }
-{
-    match processes.get(slot.index()) {
-        Some(process) => match process.state {
-            State::Running => true,
-            State::Yielded | State::Faulted | State::Terminated(_) => false,
-        },
-        None => false,
-    }
-}
-
-/// The slot that has the turn of a choice. None where the choice is no turn.
-pub fn turn_in(choice: &Option<Choice>) -> Option<Slot>
-    ensures some { IfSome result (λ slot. choice.now ≡ Some (Run slot)) }
-    ensures none { IfNone result ((slot : ℕ) → choice.now ≡ Some (Run slot) → ⊥) }
+/// The slot that has the turn of a choice, where its process runs. None where the choice is no such
+/// turn.
+pub fn running_in(choice: &Option<Choice>, processes: &[Process]) -> Option<Slot>
+    ensures turn { IfSome result (λ slot. choice.now ≡ Some (Run slot)) }
+    ensures runs { IfSome result (λ slot. slot_runs (slice_get processes.now slot) ≡ true) }
+    ensures none { IfNone result ((slot : ℕ) → choice.now ≡ Some (Run slot)
+        → slot_runs (slice_get processes.now slot) ≡ false) }
 {
     match *choice {
-        Some(Choice::Run(slot)) => Some(slot),
+        Some(Choice::Run(slot)) => match processes.get(slot.index())?.state {
+            State::Running => Some(slot),
+            State::Yielded | State::Faulted | State::Terminated(_) => None,
+        },
         Some(Choice::Device(_) | Choice::Pass(_)) | None => None,
     }
 }

@@ -48,6 +48,5 @@ pub fn make_turn(
     state.machine.moment.time += 1;
     state.machine.moment.steps += 1;
     state.machine.note_turn(slot, emit);
-    state.machine.calm = state.machine.calm_after(emit);
     Ok(())
 }

@@ -1,7 +1,7 @@
 -- A command that its driver answers.
 use Rattle.std.proofs.Common.{◌≡◌, ℕ, zero, suc, ◌&&◌, Bool, true, false, cond, List, [], ◌∷◌, length, slice_get}
 use Rattle.std.proofs.Common.{slice_index_or, Option, None, Some, is_some, Result, Ok, Err, refl, sym, ap, subst, ◌∙◌}
-use Rattle.std.proofs.Common.{arith}
+use Rattle.std.proofs.Common.{◌≢◌, ◌⊎◌, inl, inr, arith}
 use Rattle.tk_base.specs.declared.call.CallRule.{CallRule}
 use Rattle.tk_base.specs.declared.call.CallRule.TheVariants.{Permission}
 use Rattle.syscall_abi.specs.declared.call.Call.{Call as SystemCall}
@@ -16,7 +16,7 @@ use Rattle.process_record.specs.declared.outcome.Outcome.TheVariants.{Ended, Aga
 use Rattle.process_record.specs.declared.process.Process.{Process}
 use Rattle.board_devices.specs.Clock.{clock_at}
 use Rattle.driver_model.specs.Steps.{own_after}
-use Rattle.driver_model.specs.Commands.{Commanded}
+use Rattle.driver_model.specs.Commands.{Commanded, leaving_all}
 use Rattle.driver_model.specs.Drivers.{CommandContext, CommandHandler, handler_of}
 use Rattle.syscall_abi.specs.Reply.{reply_of}
 use Rattle.driver_model.specs.Laws.{CommandsStayInPlace, StaysInPlace}
@@ -66,6 +66,25 @@ living_id slot zero (own ∷ owns) id e = by_life own.lives e
     by_life true f = let same : id_of slot own ≡ id = cc in sym same
     by_life false f = cc
 living_id slot (suc n) (own ∷ owns) id e = living_id slot n owns id e
+
+-- a call by which its process ends or starts again has it leave all queues, and the kernel serves it itself
+pub gone_leaves : (outcome : Outcome) → (outcome ≡ Ended) ⊎ (outcome ≡ Again) → acts_for outcome ≡ leaving_all
+gone_leaves outcome (inl ended) = ap acts_for ended
+gone_leaves outcome (inr again) = ap acts_for again
+
+pub gone_itself : (outcome : Outcome) → (outcome ≡ Ended) ⊎ (outcome ≡ Again) → outcome ≢ ToDriver
+gone_itself outcome (inl ended) to_driver = cc
+gone_itself outcome (inr again) to_driver = cc
+
+-- any other asks the board for nothing
+pub stays_in : (outcome : Outcome) → outcome ≢ Ended → outcome ≢ Again → acts_for outcome ≡ []
+stays_in (Replied reply rule) ended again = refl
+stays_in ToDriver ended again = refl
+stays_in Waits ended again = refl
+stays_in Delivered ended again = refl
+stays_in GoesOn ended again = refl
+stays_in Ended ended again = absurd (ended refl)
+stays_in Again ended again = absurd (again refl)
 
 -- a reply that is given is the answer
 given_so : (r : Record) (answer : Result Reply CallRule) → driver_answered r answer ≡ given r (reply_of answer)

@@ -6,7 +6,6 @@ pub mod Turns
 pub mod Quiet
 pub mod Stopped
 mod Replies
-mod Guarding
 pub mod Denied
 pub mod TurnsKept
 pub mod Counted

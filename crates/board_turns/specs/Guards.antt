@@ -1,6 +1,5 @@
 -- For whom the registers are set. Only proofs use this.
 use Rattle.std.specs.Prelude.{◌≡◌, ◌≢◌, ℕ, Some}
-use Rattle.process_layout.specs.Bounds.{Bounds}
 use Rattle.board_memory.specs.Registers.{Protect}
 use Rattle.grant_enter.specs.Homes.{Homes, own_of}
 use Rattle.board_turns.specs.declared.guard.ActivePmp.{ActivePmp}
@@ -17,10 +16,3 @@ pub record IsSetFor (slot : ℕ) (guard : ActivePmp) (home : Homes) : Type 0 whe
 -- where they are set for another slot than this, they protect its process as its layout is
 pub record GuardsOthers (slot : ℕ) (guard : ActivePmp) (home : Homes) : Type 0 where
   pub protects : (other : ℕ) → other ≢ slot → guard.slot ≡ Some other → Protect guard.pmp (own_of home other).layout
-
--- a process may access the same flash and RAM
-pub record HasSameAccess (e f : Bounds) : Type 0 where
-  pub flash_start : e.flash_start ≡ f.flash_start
-  pub flash_end : e.flash_end ≡ f.flash_end
-  pub start : e.start ≡ f.start
-  pub brk : e.brk ≡ f.brk

@@ -58,24 +58,34 @@ impl Machine {
         self.alarms.note(&self.home, slot, tick, self.moment.time);
     }
 
-    /// The same after a turn, where that may have armed an alarm: what a process keeps for the alarm,
-    /// and that it lives, changes in no other turn. After a denial it has none armed.
+    /// Looks again, after a turn, when the alarm of its process becomes due and up to when no device
+    /// step is ready, by what the turn showed. What a process keeps for the alarm, and that it lives,
+    /// changes in a turn that may have armed one alone; after a denial it has none armed. The time up
+    /// to which no device step is ready holds on where the turn made no call that may act: a denial
+    /// leaves less to do for devices.
     #[inline(always)]
     pub fn note_turn(&mut self, slot: Slot, emit: &Emit)
-        requires time { self.old.moment.time + 2 ^ 32 ≤ 2 ^ 64 }
+        requires time { self.old.moment.time ≤ STEP_LIMIT * 2 ^ 32 }
+        requires free { AreFreeSoon self.old.moment.time self.old.drivers }
         requires others { KeepsOtherAlarms slot self.old }
         requires denied { is_some emit.now.denial ≡ true → ticks_left_in
             (clock_at self.old.moment.settings.start self.old.moment.time) self.old.home.owns slot
             ≡ None }
         requires unarmed { may_have_armed emit.now.made emit.now.denial ≡ false
             → KeepsAlarms self.old }
+        requires calm { may_have_acted emit.now.made None ≡ false
+            → IsCalmUntil self.old self.old.calm }
         ensures tell { KeepsAlarms self.new }
-        ensures rest { self.new ≡ record self.old { alarms = self.new.alarms } }
+        ensures calm { IsCalmUntil self.new self.new.calm }
+        ensures rest { self.new ≡ record self.old { alarms = self.new.alarms; calm = self.new.calm } }
     {
         if emit.denial.is_some() {
             self.alarms.forget(slot);
         } else if may_have_armed(emit) {
             self.note_alarm(slot);
+        }
+        if may_have_acted(emit) {
+            self.calm = self.look_ahead();
         }
     }
 
@@ -92,24 +102,6 @@ impl Machine {
         if device == Dev::Alarm {
             self.alarms.forget(slot);
         }
-    }
-
-    /// A time up to which no device step is ready after a turn, by what it showed. It asks that the
-    /// one so far holds on where the turn made no call that may act: a denial leaves less to do for
-    /// devices.
-    #[inline(always)]
-    pub fn calm_after(&self, emit: &Emit) -> u64
-        requires alarms { KeepsAlarms self.now }
-        requires time { self.now.moment.time ≤ STEP_LIMIT * 2 ^ 32 }
-        requires free { AreFreeSoon self.now.moment.time self.now.drivers }
-        requires calm { may_have_acted emit.now.made None ≡ false
-            → IsCalmUntil self.now self.now.calm }
-        ensures { IsCalmUntil self.now result }
-    {
-        if may_have_acted(emit) {
-            return self.look_ahead();
-        }
-        self.calm
     }
 
     /// A time up to which no device step is ready, which lies ahead where none is ready now: the one

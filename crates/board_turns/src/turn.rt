@@ -115,14 +115,6 @@ fn unknown_class(process: &Process) -> Denial
     }
 }
 
-/// Whether the process has ended, or starts again.
-fn is_gone(outcome: Outcome) -> bool
-    ensures gone { result ≡ true → acts_for outcome ≡ leaving_all }
-    ensures none { result ≡ false → acts_for outcome ≡ [] }
-{
-    matches!(outcome, Outcome::Ended | Outcome::Again)
-}
-
 /// How the next instruction of the process in a slot ends, which counts as a turn. Where it is known
 /// that it does not go, and how it ends, it is not made: it leaves registers and memory as they are.
 #[inline(always)]
@@ -238,12 +230,11 @@ impl Machine {
         let strict = self.moment.settings.strict;
         let outcome = match kernel_call(&mut self.home, process, slot, call, strict) {
             Outcome::ToDriver => self.command_driver(process, slot, call),
-            outcome => {
-                if is_gone(outcome) {
-                    self.drivers.gone(&id);
-                }
-                outcome
+            gone @ (Outcome::Ended | Outcome::Again) => {
+                self.drivers.gone(&id);
+                gone
             }
+            outcome => outcome,
         };
         self.guard.refresh(&self.home, slot, &layout);
         outcome

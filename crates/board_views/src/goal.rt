@@ -3,7 +3,8 @@ ghost use Rattle.std.specs.Prelude.{◌≡◌, ◌==◌, ◌++◌, OnOk};
 ghost use Rattle.std.specs.List.{list_any};
 ghost use Rattle.std.specs.Str.{bytes_eq};
 ghost use Rattle.board_views.specs.Goals.{before_stop, changed_at, end_stop, exit_stop, is_among, shows_exit};
-ghost use Rattle.board_views.specs.Goals.{stands_outside, is_past, is_at_instruction, range_stop, shown_stop, stop_after};
+ghost use Rattle.board_views.specs.Goals.{stands_outside, is_past, is_at_instruction, range_stop};
+ghost use Rattle.board_views.specs.Goals.{shown_stop, stop_after};
 ghost use Rattle.board_views.specs.Goals.{watched_at, watched_bytes};
 
 use crate::going::Stop;

@@ -35,21 +35,25 @@ present true false request e = cc
 present false same request e = cc
 
 module _ {R T A V : Type 0} (request_kind : RequestKind R) (driver life : ℕ) (counts : Counts) (keeps : T → KeptValue)
-    (flash : List ℕ) (visitor : V) (step : R → DriverStep) (rest : R → Option R) (answers : R → A → Type 0)
+    (flash : List ℕ) (visitor : V) (step : R → Seen → DriverStep) (rest : R → Seen → Option R)
+    (answers : R → Seen → A → Type 0)
     (leaves : T → Seen → Result A V → T → Own → Type 0) (old new : Own) (answer : Result A V)
     (is : driver ≡ request_kind.driver)
     (says : (value value' : T) (own : Own) → leaves value (seen_of driver counts flash old) answer value' own
-    → ServesWaiting request_kind visitor step rest answers (request_kind.told (keeps value)) (keeps value) old answer
-    (keeps value') own)
+    → ServesWaiting request_kind visitor step rest answers (seen_of driver counts flash old)
+    (request_kind.told (keeps value)) (keeps value) answer (keeps value') own)
     (present_is : is_stale life old ≡ false)
     (v : Visited (grants_of driver counts keeps) leaves flash old answer new) where
+  abbrev seen : Seen
+  seen = seen_of driver counts flash old
+
   -- the value that was kept
   was : kept request_kind.driver old ≡ Some (keeps v.was)
   was = ap (λ d. kept d old) (sym is) ∙ v.kept
 
   serves : (waiting : Option R)
-      → ServesWaiting request_kind visitor step rest answers waiting (keeps v.was) old answer (keeps v.value) v.own
-      → VisitsRequest request_kind visitor step rest answers waiting old answer new
+      → ServesWaiting request_kind visitor step rest answers seen waiting (keeps v.was) answer (keeps v.value) v.own
+      → VisitsRequest request_kind visitor step rest answers seen waiting answer new
   serves None s = (
     s.0,
     v.after ∙ ap (λ k. with_kept driver k v.own) s.1 ∙ ap (with_kept driver (keeps v.was)) s.2
@@ -61,14 +65,15 @@ module _ {R T A V : Type 0} (request_kind : RequestKind R) (driver life : ℕ) (
         s.0,
         s.1,
         v.after ∙ ap (λ k. with_kept driver k v.own) s.2
-            ∙ ap (λ d. with_kept d (kind.with_request (rest request) (keeps v.was)) v.own) is
-            ∙ ap (λ k. with_kept kind.driver (kind.with_request (rest request) (unwrap_or k NoValue)) v.own) (sym still)
-            ∙ ap (with_request kind (rest request)) s.3
-            ∙ requesting_commutes kind (rest request) (step request).schedules (step request).own,
+            ∙ ap (λ d. with_kept d (kind.with_request (rest request seen) (keeps v.was)) v.own) is
+            ∙ ap (λ k. with_kept kind.driver (kind.with_request (rest request seen) (unwrap_or k NoValue)) v.own)
+            (sym still)
+            ∙ ap (with_request kind (rest request seen)) s.3
+            ∙ requesting_commutes kind (rest request seen) (step request seen).schedules (step request seen).own,
       )
 
-  pub visited : VisitsRequest request_kind visitor step rest answers (waiting_of request_kind life old) old answer new
+  pub visited : VisitsRequest request_kind visitor step rest answers seen (waiting_of request_kind life old) answer new
   visited =
-      subst (λ o. VisitsRequest request_kind visitor step rest answers o old answer new)
+      subst (λ o. VisitsRequest request_kind visitor step rest answers seen o answer new)
       (sym (present old.lives (old.life == life) _ present_is ∙ ap (option_and_then request_kind.told) was))
       (serves (request_kind.told (keeps v.was)) (says _ _ _ v.left))

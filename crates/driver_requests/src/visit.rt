@@ -62,9 +62,9 @@ impl<R: Request, V: VisitRequest<R> + Drop> Visit<R::Value> for OfRequest<R, V> 
         (λ request. V.asks of.visitor request seen) };
 
     ghost leaves = { λ of value seen answer value' own. ServesWaiting R.request_kind of.visitor
-        (λ request. V.step of.visitor request seen) (λ request. V.rest of.visitor request seen)
-        (λ request. V.answers of.visitor request seen) (R.request_kind.told (R.Value.kept value))
-        (R.Value.kept value) seen.own answer (R.Value.kept value') own };
+        (V.step of.visitor) (V.rest of.visitor) (V.answers of.visitor) seen
+        (R.request_kind.told (R.Value.kept value)) (R.Value.kept value) answer (R.Value.kept value')
+        own };
 
     fn run(self, value: &mut R::Value, entered: &mut Entered<'_>) -> Result<V::Answer, V> {
         frames_join();
@@ -105,9 +105,8 @@ pub fn visit_request<
     ensures visits { let own = own_of home.old id.slot in
         let counts = counting UP RO RW UR R.Value.SIZE in
         let seen = seen_of grants.now.driver counts home.old.flash own in
-        VisitsRequest R.request_kind visitor (λ request. V.step visitor request seen)
-        (λ request. V.rest visitor request seen) (λ request. V.answers visitor request seen)
-        (waiting_of R.request_kind id.life own) own result (own_of home.new id.slot) }
+        VisitsRequest R.request_kind visitor (V.step visitor) (V.rest visitor) (V.answers visitor)
+        seen (waiting_of R.request_kind id.life own) result (own_of home.new id.slot) }
     ensures rest { ChangesOnly id.slot home.old home.new }
 {
     let of_request = OfRequest {

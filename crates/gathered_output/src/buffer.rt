@@ -4,7 +4,7 @@ ghost use Rattle.tk_outside.specs.Writes.{Writes};
 ghost use Rattle.gathered_output.specs.Puts.{Puts};
 
 use crate::laws::puts_compose;
-use crate::text::Text;
+use crate::text::{Piece, Text};
 use arrayvec::ArrayVec;
 use std::marker::Model;
 use tk_outside::{Failed, Sink, put_all, writes_compose};
@@ -82,6 +82,18 @@ impl OutputBuffer {
             return Ok(());
         }
         text.write_to(out)
+    }
+
+    /// Puts bytes behind what is gathered, as [`OutputBuffer::put`] does a text. Most often they are
+    /// few, and there is room for them.
+    pub fn put_bytes<K: Sink>(&mut self, bytes: &[u8], out: &mut K) -> Result<(), Failed>
+        ensures { Puts K.tells out.old out.new self.old self.new bytes.now result }
+    {
+        puts_compose::<K>();
+        if self.bytes.try_extend_from_slice(bytes).is_ok() {
+            return Ok(());
+        }
+        self.put(&Piece { bytes }, out)
     }
 
     /// Gives the sink what is gathered.

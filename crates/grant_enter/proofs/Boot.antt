@@ -24,8 +24,8 @@ use Rattle.grant_enter.proofs.Windows.{zeros, length_zeros, zero_window}
 use Rattle.grant_enter.proofs.Moves.{no_bytes, none_back, none_kept}
 
 -- one more seat
-pub seats_more : (flash : List ℕ) (fs : List Footprint) (k : ℕ) (f : Footprint) (seats more : List Seat) (seat : Seat) → k < length fs
-    → f ≡ slice_index_or fs k f → seats ≡ map (first_seat flash) (take k fs) → seat ≡ first_seat flash f
+pub seats_more : (flash : List ℕ) (fs : List Footprint) (k : ℕ) (f : Footprint) (seats more : List Seat) (seat : Seat)
+    → k < length fs → f ≡ slice_index_or fs k f → seats ≡ map (first_seat flash) (take k fs) → seat ≡ first_seat flash f
     → more ≡ seats ++ seat ∷ [] → more ≡ map (first_seat flash) (take (k + 1) fs)
 seats_more flash fs k f seats more seat h read so made pushed =
     let longer : take (k + 1) fs ≡ take k fs ++ get_or fs k f ∷ [] =
@@ -58,7 +58,8 @@ module _ (law : IsReadBack) (flash : List ℕ) (ram : ℕ) (fs : List Footprint)
       (record { object = nobody.object; layout = d }) d within))
       (settled i (record { object = nobody.object; layout = d }) within).settled
 
-  seat_kept : (f : Footprint) → CanMoveIn (length flash) ram f → IsSeated (length flash) (zeros ram) (first_seat flash f)
+  seat_kept : (f : Footprint) → CanMoveIn (length flash) ram f
+      → IsSeated (length flash) (zeros ram) (first_seat flash f)
   seat_kept f s = record {
     object = s.object;
     kept = subst (IsKept (bounds_of f.layout)) (sym (ap (λ (n : ℕ). slice_range (zeros ram) (n - 2147483648)

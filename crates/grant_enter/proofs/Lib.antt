@@ -1,6 +1,7 @@
 mod Windows
 mod Tables
 mod Moves
+mod Living
 mod Boot
 mod Left
 mod Sight

@@ -1,6 +1,6 @@
 -- What a change of one seat, or of the RAM in its block, makes of what contracts see.
 use Rattle.std.proofs.Common.{◌≡◌, ◌≢◌, ℕ, ◌+◌, ◌-◌, ◌%◌, ◌^◌, ◌<◌, ◌≤◌, ◌⊎◌, inl, inr, true, false, Bool, Result, Ok}
-use Rattle.std.proofs.Common.{Err, List, [], ◌∷◌, length, get_or, refl, sym, ap, ap₂, subst, ◌∙◌, arith}
+use Rattle.std.proofs.Common.{Err, not, slice_get, List, [], ◌∷◌, length, get_or, refl, sym, ap, ap₂, subst, ◌∙◌, arith}
 use Rattle.std.specs.Prelude.{nat_lt, slice_index_or, slice_set, slice_range, All, OnOk, OnErr}
 use Rattle.std.specs.List.{AllByRecursion}
 use Rattle.std.specs.Bool.{OnTrue, OnFalse}
@@ -22,11 +22,13 @@ use Rattle.grant_model.specs.Laws.{IsReadBack}
 use Rattle.process_model.specs.Own.{Own, layout_of, own_restarted, own_ended}
 use Rattle.grant_enter.specs.declared.seat.Seat.{Seat}
 use Rattle.grant_enter.specs.declared.home.Home.TheInside.{Inside}
-use Rattle.grant_enter.specs.Homes.{Homes, FitsMemory, ChangesOnly, has_permissions, nobody, own_of, with_own}
+use Rattle.grant_enter.specs.Homes.{Homes, FitsMemory, ChangesOnly, has_permissions, is_life, nobody, own_of, with_own}
 use Rattle.grant_enter.specs.Windows.{SameOutside}
 use Rattle.grant_enter.specs.Seats.{AreSettled, IsHome, IsSeated, IsKept, Holds, Reseats, SitsIn, first_seat}
-use Rattle.grant_enter.specs.Seats.{TellsPermissions, layouts_of, owned, app_in, kernel_in, own_in, owns_seated, homes_of}
+use Rattle.grant_enter.specs.Seats.{TellsPermissions, layouts_of, owned, app_in, kernel_in, own_in, owns_seated}
+use Rattle.grant_enter.specs.Seats.{homes_of}
 use Rattle.std.proofs.lemmas.Grind.{same_number_lists}
+use Rattle.grant_enter.proofs.Living.{lives_so, stale_is}
 use Rattle.grant_enter.proofs.Windows.{windows_same, over_outside, over_window, short, zeros, length_zeros}
 use Rattle.grant_enter.proofs.Tables.{any_default, one_changed, read_at, own_at, settled_at, apart_at, layouts_set}
 use Rattle.grant_enter.proofs.Tables.{all_changed}
@@ -110,6 +112,15 @@ module _ {h : Inside} {old : Homes} {slot index : ℕ} {seat : Seat} (r : Reads 
             (settled_at (length h.memory.flash) (length h.memory.ram) h.seats.items slot seat r.home.settled within);
         seated = subst (IsSeated (length h.memory.flash) h.memory.ram) here (r.home.seated slot seat within);
       }
+
+  -- a process that is there lives in its seat, in that life
+  pub seat_there : (life : ℕ) → is_life life (slice_get old.owns slot) ≡ true
+      → (seat.lives ≡ true) × (seat.life ≡ life)
+  seat_there life there =
+      let t = lives_so (own_of old slot) life (stale_is old.owns slot life ∙ ap not there) in (
+        sym (ap (λ (o : Own). o.lives) own_before) ∙ t.0,
+        sym (ap (λ (o : Own). o.life) own_before) ∙ t.1,
+      )
 
   -- the layout of the seat is that of the process's own
   pub whole_layout : layout_of (own_of old slot) ≡ seat.layout

@@ -1,7 +1,7 @@
 -- What contracts see of the memory of all processes: flash, and by slot what is a process's own. A process has its
 -- block and its grants as in Levy et al., SOSP 2017, section 4.
-use Rattle.std.specs.Prelude.{◌≡◌, ◌≢◌, ◌≤◌, ◌<◌, ℕ, zero, suc, ◌+◌, ◌-◌, ◌%◌, ◌^◌, if◌then◌else◌, false, List}
-use Rattle.std.specs.Prelude.{[], length, slice_index_or, slice_set, Bool, Option, None, Some, is_some}
+use Rattle.std.specs.Prelude.{◌≡◌, ◌≢◌, ◌≤◌, ◌<◌, ℕ, zero, suc, ◌+◌, ◌-◌, ◌%◌, ◌^◌, ◌==◌, ◌&&◌, if◌then◌else◌, false}
+use Rattle.std.specs.Prelude.{List, [], length, slice_index_or, slice_set, Bool, Option, None, Some, is_some}
 use Rattle.std.specs.List.{AllByRecursion}
 use Rattle.tk_base.specs.declared.access.TheConstants.{FLASH_START, RAM_START}
 use Rattle.tk_base.specs.declared.process.ProcessId.{ProcessId}
@@ -53,6 +53,11 @@ with_own home slot own = record home { owns = slice_set home.owns slot own }
 abbrev pub living : ℕ → Option Own → Option ProcessId
 living slot None = None
 living slot (Some own) = if own.lives then Some (record { slot = slot; life = own.life }) else None
+
+-- whether what stands in a slot lives, in that life
+abbrev pub is_life : ℕ → Option Own → Bool
+is_life life None = false
+is_life life (Some own) = own.lives && own.life == life
 
 -- nothing but what is in one slot may differ
 abbrev pub ChangesOnly : ℕ → Homes → Homes → Type 0

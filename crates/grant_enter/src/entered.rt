@@ -23,7 +23,7 @@ use crate::seat::Seat;
 use board_memory::Memory;
 use process_layout::Layout;
 use swap_tables::pair_held;
-use tk_base::{Addr, Counts, FLASH_START, PairKind, Upcall};
+use tk_base::{Addr, Counts, FLASH_START, PairKind, RAM_START, Upcall};
 
 /// A process while a driver visits its grant: the buffers that it has allowed the driver, which are
 /// lent and never copied, and the upcalls that it has subscribed (Levy et al., SOSP 2017, section
@@ -55,10 +55,10 @@ fn buffer_at<'a>(memory: &'a Memory, layout: &Layout, at: Addr, size: u32) -> &'
     if size == 0 {
         return &[];
     }
-    if layout.in_ram(at, size) {
-        return memory.part(at, at + size);
+    if at < RAM_START {
+        return flash_part(memory.flash(), at, at + size);
     }
-    flash_part(memory.flash(), at, at + size)
+    memory.part(at, at + size)
 }
 
 /// The addresses of a buffer: its first, and the first after it.

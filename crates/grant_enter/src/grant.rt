@@ -77,18 +77,11 @@ impl<T: GrantValue, const UP: usize, const RO: usize, const RW: usize, const UR:
             (own_of home.old id.slot) result (own_of home.new id.slot) }
         ensures rest { ChangesOnly id.slot home.old home.new }
     {
-        if !home.is_placed(id.slot) {
+        if !home.is_there(&id) {
             return Err(EnterError::Stale);
         }
         let seat = &mut home.seats[id.slot.index()];
-        enter_seat::<T, V>(
-            &mut home.memory,
-            seat,
-            id.life,
-            self.driver,
-            self.counts,
-            visitor,
-        )
+        enter_seat::<T, V>(&mut home.memory, seat, self.driver, self.counts, visitor)
     }
 
     /// Visits the grant that a process keeps for the driver, as [`Grant::enter`], and makes
@@ -108,18 +101,11 @@ impl<T: GrantValue, const UP: usize, const RO: usize, const RW: usize, const UR:
             (own_of home.old id.slot) result (own_of home.new id.slot) }
         ensures rest { ChangesOnly id.slot home.old home.new }
     {
-        if !home.is_placed(id.slot) {
+        if !home.is_there(&id) {
             return Err(Unvisited::Gone(visitor));
         }
         let visited = &mut home.seats[id.slot.index()];
-        visit_seat::<T, V>(
-            &mut home.memory,
-            visited,
-            id.life,
-            self.driver,
-            self.counts,
-            visitor,
-        )
+        visit_seat::<T, V>(&mut home.memory, visited, self.driver, self.counts, visitor)
     }
 
     /// The value that a process keeps for the driver; None exactly where it has not entered the
@@ -129,10 +115,10 @@ impl<T: GrantValue, const UP: usize, const RO: usize, const RW: usize, const UR:
         ensures { Peeks (grants_of self.now.driver (counting UP RO RW UR T.SIZE) T.kept) id.life
             (own_of home.now id.slot) result }
     {
-        if !home.is_placed(id.slot) {
+        if !home.is_there(&id) {
             return Err(Stale);
         }
         let seat = &home.seats[id.slot.index()];
-        peek_seat::<T>(&home.memory, seat, id.life, self.driver, self.counts)
+        Ok(peek_seat::<T>(&home.memory, seat, self.driver, self.counts))
     }
 }

@@ -17,7 +17,7 @@ ghost use Rattle.process_model.specs.Handed.{HoldsInPlace, own_entering, handing
 ghost use Rattle.process_model.specs.Handed.{may_share};
 ghost use Rattle.process_model.specs.Served.{kept};
 ghost use Rattle.swap_tables.specs.Swaps.{CanHand};
-ghost use Rattle.grant_enter.specs.Homes.{own_of, living, has_permissions, ChangesOnly, IsInPlace};
+ghost use Rattle.grant_enter.specs.Homes.{own_of, is_life, living, has_permissions, ChangesOnly, IsInPlace};
 ghost use Rattle.grant_enter.specs.Homes.{IsStopped};
 ghost use Rattle.grant_enter.specs.Homes.{CanMoveIn, FootprintBefore, MakesInstruction, MakesAll};
 
@@ -251,10 +251,20 @@ impl Home {
     }
 
     /// Whether a process was placed in a slot.
-    pub(crate) fn is_placed(&self, slot: Slot) -> bool
+    fn is_placed(&self, slot: Slot) -> bool
         ensures { result ≡ nat_lt slot (length self.now.owns) }
     {
         slot.index() < self.seats.len()
+    }
+
+    /// Whether the process of an id is there: it lives in its slot, in that life.
+    pub(crate) fn is_there(&self, id: &ProcessId) -> bool
+        ensures { result ≡ is_life id.now.life (slice_get self.now.owns id.now.slot) }
+    {
+        match self.seats.get(id.slot.index()) {
+            Some(seat) => seat.lives && seat.life == id.life,
+            None => false,
+        }
     }
 
     /// The process that lives in a slot, in its present life. None exactly where none lives there.

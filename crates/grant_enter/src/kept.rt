@@ -8,7 +8,6 @@ ghost use Rattle.grant_values.specs.Words.{IsWord, words_of};
 ghost use Rattle.grant_model.specs.Grants.{grant_of};
 ghost use Rattle.grant_model.specs.Encoding.{EncodesGrants, decode_grants};
 ghost use Rattle.grant_model.specs.Laws.{IsValue, value_bytes, value_offset};
-ghost use Rattle.process_layout.specs.Ordered.{IsOrdered};
 ghost use Rattle.grant_enter.specs.Homes.{FitsMemory};
 ghost use Rattle.grant_enter.specs.Seats.{HasBlock, kernel_in, value_put, with_value_in};
 
@@ -18,7 +17,7 @@ use grant_model::{Area, areas_are_found, values_are_found};
 use grant_region::area;
 use grant_values::GrantValue;
 use process_layout::Layout;
-use tk_base::{Addr, Counts};
+use tk_base::Counts;
 
 /// Where the areas have the value that a process keeps for a driver.
 #[derive(Clone, Copy)]
@@ -63,18 +62,6 @@ pub(crate) fn value_at<T: GrantValue>(kernel: &[u8], at: usize) -> T
     T::take(kernel.split_at(at).1)
 }
 
-/// Puts a value at its place in the areas. All else of them stays.
-fn put_value<T: GrantValue>(kernel: &mut [u8], at: usize, value: &T)
-    requires { at + T.SIZE ≤ length kernel.old }
-    ensures bytes { kernel.new ≡ value_put kernel.old at T.SIZE (T.kept value.now) }
-    ensures size { length (value_words (T.kept value.now)) ≡ T.count }
-    ensures fits { AllByRecursion IsWord (value_words (T.kept value.now)) }
-    ensures back { value_by (value_words (T.kept value.now)) T.driver ≡ T.kept value.now }
-{
-    let (_, rest) = kernel.split_at_mut(at);
-    value.put(rest);
-}
-
 /// Keeps a value at its place in the areas of a process's block. All else of memory stays.
 pub(crate) fn keep_value<T: GrantValue>(memory: &mut Memory, layout: &Layout, at: usize, value: &T)
     requires settled { FitsMemory (length memory.old.flash) (length memory.old.ram) layout.now }
@@ -87,17 +74,10 @@ pub(crate) fn keep_value<T: GrantValue>(memory: &mut Memory, layout: &Layout, at
     ensures fits { AllByRecursion IsWord (value_words (T.kept value.now)) }
     ensures back { value_by (value_words (T.kept value.now)) T.driver ≡ T.kept value.now }
 {
-    let (from, to) = kernel_ends(layout);
-    put_value::<T>(memory.part_mut(from, to), at, value);
-}
-
-/// From where to where the areas lie.
-fn kernel_ends(layout: &Layout) -> (Addr, Addr)
-    ensures ends { result ≡ (layout.now.kernel_break, layout.now.end) }
-    // as always
-    ensures ordered { IsOrdered layout.now }
-{
-    (layout.kernel_break, layout.end)
+    in_order(layout);
+    let kernel = memory.part_mut(layout.kernel_break, layout.end);
+    let (_, rest) = kernel.split_at_mut(at);
+    value.put(rest);
 }
 
 /// The areas of a process's grants.

@@ -1,7 +1,6 @@
 //! Visits of a driver to the grants that processes keep for it.
-ghost use Rattle.std.specs.Prelude.{◌≡◌, ◌==◌, ◌&&◌, not, ◌<◌, ◌^◌, length, option_map, is_ok};
-ghost use Rattle.std.specs.Prelude.{IfOk, OnOk, OnErr, Some};
-ghost use Rattle.process_layout.specs.Ordered.{IsOrdered};
+ghost use Rattle.std.specs.Prelude.{◌≡◌, ◌<◌, ◌^◌, true, length, option_map, is_ok};
+ghost use Rattle.std.specs.Prelude.{IfOk, OnOk, OnErr, Ok, Some};
 ghost use Rattle.grant_values.specs.Drivers.{counts_of};
 ghost use Rattle.grant_model.specs.Grants.{grant_of};
 ghost use Rattle.grant_model.specs.Encoding.{EncodesGrants, decode_grants};
@@ -24,7 +23,7 @@ use grant_model::{Area, pairs_stand_by_kind, values_are_found};
 use grant_region::{NoRoom, make_room};
 use grant_values::{GrantValue, cost_of};
 use process_layout::Layout;
-use tk_base::{Addr, Counts};
+use tk_base::Counts;
 
 /// What a driver does with the value that a process keeps for it, and with what the process has
 /// handed to it. A visitor says itself what it asks, and what it leaves.
@@ -146,33 +145,23 @@ fn make_room_in(
     made
 }
 
-/// Whether the process of a seat has ended, or is in another life.
-fn is_gone(seat: &Seat, life: u32) -> bool
-    ensures { result ≡ not (seat.now.lives && seat.now.life == life) }
-{
-    !(seat.lives && seat.life == life)
-}
-
-/// A driver enters the process of a life in a seat.
+/// A driver enters the process in a seat, which lives.
 pub(crate) fn enter_seat<T: GrantValue, V: Visit<T> + Drop>(
     memory: &mut Memory,
     seat: &mut Seat,
-    life: u32,
     driver: u32,
     counts: Counts,
     visitor: V,
 ) -> Result<V::Answer, EnterError>
     requires sits { SitsIn memory.old seat.old }
+    requires lives { seat.old.lives ≡ true }
     requires counted { IsCounted T.driver driver counts T.SIZE }
     requires asks { Asks (grants_of driver counts T.kept) (V.asks visitor) memory.old.flash
         (own_entering driver (own_in memory.old.ram seat.old)) }
-    ensures enters { Enters (grants_of driver counts T.kept) (V.leaves visitor) life
+    ensures enters { Enters (grants_of driver counts T.kept) (V.leaves visitor) seat.old.life
         memory.old.flash (own_in memory.old.ram seat.old) result (own_in memory.new.ram seat.new) }
     ensures reseats { Reseats memory.old seat.old memory.new seat.new }
 {
-    if is_gone(seat, life) {
-        return Err(EnterError::Stale);
-    }
     pairs_stand_by_kind();
     let Ok(area) = make_room_in(memory, &mut seat.layout, driver, &counts) else {
         return Err(EnterError::NoRoom);
@@ -182,49 +171,43 @@ pub(crate) fn enter_seat<T: GrantValue, V: Visit<T> + Drop>(
     Ok(visit_at::<T, V>(memory, seat, place, visitor))
 }
 
-/// A driver visits the process of a life in a seat.
+/// A driver visits the process in a seat, which lives.
 pub(crate) fn visit_seat<T: GrantValue, V: Visit<T> + Drop>(
     memory: &mut Memory,
     seat: &mut Seat,
-    life: u32,
     driver: u32,
     counts: Counts,
     visitor: V,
 ) -> Result<V::Answer, Unvisited<V>>
     requires sits { SitsIn memory.old seat.old }
+    requires lives { seat.old.lives ≡ true }
     requires counted { IsCounted T.driver driver counts T.SIZE }
     requires asks { Asks (grants_of driver counts T.kept) (V.asks visitor) memory.old.flash
         (own_in memory.old.ram seat.old) }
-    ensures visits { Visits (grants_of driver counts T.kept) visitor (V.leaves visitor) life
+    ensures visits { Visits (grants_of driver counts T.kept) visitor (V.leaves visitor) seat.old.life
         memory.old.flash (own_in memory.old.ram seat.old) result (own_in memory.new.ram seat.new) }
     ensures reseats { Reseats memory.old seat.old memory.new seat.new }
 {
-    if is_gone(seat, life) {
-        return Err(Unvisited::Gone(visitor));
-    }
     match value_place(kernel_of(memory, &seat.layout), driver, counts) {
         Some(place) => Ok(visit_at::<T, V>(memory, seat, place, visitor)),
         None => Err(Unvisited::NotEntered(visitor)),
     }
 }
 
-/// The value that the process of a life in a seat keeps for a driver.
+/// The value that the process in a seat, which lives, keeps for a driver.
 pub(crate) fn peek_seat<T: GrantValue>(
     memory: &Memory,
     seat: &Seat,
-    life: u32,
     driver: u32,
     counts: Counts,
-) -> Result<Option<T>, Stale>
+) -> Option<T>
     requires sits { SitsIn memory.now seat.now }
+    requires lives { seat.now.lives ≡ true }
     requires counted { IsCounted T.driver driver counts T.SIZE }
-    ensures peeks { Peeks (grants_of driver counts T.kept) life (own_in memory.now.ram seat.now)
-        result }
+    ensures peeks { Peeks (grants_of driver counts T.kept) seat.now.life
+        (own_in memory.now.ram seat.now) (Ok result) }
 {
-    if is_gone(seat, life) {
-        return Err(Stale);
-    }
-    Ok(kept_in::<T>(kernel_of(memory, &seat.layout), driver, &counts))
+    kept_in::<T>(kernel_of(memory, &seat.layout), driver, &counts)
 }
 
 /// The value that is kept for a driver in the areas.
@@ -244,15 +227,6 @@ pub(crate) fn block_at<'a>(memory: &'a Memory, seat: &Seat) -> &'a [u8]
     requires { SitsIn memory.now seat.now }
     ensures { result.now ≡ block_of (own_in memory.now.ram seat.now) }
 {
-    let (from, to) = block_ends(&seat.layout);
-    memory.part(from, to)
-}
-
-/// From where to where a block lies.
-fn block_ends(layout: &Layout) -> (Addr, Addr)
-    ensures ends { result ≡ (layout.now.start, layout.now.end) }
-    // as always
-    ensures ordered { IsOrdered layout.now }
-{
-    (layout.start, layout.end)
+    in_order(&seat.layout);
+    memory.part(seat.layout.start, seat.layout.end)
 }

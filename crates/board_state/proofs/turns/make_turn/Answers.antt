@@ -81,7 +81,7 @@ looked c =
     ∙ ap (λ (m : Machine). record m { ready = c.look_at.new.self.ready })
     (as_left c.args.state.now.machine c.turn_at.new.self c.turn_at.ensures.turn.rest)
 
--- and once its alarm is
+-- and once it is looked at again when its alarm is due, and up to when no device step is ready
 noted : (c : After-note_turn) → c.look_at.new.self ≡ record c.args.state.now.machine {
   home = c.turn_at.new.self.home;
   guard = c.turn_at.new.self.guard;
@@ -94,10 +94,12 @@ noted : (c : After-note_turn) → c.look_at.new.self ≡ record c.args.state.now
   ready = c.look_at.new.self.ready;
   moment = turn_later c.args.state.now.machine.moment;
   alarms = c.note_turn.new.self.alarms;
+  calm = c.note_turn.new.self.calm;
 }
 noted c is =
+    let new = c.note_turn.new.self in
     c.note_turn.ensures.rest
-    ∙ ap (λ (m : Machine). record m { moment = turn_later m.moment; alarms = c.note_turn.new.self.alarms }) is
+    ∙ ap (λ (m : Machine). record m { moment = turn_later m.moment; alarms = new.alarms; calm = new.calm }) is
 
 pub look_at-requires-clause-owns : goal.look_at-requires-clause-owns
 look_at-requires-clause-owns c =
@@ -118,10 +120,34 @@ look_at-requires-clause-others c =
 
 pub note_turn-requires-clause-time : goal.note_turn-requires-clause-time
 note_turn-requires-clause-time c =
+    let a = goal.at.note_turn-requires-clause-time c in
     let board = c.requires.board.machine in
-    subst (λ (m : Machine). m.moment.time + 1 + 2 ^ 32 ≤ 2 ^ 64)
-    (sym (looked (goal.at.note_turn-requires-clause-time c).After-look_at))
-    (omega (arith, board.time, board.steps))
+    let below = (within a.After-clear).0 in
+    subst (λ (m : Machine). m.moment.time + 1 ≤ STEP_LIMIT * 2 ^ 32) (sym (looked a.After-look_at))
+    (omega (arith, board.time, below))
+
+pub note_turn-requires-clause-free : goal.note_turn-requires-clause-free
+note_turn-requires-clause-free c =
+    let a = goal.at.note_turn-requires-clause-free c in
+    let b = c.args.state.now in
+    let t = c.turn_at.ensures.turn in
+    let x = c.turn_at.new.self in
+    subst (λ (m : Machine). AreFreeSoon (m.moment.time + 1) m.drivers) (sym (looked a.After-look_at))
+    (same_free (b.machine.moment.time + 1) b.machine.drivers x.drivers
+    (lines_stay b c.args.slot x c.turn_at.new.processes.items (told_in_emit c.turn_at.new.emit) c.requires.board t)
+    (later_free b.machine.moment.time (b.machine.moment.time + 1) b.machine.drivers (omega arith)
+    c.requires.board.machine.driven.free))
+
+pub note_turn-requires-clause-calm : goal.note_turn-requires-clause-calm
+note_turn-requires-clause-calm c quiet =
+    let a = goal.at.note_turn-requires-clause-calm c in
+    let b = c.args.state.now in
+    let x = c.turn_at.new.self in
+    let t = c.turn_at.ensures.turn in
+    subst (λ (m : Machine). IsCalmUntil (record m { moment = turn_later m.moment }) m.calm)
+    (sym (looked a.After-look_at))
+    (turn_stays_calm b c.args.slot x c.turn_at.new.processes.items (told_in_emit c.turn_at.new.emit)
+    c.requires.board t c.alarms_change_at_their_commands.ensures.quiet quiet)
 
 pub note_turn-requires-clause-others : goal.note_turn-requires-clause-others
 note_turn-requires-clause-others c =
@@ -152,47 +178,16 @@ note_turn-requires-clause-unarmed c unarmed =
     (turn_leaves_alarm b c.args.slot x processes shown c.requires.board t
     c.alarms_change_at_their_commands.ensures.alarms unarmed))
 
-pub calm_after-state-requires-clause-time : goal.calm_after-state-requires-clause-time
-calm_after-state-requires-clause-time c =
-    let a = goal.at.calm_after-state-requires-clause-time c in
-    let board = c.requires.board.machine in
-    let below = (within a.After-clear).0 in
-    subst (λ (m : Machine). m.moment.time ≤ STEP_LIMIT * 2 ^ 32)
-    (sym (noted a.After-note_turn (looked a.After-look_at))) (omega (arith, board.time, below))
-
-pub calm_after-state-requires-clause-free : goal.calm_after-state-requires-clause-free
-calm_after-state-requires-clause-free c =
-    let a = goal.at.calm_after-state-requires-clause-free c in
-    let b = c.args.state.now in
-    let t = c.turn_at.ensures.turn in
-    let x = c.turn_at.new.self in
-    subst (λ (m : Machine). AreFreeSoon m.moment.time m.drivers)
-    (sym (noted a.After-note_turn (looked a.After-look_at)))
-    (same_free (b.machine.moment.time + 1) b.machine.drivers x.drivers
-    (lines_stay b c.args.slot x c.turn_at.new.processes.items (told_in_emit c.turn_at.new.emit) c.requires.board t)
-    (later_free b.machine.moment.time (b.machine.moment.time + 1) b.machine.drivers (omega arith)
-    c.requires.board.machine.driven.free))
-
-pub calm_after-state-requires-clause-calm : goal.calm_after-state-requires-clause-calm
-calm_after-state-requires-clause-calm c quiet =
-    let a = goal.at.calm_after-state-requires-clause-calm c in
-    let b = c.args.state.now in
-    let x = c.turn_at.new.self in
-    let t = c.turn_at.ensures.turn in
-    subst (λ (m : Machine). IsCalmUntil m m.calm) (sym (noted a.After-note_turn (looked a.After-look_at)))
-    (turn_stays_calm b c.args.slot x c.turn_at.new.processes.items (told_in_emit c.turn_at.new.emit)
-    c.requires.board t c.alarms_change_at_their_commands.ensures.quiet quiet)
-
 pub returns-clause-board : goal.returns-clause-board
 returns-clause-board c =
     let a = goal.at.returns-clause-board c in
     let b = c.args.state.now in
     let t = c.turn_at in
     let left = record b { machine = t.new.self; processes = t.new.processes } in
-    let calm = c.calm_after-state.result in
+    let calm = c.note_turn.new.self.calm in
     let is = noted a.After-note_turn (looked a.After-look_at) in
     subst (λ (m : Machine). IsBoard (record b {
-      machine = record m { calm = calm };
+      machine = m;
       processes = t.new.processes;
       present = Some c.args.slot;
       used = c.used_after-state.result;
@@ -200,7 +195,7 @@ returns-clause-board c =
     (turned_board b left c.args.slot (told_in_emit t.new.emit) c.requires.board t.ensures.turn calm
     c.used_after-state.result c.note_turn.new.self.alarms c.look_at.new.self.ready
     c.grants_change_at_calls.ensures.drops c.turns_keep_lines.ensures.lines (can_run_is a.After-clear)
-    (subst (λ (m : Machine). IsCalmUntil m calm) is c.calm_after-state.ensures)
+    (subst (λ (m : Machine). IsCalmUntil m calm) is c.note_turn.ensures.calm)
     (subst KeepsAlarms is c.note_turn.ensures.tell)
     (subst (λ (ps : List Process). TurnsTell c.look_at.new.self.ready (zip ps t.new.self.home.owns))
     c.deref.ensures.value c.look_at.ensures.tell)
@@ -219,7 +214,7 @@ returns-clause-step c =
     made_so (world_of b) (world_of c.args.state.now) _ (Run c.args.slot) c.args.emit.now c.turn_at.new.emit refl
     (can_run_is a.After-clear)
     (subst (λ (m : Machine). world_of (record b {
-      machine = record m { calm = c.calm_after-state.result };
+      machine = m;
       processes = processes;
       present = Some c.args.slot;
       used = c.used_after-state.result;

@@ -1,7 +1,5 @@
 use Rattle.std.proofs.Common.{arith}
-use Rattle.grant_values.specs.Drivers.{counting}
 use Rattle.grant_enter.specs.Homes.{own_of}
-use Rattle.grant_enter.specs.Seen.{seen_of}
 use Rattle.driver_requests.proofs.Visiting.{asked, visited}
 use Rattle.driver_requests.proofs.visit.visit_request.Goals as goal
 
@@ -15,8 +13,7 @@ visit-requires g c = (
 pub returns-in-Ok-clause-visits : goal.returns-in-Ok-clause-visits
 returns-in-Ok-clause-visits g c =
     let own = own_of c.args.home.now c.args.id.slot in
-    let counts = counting g.row.UP g.row.RO g.row.RW g.row.UR g.R.Value.GrantValue.SIZE in
-    let seen = seen_of c.args.grants.now.driver counts c.args.home.now.flash own in
     visited g.R.Request.request_kind c.args.grants.now.driver c.args.id.life _ _ c.args.home.now.flash c.args.visitor
-    (λ request. g.V.VisitRequest.step c.args.visitor request seen) _ _ _ own _ c.in-Ok.answer c.requires.driver
+    (g.V.VisitRequest.step c.args.visitor) (g.V.VisitRequest.rest c.args.visitor)
+    (g.V.VisitRequest.answers c.args.visitor) _ own _ c.in-Ok.answer c.requires.driver
     (λ value value' own left. left) c.in-Ok.ensures.visits.0 c.in-Ok.ensures.visits.1

@@ -6,6 +6,7 @@ use Rattle.process_model.specs.Handed.{own_entering}
 use Rattle.grant_enter.specs.Seats.{Reseats, own_in}
 use Rattle.grant_enter.specs.Visits.{Asks, Visited, grants_of}
 use Rattle.grant_enter.proofs.Entering.{entered_own, entered_reseats, same_room}
+use Rattle.grant_enter.proofs.Living.{lives_on}
 use Rattle.grant_enter.proofs.Moves.{reseats_on}
 use Rattle.grant_enter.proofs.visit.enter_seat.Goals as goal
 use Rattle.grant_enter.proofs.visit.enter_seat.Given.{Over}
@@ -52,7 +53,7 @@ returns-clause-enters g c =
     let leaves = g.V.Visit.leaves c.args.visitor in
     let after = own_in c.visit_at.new.memory.ram c.visit_at.new.seat in
     let room = c.in-Ok.ensures.room ∙ same_room c.args.driver c.args.memory.now c.args.seat.now c.requires.sits in (
-      sym c.if-is_gone.ensures,
+      lives_on (own_in c.args.memory.now.ram c.args.seat.now) c.requires.lives,
       sym room,
       subst (λ (flash : List ℕ). Visited grants leaves flash
           (own_entering c.args.driver (own_in c.args.memory.now.ram c.args.seat.now)) c.visit_at.result after)
@@ -67,7 +68,7 @@ returns-in_default-clause-enters g c =
     let room = c.in_default.ensures.room
     ∙ same_room c.args.driver c.args.memory.now c.args.seat.now c.requires.sits in
     let refused = c.in_default.ensures.refused in (
-      sym c.if-is_gone.ensures,
+      lives_on (own_in c.args.memory.now.ram c.args.seat.now) c.requires.lives,
       sym room,
       ap₂ (λ (m : MemoryBytes) (e : LayoutView). own_in m.ram (record c.args.seat.now { layout = e })) refused.0
           refused.1,

@@ -26,13 +26,13 @@ use Rattle.board_state.proofs.Boards.{may_turn_on}
 use Rattle.board_core.proofs.board.Board.run_part.Goals as goal
 use Rattle.board_core.proofs.board.Board.run_part.Goals.{After-is_over}
 
-pub returns-then-not-runs-clause-ends : goal.returns-then-not-runs-clause-ends
-returns-then-not-runs-clause-ends c e h g =
-    rests_there c.self.inside.state c.self.invariant c.in-Some.slot (ap next c.self.view_is
-    ∙ sym c.next_choice-next_choice.ensures.next ∙ c.in-Some.ensures.some)
-    (ap (λ (ps : List Process). slot_runs (slice_get ps c.in-Some.slot)) (sym c.deref.ensures.value)
-    ∙ sym c.runs.ensures ∙ c.if-not-runs.true)
-    (subst GoesOn (sym c.self.view_is) g)
+pub returns-in_default-clause-ends : goal.returns-in_default-clause-ends
+returns-in_default-clause-ends c e h goes =
+    let g = subst GoesOn (sym c.self.view_is) goes in
+    rests_there c.self.inside.state c.self.invariant g.slot g.chosen
+    (ap (λ (ps : List Process). slot_runs (slice_get ps g.slot)) (sym c.deref.ensures.value)
+    ∙ c.in_default.ensures.none g.slot
+    (c.next_choice-next_choice.ensures.next ∙ sym (ap next c.self.view_is) ∙ g.chosen)) g
 
 pub returns-then-self-clause-ends : goal.returns-then-self-clause-ends
 returns-then-self-clause-ends c e h g =
@@ -51,17 +51,17 @@ turns_at-stretch-requires c =
     c.calm_ahead-self-inside.ensures.calm)
     (runs_within c.self.inside.state.processes.items c.in-Some.slot
     (ap (λ (ps : List Process). slot_runs (slice_get ps c.in-Some.slot)) (sym c.deref.ensures.value)
-    ∙ sym c.runs.ensures ∙ c.if-not-runs.false))
+    ∙ c.in-Some.ensures.runs))
     c.turns_left-left.ensures.limit
 
 -- the slot has the next turn, and its process runs
 chosen : (c : After-is_over) → next (world_of c.self.inside.state) ≡ Some (Run c.in-Some.slot)
 chosen c = ap next c.self.view_is
-    ∙ sym c.next_choice-next_choice.ensures.next ∙ c.in-Some.ensures.some
+    ∙ sym c.next_choice-next_choice.ensures.next ∙ c.in-Some.ensures.turn
 
 runs_there : (c : After-is_over) → slot_runs (slice_get c.self.inside.state.processes.items c.in-Some.slot) ≡ true
 runs_there c = ap (λ (ps : List Process). slot_runs (slice_get ps c.in-Some.slot)) (sym c.deref.ensures.value)
-    ∙ sym c.runs.ensures ∙ c.if-not-runs.false
+    ∙ c.in-Some.ensures.runs
 
 -- the machine after the turns: the drivers and the rest are those before
 same_machine : (c : After-is_over) → c.turns_at-stretch.new.self
@@ -201,7 +201,7 @@ returns-clause-next c e =
     let most = c.turns_at-stretch.ensures.most in
     let present = c.present_after-present in
     let q = c.turns_at-stretch.ensures.quiet in
-    c.in-Some.ensures.some
+    c.in-Some.ensures.turn
     ∙ subst (λ (y : Machine). Some (Run c.in-Some.slot) ≡ next (world_of (turned a y))) (sym (same_machine a))
     (next_stays b board c.in-Some.slot c.turns_at-stretch.result.went c.turns_left-left.result present.result.1
     present.result.0 c.turns_at-stretch.new.self c.turns_at-stretch.new.processes.items q
@@ -223,7 +223,7 @@ returns-clause-known c e =
     let end = c.turns_at-stretch.result.end in
     let present = c.present_after-present in
     subst (λ (o : Option Choice). IfSome o (IsKnownOfChoice (world_of (turned a c.turns_at-stretch.new.self)) end))
-    (sym c.in-Some.ensures.some)
+    (sym c.in-Some.ensures.turn)
     (subst (λ (y : Machine). IsKnownOfChoice (world_of (turned a y)) end (Run c.in-Some.slot)) (sym (same_machine a))
     (end_known b board c.in-Some.slot c.turns_at-stretch.result.went c.turns_left-left.result present.result.1
     present.result.0 c.turns_at-stretch.new.self c.turns_at-stretch.new.processes.items

@@ -1,13 +1,24 @@
-use Rattle.std.proofs.Common.{◌≡◌, rules, subst}
+use Rattle.std.proofs.Common.{◌≡◌, true, ℕ, List, not, refl, sym, ap, subst, ◌∙◌, rules}
 use Rattle.tk_base.specs.declared.upcall.Counts.{Counts}
 use Rattle.grant_values.specs.Drivers.{counting}
+use Rattle.process_model.specs.Own.{Own}
 use Rattle.grant_enter.specs.Homes.{own_of}
-use Rattle.grant_enter.specs.Seats.{homes_of}
+use Rattle.grant_enter.specs.Seats.{homes_of, own_in}
 use Rattle.grant_enter.specs.Visits.{Visits, grants_of}
-use Rattle.grant_enter.proofs.Moves.{Reads, placed, reseated, reseated_only, reseated_shows, sits_before, with_seat}
+use Rattle.grant_enter.proofs.Living.{placed_there, stale_is}
+use Rattle.grant_enter.proofs.Moves.{Reads, reseated, reseated_only, reseated_shows, seat_there, sits_before, with_seat}
 use Rattle.grant_enter.proofs.grant.Grant.visit.Goals as goal
 use Rattle.grant_enter.proofs.grant.Grant.visit.Given.{Over}
 use Rattle.grant_enter.proofs.grant.Grant.visit.Goals.{After-index_mut-visited}
+
+-- one that is not there is stale
+pub returns-then-not-is_there-clause-visits : goal.returns-then-not-is_there-clause-visits
+returns-then-not-is_there-clause-visits g c = (
+  stale_is c.args.home.now.owns c.args.id.slot c.args.id.life
+      ∙ ap not (sym c.is_there.ensures ∙ c.if-not-is_there.true),
+  refl,
+  refl,
+)
 
 -- the seat of the slot
 reads : (g : Over) (c : After-index_mut-visited g)
@@ -16,15 +27,25 @@ reads g c = record {
   home = c.home.invariant;
   shown = c.home.view_is;
   there =
-      placed c.args.home.now c.args.id.slot (search rules);
+      placed_there c.args.home.now.owns c.args.id.slot c.args.id.life
+      (sym c.is_there.ensures ∙ c.if-not-is_there.false);
   is = c.index.ensures.value;
   read =
       c.index_mut-visited.ensures.value;
 }
 
+-- its process lives there, in the life of the id
+there : (g : Over) (c : After-index_mut-visited g)
+    → (c.index_mut-visited.result.now.lives ≡ true) × (c.index_mut-visited.result.now.life ≡ c.args.id.life)
+there g c = seat_there (reads g c) c.args.id.life (sym c.is_there.ensures ∙ c.if-not-is_there.false)
+
 pub visit_seat-requires-clause-sits : goal.visit_seat-requires-clause-sits
 visit_seat-requires-clause-sits g c =
     sits_before (reads g (goal.at.visit_seat-requires-clause-sits g c).After-index_mut-visited)
+
+pub visit_seat-requires-clause-lives : goal.visit_seat-requires-clause-lives
+visit_seat-requires-clause-lives g c =
+    (there g (goal.at.visit_seat-requires-clause-lives g c).After-index_mut-visited).0
 
 pub invariant_of-home : goal.invariant_of-home
 invariant_of-home g c =
@@ -33,19 +54,23 @@ invariant_of-home g c =
 
 pub returns-clause-visits : goal.returns-clause-visits
 returns-clause-visits g c =
+    let at = (goal.at.returns-clause-visits g c).After-index_mut-visited in
     let same : c.args.self.now.counts ≡ counting g.row.UP g.row.RO g.row.RW g.row.UR g.T.GrantValue.SIZE =
     search rules in
-    subst (λ (counts : Counts). Visits (grants_of c.args.self.now.driver counts g.T.GrantValue.kept) c.args.visitor
-    (g.V.Visit.leaves c.args.visitor) c.args.id.life c.args.home.now.flash (own_of c.args.home.now c.args.id.slot)
-    c.visit_seat.result (own_of (homes_of (with_seat c.home.inside c.visit_seat.new.memory c.index.result
-    c.visit_seat.new.seat))
+    let Leaves : Counts → ℕ → List ℕ → Own → Own → Type 0 =
+    λ counts life flash own own_after.
+    Visits (grants_of c.args.self.now.driver counts g.T.GrantValue.kept) c.args.visitor
+    (g.V.Visit.leaves c.args.visitor)
+    life flash own c.visit_seat.result own_after in
+    subst (λ (counts : Counts). Leaves counts c.args.id.life c.args.home.now.flash
+    (own_of c.args.home.now c.args.id.slot)
+    (own_of (homes_of (with_seat c.home.inside c.visit_seat.new.memory c.index.result c.visit_seat.new.seat))
     c.args.id.slot)) same
-    (reseated_shows (reads g (goal.at.returns-clause-visits g c).After-index_mut-visited) c.visit_seat.new.memory
-    c.visit_seat.new.seat c.visit_seat.ensures.reseats
-    (λ flash own own_after.
-    Visits (grants_of c.args.self.now.driver c.args.self.now.counts g.T.GrantValue.kept) c.args.visitor
-    (g.V.Visit.leaves c.args.visitor) c.args.id.life flash own c.visit_seat.result own_after)
-    c.visit_seat.ensures.visits)
+    (reseated_shows (reads g at) c.visit_seat.new.memory c.visit_seat.new.seat c.visit_seat.ensures.reseats
+    (Leaves c.args.self.now.counts c.args.id.life)
+    (subst (λ (life : ℕ). Leaves c.args.self.now.counts life c.home.inside.memory.flash
+    (own_in c.home.inside.memory.ram c.index_mut-visited.result.now)
+    (own_in c.visit_seat.new.memory.ram c.visit_seat.new.seat)) (there g at).1 c.visit_seat.ensures.visits))
 
 pub returns-clause-rest : goal.returns-clause-rest
 returns-clause-rest g c =

@@ -12,14 +12,14 @@ pub invariant_of-result : goal.invariant_of-result
 invariant_of-result c =
     home_booted c.what_is_laid_is_read_back.ensures c.args.flash.items c.args.ram c.args.footprints.now
     (record { memory = c.in_ok-memory.memory; seats = c.loop-footprint.seats }) (search rules)
-    (seats_all c.flash-flash.result.now c.args.flash.items c.args.ram c.args.footprints.now c.loop-footprint.footprint-index
-    c.loop-footprint.seats.items c.in_ok-memory.memory c.loop-footprint-test.false c.loop-footprint.invariant
-    c.flash-flash.ensures (search rules)) (search rules) (search rules) c.requires.apart
+    (seats_all c.flash-flash.result.now c.args.flash.items c.args.ram c.args.footprints.now
+    c.loop-footprint.footprint-index c.loop-footprint.seats.items c.in_ok-memory.memory c.loop-footprint-test.false
+    c.loop-footprint.invariant c.flash-flash.ensures (search rules)) (search rules) (search rules) c.requires.apart
 
 pub returns : goal.returns
 returns c =
     homes_booted c.what_is_laid_is_read_back.ensures c.args.flash.items c.args.ram c.args.footprints.now
     (record { memory = c.in_ok-memory.memory; seats = c.loop-footprint.seats }) (search rules)
-    (seats_all c.flash-flash.result.now c.args.flash.items c.args.ram c.args.footprints.now c.loop-footprint.footprint-index
-    c.loop-footprint.seats.items c.in_ok-memory.memory c.loop-footprint-test.false c.loop-footprint.invariant
-    c.flash-flash.ensures (search rules)) (search rules)
+    (seats_all c.flash-flash.result.now c.args.flash.items c.args.ram c.args.footprints.now
+    c.loop-footprint.footprint-index c.loop-footprint.seats.items c.in_ok-memory.memory c.loop-footprint-test.false
+    c.loop-footprint.invariant c.flash-flash.ensures (search rules)) (search rules)
