@@ -7,7 +7,7 @@ rest of a crate where the crate is named.
 
 # The contract that the page is about, and how many lines a reader has to believe at most: what stands today fits.
 HEADLINE = ("tock_cli/serve.rt", "serve")
-LIMIT = 4000
+LIMIT = 3800
 
 # What is proved of the program in one sentence, and which names below have each part of it.
 SENTENCE = """\

@@ -9,8 +9,9 @@ from documents import quoted, table_of
 from facts import computed
 
 COMMON, WORDS_OF = "tk_base/Call", "board_report/Words"
-CALLS = {"yield": "Yield", "subscribe": "Subscribe", "command": "Command", "read-write allow": "AllowRw",
-         "read-only allow": "AllowRo", "memop": "Memop", "exit": "Exit", "userspace-readable allow": "AllowUr"}
+# A call by its form, and a swap by the kind of its pairs.
+CALLS = {"yield": "Yield", "subscribe": "Upcall", "command": "Command", "read-write allow": "ReadWrite",
+         "read-only allow": "ReadOnly", "memop": "Memop", "exit": "Exit", "userspace-readable allow": "Readable"}
 KINDS = {"ReadOnly": "read-only", "ReadWrite": "read-write", "Readable": "readable"}
 REPLIES = {"failure": "Failure", "failure with two numbers": "FailureU32U32", "success": "Success",
            "success with a number": "SuccessU32", "success with two numbers": "SuccessU32U32"}
@@ -76,9 +77,9 @@ def class_rows(table, row):
 
 
 def classes(facts):
-    """The classes of calls, in their order."""
+    """The classes of calls, in their order, each with its form, or with the kind of pairs that it swaps."""
     rows = facts.rows("syscall_abi/Call", "class_table")
-    return [(number, text.split()[0].strip("()")) for number, text in rows.items()]
+    return [(number, re.match(r"(?:forms\.|swap )(\w+)", text)[1]) for number, text in rows.items()]
 
 
 def told_class_rows(table, row):

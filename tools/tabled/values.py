@@ -73,7 +73,7 @@ def of_calls(facts):
         ("YIELD_NOW", "yield_now", yields), ("YIELD_WAIT", "comes_to", yields), ("YIELD_FOR", "yield_for", yields),
         ("EXIT_END", r"ended \(record", exits), ("EXIT_AGAIN", r"ended \(restart", exits))}
     upcalls = facts.numbers("driver_model/Storage", "upcall_for")
-    forms["MEMOP"] = next(number for number, text in classes.items() if text.startswith("Memop"))
+    forms["MEMOP"] = next(number for number, text in classes.items() if "Memop" in text)
     return dict(codes, **errors, **words, **forms, range=words["Range"], CLASSES=len(classes), LAST_CLASS=max(classes),
                 LAST_MEMOP=max(memops), READ_UPCALL=upcalls["Read"], WRITE_UPCALL=upcalls["Write"])
 

@@ -4,9 +4,8 @@ use Rattle.std.proofs.Common.{slice_index_or, Option, None, Some, is_some, Resul
 use Rattle.std.proofs.Common.{◌≢◌, ◌⊎◌, inl, inr, arith}
 use Rattle.tk_base.specs.declared.call.CallRule.{CallRule}
 use Rattle.tk_base.specs.declared.call.CallRule.TheVariants.{Permission}
-use Rattle.syscall_abi.specs.declared.call.Call.{Call as SystemCall}
-use Rattle.syscall_abi.specs.declared.call.Call.TheVariants.{Command}
-use Rattle.syscall_abi.specs.Call.{form_of}
+use Rattle.syscall_abi.specs.declared.form.CallForm.{CallForm}
+use Rattle.syscall_abi.specs.declared.form.CallForm.TheVariants.{Command}
 use Rattle.syscall_abi.specs.declared.reply.Reply.{Reply}
 use Rattle.process_model.specs.declared.place.Object.{Object}
 use Rattle.process_model.specs.Own.{Own}
@@ -33,7 +32,7 @@ use Rattle.process_restart.specs.Own.{IsOwnObject}
 use Rattle.process_record.specs.Process.{is_alive}
 use Rattle.kernel_calls.specs.Given.{given}
 use Rattle.kernel_calls.specs.Outcomes.{ServingComesTo, IsLeft, IsServed, ServesAt, acts_for, is_for_driver}
-use Rattle.kernel_calls.specs.Outcomes.{is_driver_command, record_of_slot}
+use Rattle.kernel_calls.specs.Outcomes.{is_taken, record_of_slot}
 use Rattle.kernel_model.specs.Turn.{surroundings}
 use Rattle.board_drivers.specs.declared.moment.Moment.{Moment}
 use Rattle.board_drivers.specs.declared.drivers.Drivers.{Drivers}
@@ -47,9 +46,9 @@ both true c e = (refl, e)
 both false c e = cc
 
 -- a call that is left to its driver is one that a driver takes
-pub taken_of : (strict : Bool) (object : List ℕ) (call : SystemCall) → is_for_driver strict object call ≡ true
-    → is_driver_command call ≡ true
-taken_of strict object call for = (both (object_permits strict object call) (is_driver_command call) for).1
+pub taken_of : (strict : Bool) (object : List ℕ) (call : CallForm) → is_for_driver strict object call ≡ true
+    → is_taken call ≡ true
+taken_of strict object call for = (both (object_permits strict object call) (is_taken call) for).1
 
 -- what is there
 pub some_of : {A : Type 0} (o : Option A) → is_some o ≡ true → (a : A) × (o ≡ Some a)
@@ -152,7 +151,7 @@ module _ (m : Moment) (slot : ℕ) (home home' : Homes) (order : Order) (answer 
       (law order.driver taker found (seen_by_commands m d) order.number order.a2 order.a3 (own_of home slot))
 
   -- what comes of a command that its driver answered
-  pub finishes : (p p' : Process) (call : SystemCall) (o : Outcome) (taker : CommandHandler)
+  pub finishes : (p p' : Process) (call : CallForm) (o : Outcome) (taker : CommandHandler)
       → handler_of order.driver ≡ Some taker
       → call ≡ Command order.driver order.number order.a2 order.a3
       → is_for_driver m.settings.strict (object_in home.flash p.object) call ≡ true
@@ -165,10 +164,9 @@ module _ (m : Moment) (slot : ℕ) (home home' : Homes) (order : Order) (answer 
     serves = λ storage.
         let beside = beside_in d storage in
         let r = record_in home.flash p own beside in
-        ap (λ (b : Bool). cond b (by_form around r (form_of call))
-        (refused_with r Permission (failure_of (form_of call) Permission)))
-        (both (object_permits m.settings.strict (object_in home.flash p.object) call) (is_driver_command call) for).0
-        ∙ ap (λ (c : SystemCall). by_form around r (form_of c)) is
+        ap (λ (b : Bool). cond b (by_form around r call) (refused_with r Permission (failure_of call Permission)))
+        (both (object_permits m.settings.strict (object_in home.flash p.object) call) (is_taken call) for).0
+        ∙ ap (by_form around r) is
         ∙ ap (taken_by around order.number order.a2 order.a3 r) found
         ∙ ap (λ (x : Own). record (driver_answered (record_with_own r x) c.answer) { acts = c.acts }) (sym come.1)
         ∙ ap (λ (s : Served). record s { acts = c.acts })
@@ -204,7 +202,7 @@ module _ (m : Moment) (slot : ℕ) (home home' : Homes) (order : Order) (answer 
       c = taker around order.number order.a2 order.a3 own
 
 -- what comes of a call that is not left to its driver
-pub is_served : (strict : Bool) (slot : ℕ) (home home' : Homes) (p p' : Process) (call : SystemCall) (o : Outcome)
+pub is_served : (strict : Bool) (slot : ℕ) (home home' : Homes) (p p' : Process) (call : CallForm) (o : Outcome)
     → ServesAt strict slot home p call home' p' o → (o ≡ ToDriver → ⊥) → IsServed strict slot home home' p p' call o
 is_served strict slot home home' p p' call (Replied reply rule) s n = s
 is_served strict slot home home' p p' call ToDriver s n = absurd (n refl)
@@ -215,7 +213,7 @@ is_served strict slot home home' p p' call Ended s n = s
 is_served strict slot home home' p p' call Again s n = s
 
 -- what was left of a call is known by other names
-pub finishes_as : (m : Moment) (slot : ℕ) (home : Homes) (p : Process) (call : SystemCall) (h k : Homes) (q r : Process)
+pub finishes_as : (m : Moment) (slot : ℕ) (home : Homes) (p : Process) (call : CallForm) (h k : Homes) (q r : Process)
     (o u : Outcome) (d e f : Drivers) → h ≡ k → q ≡ r → o ≡ u → e ≡ f
     → Finishes m slot home p call k r u d f → Finishes m slot home p call h q o d e
 finishes_as m slot home p call h k q r o u d e f at same out by finish =
@@ -225,7 +223,7 @@ finishes_as m slot home p call h k q r o u d e f at same out by finish =
     (subst (λ (x : Drivers). Finishes m slot home p call k r u d x) (sym by) finish)))
 
 -- a call that was left to its driver began as the kernel's
-pub finishes_left : (m : Moment) (slot : ℕ) (home h k : Homes) (p q r : Process) (call : SystemCall) (o : Outcome)
+pub finishes_left : (m : Moment) (slot : ℕ) (home h k : Homes) (p q r : Process) (call : CallForm) (o : Outcome)
     (d d' : Drivers) → IsLeft m.settings.strict home h p q call
     → Finishes m slot h q call k r o d d' → Finishes m slot home p call k r o d d'
 finishes_left m slot home h k p q r call o d d' left finish =
@@ -233,7 +231,7 @@ finishes_left m slot home h k p q r call o d d' left finish =
     (subst (λ (x : Process). Finishes m slot h x call k r o d d') left.process_stays finish)
 
 -- a call that the kernel served itself
-pub served_itself : (m : Moment) (slot : ℕ) (home home' : Homes) (p p' : Process) (call : SystemCall) (o : Outcome)
+pub served_itself : (m : Moment) (slot : ℕ) (home home' : Homes) (p p' : Process) (call : CallForm) (o : Outcome)
     (d d' : Drivers) → IsServed m.settings.strict slot home home' p p' call o
     → Drives (id_of slot (own_of home slot)) (acts_for o) d d'
     → Finishes m slot home p call home' p' o d d'

@@ -1,9 +1,8 @@
 -- What a turn that shows a denial leaves: no alarm of its process, which leaves all queues.
 use Rattle.std.proofs.Common.{◌≡◌, ℕ, Bool, true, false, cond, is_some, List, Option, None, Some, Result, Ok, Err, refl}
 use Rattle.std.proofs.lemmas.Bool.{false≢true}
-use Rattle.std.specs.Option.{option_and_then, option_map}
+use Rattle.std.specs.Option.{option_map}
 use Rattle.std.specs.Prelude.{unwrap_or}
-use Rattle.std.specs.Result.{result_ok}
 use Rattle.tk_base.specs.declared.access.Denial.{Denial}
 use Rattle.fault_policy.specs.declared.Action.{Action}
 use Rattle.fault_policy.specs.declared.Action.TheVariants.{Stop, Restart}
@@ -11,7 +10,7 @@ use Rattle.fault_policy.specs.Policy.{decision}
 use Rattle.rv32_model.specs.declared.turn_end.TurnEnd.{TurnEnd}
 use Rattle.rv32_model.specs.declared.turn_end.TurnEnd.TheVariants.{Went, Call, Trap}
 use Rattle.rv32_model.specs.UserTurn.{MemoryAccess}
-use Rattle.syscall_abi.specs.declared.call.Call.{Call as SystemCall}
+use Rattle.syscall_abi.specs.declared.form.CallForm.{CallForm}
 use Rattle.syscall_abi.specs.Call.{call_of}
 use Rattle.tbf_headers.specs.declared.fault.HeaderFault.{HeaderFault}
 use Rattle.tbf_headers.specs.declared.program.Main.{Main}
@@ -24,7 +23,7 @@ use Rattle.driver_model.specs.Commands.{leaving_all}
 use Rattle.kernel_model.specs.Record.{Record, instruction, with_effect}
 use Rattle.kernel_model.specs.declared.settings.Settings.{Settings}
 use Rattle.kernel_model.specs.Calls.{restart, restarted_with}
-use Rattle.kernel_model.specs.Parts.{calls}
+use Rattle.kernel_model.specs.Parts.{calls, restarted_by}
 use Rattle.kernel_model.specs.Turn.{Turned, at_turn_end, faulted, idle, settled, turn_counted, turn_in, turned}
 
 -- a process has no alarm armed, or lives no more
@@ -37,7 +36,7 @@ LeavesNothing t = is_some t.told.denial ≡ true → HasNoneArmed t.after.own ×
 
 -- an application that starts again has no grants
 restarted_none : (r : Record) (read : Result Meaning HeaderFault) → is_some (main_by read) ≡ true
-    → HasNoneArmed (unwrap_or (option_and_then (λ h. option_map (restarted_with r h) h.main) (result_ok read)) r).own
+    → HasNoneArmed (restarted_by r read).own
 restarted_none r (Err fault) can = absurd (false≢true can)
 restarted_none r (Ok h) can = by_main h.main can
   where
@@ -65,7 +64,7 @@ ended_none : (settings : Settings) (time : ℕ) (r : Record) (accesses : List Me
 ended_none settings time r accesses Went can = λ denied. absurd (false≢true denied)
 ended_none settings time r accesses Call can = by_call (call_of r.process.regs)
   where
-    by_call : (call : Option SystemCall) → LeavesNothing (calls settings time r accesses call)
+    by_call : (call : Option CallForm) → LeavesNothing (calls settings time r accesses call)
     by_call None = faulted_none settings r _ can
     by_call (Some call) = λ denied. absurd (false≢true denied)
 ended_none settings time r accesses (Trap denial) can = faulted_none settings r denial can

@@ -9,9 +9,7 @@ use Rattle.tk_base.specs.Regs.{Registers}
 use Rattle.tk_base.specs.declared.call.CallRule.{CallRule}
 use Rattle.tk_base.specs.declared.call.CallRule.TheVariants.{Break, Index, NoDriver, NoOperation, Permission}
 use Rattle.tk_base.specs.declared.upcall.Upcall.{Upcall}
-use Rattle.syscall_abi.specs.Call.{form_of}
 use Rattle.syscall_abi.specs.Reply.{put_reply}
-use Rattle.syscall_abi.specs.declared.call.Call.{Call}
 use Rattle.syscall_abi.specs.declared.form.CallForm.{CallForm}
 use Rattle.syscall_abi.specs.declared.form.CallForm.TheVariants as forms
 use Rattle.syscall_abi.specs.declared.form.Swap.{Swap}
@@ -182,9 +180,9 @@ form_stands around r (forms.Command driver number a2 a3) = command_stands around
 form_stands around r (forms.Memop operation argument) = memop_stands r operation argument
 form_stands around r (forms.Exit kind code) = exit_stands r kind code
 
-pub reply_stands : (strict : Bool) (around : CommandContext) (r : Record) (call : Call)
+pub reply_stands : (strict : Bool) (around : CommandContext) (r : Record) (call : CallForm)
     → Stands r.process.regs (served strict around r call)
 unfolding served
 reply_stands strict around r call =
-    either_stands r.process.regs _ _ _ (form_stands around r (form_of call))
-    (refused_stands r Permission (failure_of (form_of call) Permission))
+    either_stands r.process.regs _ _ _ (form_stands around r call)
+    (refused_stands r Permission (failure_of call Permission))

@@ -28,7 +28,7 @@ use Rattle.kernel_model.specs.Parts.{calls}
 use Rattle.kernel_calls.specs.Own.{Beside, record_in}
 use Rattle.kernel_calls.specs.Outcomes.{record_of_slot}
 use Rattle.kernel_model.specs.Calls.{served}
-use Rattle.syscall_abi.specs.declared.call.Call.{Call}
+use Rattle.syscall_abi.specs.declared.form.CallForm.{CallForm}
 use Rattle.process_record.specs.declared.outcome.Outcome.{Outcome}
 use Rattle.board_drivers.specs.declared.moment.Moment.{Moment}
 use Rattle.board_turns.specs.declared.turn.Shown.{Shown}
@@ -110,8 +110,8 @@ Turns m slot flash old new shown d d_after =
     Does (λ beside. turned m.settings m.time (record_in flash old.0 old.1 beside)) slot flash old new shown d d_after
 
 -- what a call of the process in a slot leaves at a moment, what comes of it, and what the drivers do for it
-pub record Finishes (m : Moment) (slot : ℕ) (home : Homes) (process : Process) (call : Call) (home_after : Homes)
-    (process_after : Process) (outcome : Outcome) (d d_after : Drivers) : Type 0 where
+pub record Finishes (m : Moment) (slot : ℕ) (home : Homes) (process : Process) (call : CallForm)
+    (home_after : Homes) (process_after : Process) (outcome : Outcome) (d d_after : Drivers) : Type 0 where
   pub acts : List BoardRequest
   pub serves : (storage : List ℕ) →
       let beside = beside_in d storage in
@@ -214,7 +214,7 @@ ServesCallOn slot old new process process_after shown =
     (resident new.home slot process_after) shown old.drivers new.drivers
 
 -- what a call leaves there, and what comes of it
-abbrev pub FinishesOn : ℕ → Machine → Machine → Process → Process → Call → Outcome → Type 0
+abbrev pub FinishesOn : ℕ → Machine → Machine → Process → Process → CallForm → Outcome → Type 0
 FinishesOn slot old new process process_after call outcome =
     Finishes old.moment slot old.home process call new.home process_after outcome old.drivers new.drivers
 

@@ -5,6 +5,7 @@ ghost use Rattle.process_model.specs.Own.{own_ended};
 ghost use Rattle.process_record.specs.Parts.{after_fault};
 ghost use Rattle.grant_enter.specs.Homes.{own_of, ChangesOnly};
 ghost use Rattle.driver_model.specs.Commands.{leaving_all};
+ghost use Rattle.syscall_abi.specs.Forms.{form_of};
 ghost use Rattle.kernel_calls.specs.Outcomes.{acts_for, is_for_driver};
 ghost use Rattle.process_model.specs.Flash.{object_in};
 ghost use Rattle.kernel_calls.specs.Own.{Beside, record_in};
@@ -184,9 +185,9 @@ impl Machine {
         requires turn { InTurn self.old.moment slot self.old.home process.old }
         requires may { MayServeOn slot self.old }
         requires left { is_for_driver self.old.moment.settings.strict
-            (object_in self.old.home.flash process.old.object) call.now ≡ true }
-        ensures serves { FinishesOn slot self.old self.new process.old process.new call.now
-            result }
+            (object_in self.old.home.flash process.old.object) (form_of call.now) ≡ true }
+        ensures serves { FinishesOn slot self.old self.new process.old process.new
+            (form_of call.now) result }
         ensures leaves { LeavesSlot (self.old.moment.steps + 1) slot self.old.home self.new.home
             process.new }
         ensures guard { self.new.guard ≡ self.old.guard }
@@ -220,8 +221,8 @@ impl Machine {
     fn serve(&mut self, process: &mut Process, slot: Slot, call: &Call) -> Outcome
         requires turn { InTurnOn slot self.old process.old }
         requires may { MayServeOn slot self.old }
-        ensures serves { FinishesOn slot self.old self.new process.old process.new call.now
-            result }
+        ensures serves { FinishesOn slot self.old self.new process.old process.new
+            (form_of call.now) result }
         ensures leaves { LeavesOn 1 slot self.old self.new process.new }
     {
         let layout = self.home.layout(slot);

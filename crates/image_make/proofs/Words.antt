@@ -11,7 +11,8 @@ use Rattle.rv32_decode.proofs.ByOpcode.{branch_rows, jalr_row, op_imm_rows, stor
 use Rattle.image_make.specs.declared.assembler.Register.{Register}
 use Rattle.image_make.specs.declared.assembler.Register.TheVariants.{Zero, Ra, T0, S0, S1, A0, A1, A2, A3, A4}
 use Rattle.image_make.specs.declared.assembler.Instruction.TheVariants.{Word, Addi, Li, Mv, Bne, Jalr, Sw, Ecall}
-use Rattle.image_make.specs.Assembler.{b_type, i_type, register_number, s_type}
+use Rattle.image_make.specs.Assembler.{bne, i_type}
+use Rattle.image_make.specs.Encoding.{register_number, sw}
 use Rattle.image_make.specs.Decoded.{WordsAreDecoded, signed_number, signed_offset}
 
 number_below : (r : Register) → register_number r < 32
@@ -46,54 +47,55 @@ fields high rs1 funct3 low opcode h s f l o = record {
   high = omega arith;
 }
 
-i_fields : (opcode funct3 : ℕ) (rd rs1 : Register) (imm : ℕ) → opcode < 128 → funct3 < 8
-    → HasFields (i_type opcode funct3 rd rs1 imm) opcode funct3 (register_number rs1) (register_number rd)
-    (imm % 2 ^ 12)
+i_fields : (opcode : ℕ) (rd rs1 : Register) (imm : ℕ) → opcode < 128
+    → HasFields (i_type opcode (register_number rd) (register_number rs1) imm) opcode 0 (register_number rs1)
+    (register_number rd) (imm % 2 ^ 12)
 unfolding i_type
-i_fields opcode funct3 rd rs1 imm o f =
-    fields (imm % 2 ^ 12) (register_number rs1) funct3 (register_number rd) opcode (omega arith) (number_below rs1) f
-    (number_below rd) o
+i_fields opcode rd rs1 imm o =
+    subst (λ (w : ℕ). HasFields w opcode 0 (register_number rs1) (register_number rd) (imm % 2 ^ 12)) (omega arith)
+    (fields (imm % 2 ^ 12) (register_number rs1) 0 (register_number rd) opcode (omega arith) (number_below rs1)
+    (omega arith) (number_below rd) o)
 
 add_decoded : (rd rs1 : Register) (imm : ℕ)
-    → decoding (i_type 0x13 0 rd rs1 imm)
+    → decoding (i_type 0x13 (register_number rd) (register_number rs1) imm)
     ≡ Some (instrs.OpImm ops.Add (register_number rd) (register_number rs1) (signed_number imm))
 add_decoded rd rs1 imm =
-    let w = i_type 0x13 0 rd rs1 imm in
-    let h = i_fields 0x13 0 rd rs1 imm (omega arith) (omega arith) in
+    let w = i_type 0x13 (register_number rd) (register_number rs1) imm in
+    let h = i_fields 0x13 rd rs1 imm (omega arith) in
     op_imm_rows w h.below h.opcode ∙ ap (λ (f3 : ℕ). op_imm_of w f3 (funct7_of w)) h.funct3
     ∙ ap (λ (d : ℕ). Some (instrs.OpImm ops.Add d (rs1_of w) (imm_i w))) h.low
     ∙ ap₂ (λ (s i : ℕ). Some (instrs.OpImm ops.Add (register_number rd) s (sign_extended 12 i))) h.rs1 h.high
 
 jalr_decoded : (rd rs1 : Register) (imm : ℕ)
-    → decoding (i_type 0x67 0 rd rs1 imm)
+    → decoding (i_type 0x67 (register_number rd) (register_number rs1) imm)
     ≡ Some (instrs.Jalr (register_number rd) (register_number rs1) (signed_number imm))
 jalr_decoded rd rs1 imm =
-    let w = i_type 0x67 0 rd rs1 imm in
-    let h = i_fields 0x67 0 rd rs1 imm (omega arith) (omega arith) in
+    let w = i_type 0x67 (register_number rd) (register_number rs1) imm in
+    let h = i_fields 0x67 rd rs1 imm (omega arith) in
     jalr_row w h.below h.opcode ∙ ap (jalr_of w) h.funct3
     ∙ ap (λ (d : ℕ). Some (instrs.Jalr d (rs1_of w) (imm_i w))) h.low
     ∙ ap₂ (λ (s i : ℕ). Some (instrs.Jalr (register_number rd) s (sign_extended 12 i))) h.rs1 h.high
 
 -- a store: the offset stands in two parts
-s_fields : (opcode funct3 : ℕ) (rs2 rs1 : Register) (imm : ℕ) → opcode < 128 → funct3 < 8
-    → HasFields (s_type opcode funct3 rs2 rs1 imm) opcode funct3 (register_number rs1) (imm % 2 ^ 5)
+s_fields : (rs2 rs1 : Register) (imm : ℕ)
+    → HasFields (sw (register_number rs2) (register_number rs1) imm) 0x23 2 (register_number rs1) (imm % 2 ^ 5)
     (imm / 2 ^ 5 % 2 ^ 7 * 2 ^ 5 + register_number rs2)
-unfolding s_type
-s_fields opcode funct3 rs2 rs1 imm o f =
-    subst (λ (w : ℕ). HasFields w opcode funct3 (register_number rs1) (imm % 2 ^ 5)
+unfolding sw
+s_fields rs2 rs1 imm =
+    subst (λ (w : ℕ). HasFields w 0x23 2 (register_number rs1) (imm % 2 ^ 5)
     (imm / 2 ^ 5 % 2 ^ 7 * 2 ^ 5 + register_number rs2)) (omega arith)
-    (fields (imm / 2 ^ 5 % 2 ^ 7 * 2 ^ 5 + register_number rs2) (register_number rs1) funct3 (imm % 2 ^ 5) opcode
-    (omega (arith, number_below rs2)) (number_below rs1) f (omega arith) o)
+    (fields (imm / 2 ^ 5 % 2 ^ 7 * 2 ^ 5 + register_number rs2) (register_number rs1) 2 (imm % 2 ^ 5) 0x23
+    (omega (arith, number_below rs2)) (number_below rs1) (omega arith) (omega arith) (omega arith))
 
 upper : (w a t : ℕ) → bits_of w 20 12 ≡ a * 2 ^ 5 + t → t < 32 → (bits_of w 25 7 ≡ a) × (rs2_of w ≡ t)
 upper w a t is small = (omega (arith, is), omega (arith, is))
 
 store_decoded : (rs2 rs1 : Register) (imm : ℕ)
-    → decoding (s_type 0x23 2 rs2 rs1 imm)
+    → decoding (sw (register_number rs2) (register_number rs1) imm)
     ≡ Some (instrs.Store widths.Word (register_number rs1) (register_number rs2) (signed_number imm))
 store_decoded rs2 rs1 imm =
-    let w = s_type 0x23 2 rs2 rs1 imm in
-    let h = s_fields 0x23 2 rs2 rs1 imm (omega arith) (omega arith) in
+    let w = sw (register_number rs2) (register_number rs1) imm in
+    let h = s_fields rs2 rs1 imm in
     let parts = upper w (imm / 2 ^ 5 % 2 ^ 7) (register_number rs2) h.high (number_below rs2) in
     store_rows w h.below h.opcode ∙ ap (store_of w) h.funct3
     ∙ ap₂ (λ (s t : ℕ). Some (instrs.Store widths.Word s t (imm_s w))) h.rs1 parts.1
@@ -106,24 +108,24 @@ store_decoded rs2 rs1 imm =
     joined n = omega arith
 
 -- a branch: in four parts
-b_fields : (opcode funct3 : ℕ) (rs1 rs2 : Register) (imm : ℕ) → opcode < 128 → funct3 < 8
-    → HasFields (b_type opcode funct3 rs1 rs2 imm) opcode funct3 (register_number rs1)
+b_fields : (rs1 rs2 : Register) (imm : ℕ)
+    → HasFields (bne (register_number rs1) (register_number rs2) imm) 0x63 1 (register_number rs1)
     (imm / 2 % 2 ^ 4 * 2 + imm / 2 ^ 11 % 2)
     ((imm / 2 ^ 12 % 2 * 2 ^ 6 + imm / 2 ^ 5 % 2 ^ 6) * 2 ^ 5 + register_number rs2)
-unfolding b_type
-b_fields opcode funct3 rs1 rs2 imm o f =
+unfolding bne
+b_fields rs1 rs2 imm =
     by_parts (imm / 2 ^ 12 % 2) (imm / 2 ^ 5 % 2 ^ 6) (imm / 2 % 2 ^ 4) (imm / 2 ^ 11 % 2) (omega arith) (omega arith)
     (omega arith) (omega arith)
   where
     by_parts : (a b c d : ℕ) → a < 2 → b < 2 ^ 6 → c < 2 ^ 4 → d < 2
         → HasFields (a * 2 ^ 31 + b * 2 ^ 25 + register_number rs2 * 2 ^ 20 + register_number rs1 * 2 ^ 15
-        + funct3 * 2 ^ 12 + c * 2 ^ 8 + d * 2 ^ 7 + opcode) opcode funct3 (register_number rs1) (c * 2 + d)
+        + 1 * 2 ^ 12 + c * 2 ^ 8 + d * 2 ^ 7 + 0x63) 0x63 1 (register_number rs1) (c * 2 + d)
         ((a * 2 ^ 6 + b) * 2 ^ 5 + register_number rs2)
     by_parts a b c d ha hb hc hd =
-        subst (λ (w : ℕ). HasFields w opcode funct3 (register_number rs1) (c * 2 + d)
+        subst (λ (w : ℕ). HasFields w 0x63 1 (register_number rs1) (c * 2 + d)
         ((a * 2 ^ 6 + b) * 2 ^ 5 + register_number rs2)) (omega arith)
-        (fields ((a * 2 ^ 6 + b) * 2 ^ 5 + register_number rs2) (register_number rs1) funct3 (c * 2 + d) opcode
-        (omega (arith, number_below rs2)) (number_below rs1) f (omega arith) o)
+        (fields ((a * 2 ^ 6 + b) * 2 ^ 5 + register_number rs2) (register_number rs1) 1 (c * 2 + d) 0x63
+        (omega (arith, number_below rs2)) (number_below rs1) (omega arith) (omega arith) (omega arith))
 
 branch_parts : (w a b c d : ℕ) → bits_of w 25 7 ≡ a * 2 ^ 6 + b → bits_of w 7 5 ≡ c * 2 + d → a < 2 → b < 2 ^ 6
     → c < 2 ^ 4 → d < 2
@@ -137,11 +139,11 @@ branch_parts w a b c d high low ha hb hc hd =
     omega (arith, top, next, last, others)
 
 branch_decoded : (rs1 rs2 : Register) (imm : ℕ)
-    → decoding (b_type 0x63 1 rs1 rs2 imm)
+    → decoding (bne (register_number rs1) (register_number rs2) imm)
     ≡ Some (instrs.Branch tests.Bne (register_number rs1) (register_number rs2) (signed_offset imm))
 branch_decoded rs1 rs2 imm =
-    let w = b_type 0x63 1 rs1 rs2 imm in
-    let h = b_fields 0x63 1 rs1 rs2 imm (omega arith) (omega arith) in
+    let w = bne (register_number rs1) (register_number rs2) imm in
+    let h = b_fields rs1 rs2 imm in
     let parts = upper w (imm / 2 ^ 12 % 2 * 2 ^ 6 + imm / 2 ^ 5 % 2 ^ 6) (register_number rs2) h.high
     (number_below rs2) in
     branch_rows w h.below h.opcode ∙ ap (branch_of w) h.funct3

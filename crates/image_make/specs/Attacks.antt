@@ -7,10 +7,11 @@ use Rattle.image_make.specs.declared.assembler.Instruction.{Instruction}
 use Rattle.image_make.specs.declared.assembler.Instruction.TheVariants.{Word, Addi, Li, Mv, Jalr, Sw, Ecall}
 use Rattle.image_make.specs.Program.{header_words}
 use Rattle.image_make.specs.Generator.{assembled}
+use Rattle.image_make.specs.Encoding.{code_bytes}
 
 -- the object of an application: its header of 32 bytes, and the words of its program
 abbrev pub application_object : List Instruction → List ℕ
-application_object code = assembled (header_words (32 + 4 * length code)) ++ assembled code
+application_object code = assembled (header_words (32 + 4 * length code)) ++ code_bytes code
 
 -- It exits with the completion code 7; then come 16 bytes of zero.
 abbrev pub exit_7 : List Instruction

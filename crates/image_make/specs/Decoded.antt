@@ -10,7 +10,7 @@ use Rattle.rv32_model.specs.declared.instr.Instr.TheVariants as instrs
 use Rattle.rv32_model.specs.Instructions.{decoding, sign_extended}
 use Rattle.image_make.specs.declared.assembler.Instruction.{Instruction}
 use Rattle.image_make.specs.declared.assembler.Instruction.TheVariants.{Word, Addi, Li, Mv, Bne, Jalr, Sw, Ecall}
-use Rattle.image_make.specs.Assembler.{instruction_word, register_number}
+use Rattle.image_make.specs.Encoding.{instruction_word, register_number}
 
 -- a number that is given modulo 2^12, with its sign
 abbrev pub signed_number : ℕ → ℕ

@@ -3,8 +3,6 @@
 use Rattle.std.specs.Prelude.{ℕ, zero, suc, ◌+◌, ◌*◌, ◌/◌, ◌%◌, ◌^◌, List, [], ◌∷◌, ◌++◌, codes, decimal, flat_map}
 use Rattle.std.specs.Int.{to_le_bytes, w32}
 use Rattle.tk_outside.specs.Text.{hex_digits}
-use Rattle.image_make.specs.declared.assembler.Instruction.{Instruction}
-use Rattle.image_make.specs.Assembler.{instruction_word}
 use Rattle.image_make.specs.Program.{program, header_words}
 
 -- the draw after a draw, or after the number
@@ -16,8 +14,8 @@ unfoldable pub message : ℕ → ℕ → List ℕ
 message k d = codes "p" ++ (48 + k) ∷ codes " " ++ hex_digits 4 (d / 2 ^ 16) ++ codes "\n"
 
 -- the bytes of words, each with its lowest byte first
-abbrev pub assembled : List Instruction → List ℕ
-assembled code = flat_map (λ instruction. to_le_bytes w32 (instruction_word instruction)) code
+abbrev pub assembled : List ℕ → List ℕ
+assembled words = flat_map (to_le_bytes w32) words
 
 -- the object of application k, from the four draws after a draw: for its rounds, its spins, its exit code and its
 -- message

@@ -1,4 +1,5 @@
 pub mod Assembler
+pub mod Encoding
 pub mod Decoded
 pub mod Program
 pub mod Generator

@@ -1,7 +1,8 @@
 //! The instructions that the programs are made of, and their words (RISC-V unprivileged manual, "RV32I
 //! Base Integer Instruction Set" and "RISC-V Assembly Programmer's Handbook").
 ghost use Rattle.std.specs.Prelude.{◌≡◌, ◌<◌};
-ghost use Rattle.image_make.specs.Assembler.{register_number, i_type, b_type, s_type, instruction_word};
+ghost use Rattle.image_make.specs.Assembler.{bne, i_type};
+ghost use Rattle.image_make.specs.Encoding.{instruction_word, register_number, sw};
 
 /// The registers that the programs use, by their names in the calling convention.
 #[derive(Clone, Copy)]
@@ -64,48 +65,39 @@ pub enum Instruction {
 
 /// An instruction with a 12-bit number.
 #[tactic(auto, unfolding(crate::specs::Assembler::i_type))]
-fn i_type(opcode: u32, funct3: u32, rd: Register, rs1: Register, number: u32) -> u32
-    requires opcode { opcode < 128 }
-    requires funct3 { funct3 < 8 }
-    ensures { result ≡ i_type opcode funct3 rd rs1 number }
+fn i_type(opcode: u32, rd: Register, rs1: Register, number: u32) -> u32
+    requires { opcode < 128 }
+    ensures { result ≡ i_type opcode (register_number rd) (register_number rs1) number }
 {
-    number % (1 << 12) * (1 << 20)
-        + rs1.number() * (1 << 15)
-        + funct3 * (1 << 12)
-        + rd.number() * (1 << 7)
-        + opcode
+    number % (1 << 12) * (1 << 20) + rs1.number() * (1 << 15) + rd.number() * (1 << 7) + opcode
 }
 
-/// A branch, whose offset has 13 bits.
-#[tactic(auto, unfolding(crate::specs::Assembler::b_type))]
-fn b_type(opcode: u32, funct3: u32, rs1: Register, rs2: Register, offset: u32) -> u32
-    requires opcode { opcode < 128 }
-    requires funct3 { funct3 < 8 }
-    ensures { result ≡ b_type opcode funct3 rs1 rs2 offset }
+/// A branch where two registers differ, whose offset has 13 bits.
+#[tactic(auto, unfolding(crate::specs::Assembler::bne))]
+fn bne(rs1: Register, rs2: Register, offset: u32) -> u32
+    ensures { result ≡ bne (register_number rs1) (register_number rs2) offset }
 {
     offset / (1 << 12) % 2 * (1 << 31)
         + offset / (1 << 5) % (1 << 6) * (1 << 25)
         + rs2.number() * (1 << 20)
         + rs1.number() * (1 << 15)
-        + funct3 * (1 << 12)
+        + (1 << 12)
         + offset / 2 % (1 << 4) * (1 << 8)
         + offset / (1 << 11) % 2 * (1 << 7)
-        + opcode
+        + 0x63
 }
 
-/// A store, whose offset has 12 bits.
-#[tactic(auto, unfolding(crate::specs::Assembler::s_type))]
-fn s_type(opcode: u32, funct3: u32, rs2: Register, rs1: Register, offset: u32) -> u32
-    requires opcode { opcode < 128 }
-    requires funct3 { funct3 < 8 }
-    ensures { result ≡ s_type opcode funct3 rs2 rs1 offset }
+/// A store of a word, whose offset has 12 bits.
+#[tactic(auto, unfolding(crate::specs::Encoding::sw))]
+fn sw(rs2: Register, rs1: Register, offset: u32) -> u32
+    ensures { result ≡ sw (register_number rs2) (register_number rs1) offset }
 {
     offset / (1 << 5) % (1 << 7) * (1 << 25)
         + rs2.number() * (1 << 20)
         + rs1.number() * (1 << 15)
-        + funct3 * (1 << 12)
+        + 2 * (1 << 12)
         + offset % (1 << 5) * (1 << 7)
-        + opcode
+        + 0x23
 }
 
 impl Instruction {
@@ -115,12 +107,12 @@ impl Instruction {
     {
         match self {
             Instruction::Word(word) => word,
-            Instruction::Addi(rd, rs1, number) => i_type(0x13, 0, rd, rs1, number),
-            Instruction::Li(rd, number) => i_type(0x13, 0, rd, Register::Zero, number),
-            Instruction::Mv(rd, rs1) => i_type(0x13, 0, rd, rs1, 0),
-            Instruction::Bne(rs1, rs2, offset) => b_type(0x63, 1, rs1, rs2, offset),
-            Instruction::Jalr(rd, rs1, offset) => i_type(0x67, 0, rd, rs1, offset),
-            Instruction::Sw(rs2, rs1, offset) => s_type(0x23, 2, rs2, rs1, offset),
+            Instruction::Addi(rd, rs1, number) => i_type(0x13, rd, rs1, number),
+            Instruction::Li(rd, number) => i_type(0x13, rd, Register::Zero, number),
+            Instruction::Mv(rd, rs1) => i_type(0x13, rd, rs1, 0),
+            Instruction::Bne(rs1, rs2, offset) => bne(rs1, rs2, offset),
+            Instruction::Jalr(rd, rs1, offset) => i_type(0x67, rd, rs1, offset),
+            Instruction::Sw(rs2, rs1, offset) => sw(rs2, rs1, offset),
             Instruction::Ecall => 0x73,
         }
     }

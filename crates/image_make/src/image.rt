@@ -1,6 +1,7 @@
 //! The two files.
 ghost use Rattle.std.specs.Prelude.{◌≡◌, ◌<◌, ◌≤◌, ◌++◌, IfOk, OnOk, length};
 ghost use Rattle.image_make.specs.Program.{header_words};
+ghost use Rattle.image_make.specs.Encoding.{code_bytes};
 ghost use Rattle.image_make.specs.Generator.{message, assembled, object_of, soak_objects, soak_flash, soak_script};
 ghost use Rattle.image_make.specs.Parts.{fourth, script_line};
 
@@ -39,7 +40,7 @@ fn message(k: u8, draw: u32) -> [u8; 8]
 /// The header of an application of so many bytes (Tock Binary Format, "TBF Header Base" and "Main").
 #[tactic(auto, unfolding(crate::specs::Program::header_words))]
 pub fn header_of(size: u32) -> [Instruction; 8]
-    ensures { result ≡ header_words size }
+    ensures { code_bytes result ≡ assembled (header_words size) }
 {
     [
         Word(0x0020_0002),
@@ -55,7 +56,7 @@ pub fn header_of(size: u32) -> [Instruction; 8]
 
 /// Appends the words of instructions.
 pub fn put_code(flash: &mut Vec<u8>, code: &[Instruction]) -> Result<(), AllocError>
-    ensures { OnOk result (flash.new.items ≡ flash.old.items ++ assembled code.now) }
+    ensures { OnOk result (flash.new.items ≡ flash.old.items ++ code_bytes code.now) }
 {
     for instruction in code {
         flash.extend_from_slice(&instruction.word().to_le_bytes())?;

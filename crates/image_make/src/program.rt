@@ -1,6 +1,8 @@
 //! The program of a soak application.
 ghost use Rattle.std.specs.Prelude.{◌≡◌};
 ghost use Rattle.image_make.specs.Program.{program};
+ghost use Rattle.image_make.specs.Generator.{assembled};
+ghost use Rattle.image_make.specs.Encoding.{code_bytes};
 
 use crate::assembler::Instruction::{self, Addi, Bne, Ecall, Jalr, Li, Mv};
 use crate::assembler::Register::{A0, A1, A2, A3, A4, Ra, S0, S1, T0, Zero};
@@ -18,7 +20,7 @@ const BACK_76: u32 = (1 << 13) - 76;
 /// and spins so many times, and then exits with a code.
 #[tactic(auto, unfolding(crate::specs::Program::program))]
 pub fn program(rounds: u32, spins: u32, code: u32) -> [Instruction; 33]
-    ensures { result ≡ program rounds spins code }
+    ensures { code_bytes result ≡ assembled (program rounds spins code) }
 {
     [
         Mv(S0, A0),

@@ -4,7 +4,6 @@ use Rattle.std.proofs.Common.{Option, None, Some, Result, Ok, Err, slice_get, sl
 use Rattle.std.proofs.Common.{subst, ◌∙◌, arith, eqb-true}
 use Rattle.std.proofs.lemmas.Bool.{false≢true}
 use Rattle.std.proofs.lemmas.Bool.Decides.{nat_tests}
-use Rattle.std.specs.Option.{option_map}
 use Rattle.tk_base.specs.Regs.{Registers}
 use Rattle.tk_base.specs.declared.access.Denial.{Denial}
 use Rattle.tk_base.specs.declared.call.CallRule.{CallRule}
@@ -16,12 +15,11 @@ use Rattle.grant_values.specs.Drivers.{drivers}
 use Rattle.rv32_model.specs.declared.turn_end.TurnEnd.{TurnEnd}
 use Rattle.rv32_model.specs.declared.turn_end.TurnEnd.TheVariants as ends
 use Rattle.rv32_model.specs.UserTurn.{MemoryAccess}
-use Rattle.syscall_abi.specs.declared.call.Call.{Call as SystemCall}
 use Rattle.syscall_abi.specs.declared.form.CallForm.{CallForm}
 use Rattle.syscall_abi.specs.declared.form.CallForm.TheVariants as forms
 use Rattle.syscall_abi.specs.declared.form.Swap.{Swap}
 use Rattle.syscall_abi.specs.declared.reply.Reply.{Reply}
-use Rattle.syscall_abi.specs.Call.{a0, a1, call_of, class, form_of}
+use Rattle.syscall_abi.specs.Call.{a0, a1, call_of, class}
 use Rattle.process_model.specs.Own.{Own}
 use Rattle.process_model.specs.Flag.{with_flag}
 use Rattle.process_model.specs.Handed.{lies_in_ram}
@@ -65,15 +63,11 @@ leaves r s none same = record { asks_nothing = λ quiet. none; same = λ quiet. 
 same_alarm : (own : Own) → HasSameAlarm own own
 same_alarm own = (refl, refl)
 
--- the form of the call that registers make
-abbrev form_in : Registers → Option CallForm
-form_in regs = option_map form_of (call_of regs)
-
 -- registers that make an exit have its class
-exit_class : (regs : Registers) (kind code : ℕ) → form_in regs ≡ Some (forms.Exit kind code) → class regs ≡ 6
+exit_class : (regs : Registers) (kind code : ℕ) → call_of regs ≡ Some (forms.Exit kind code) → class regs ≡ 6
 exit_class regs kind code =
-    of_registers (λ (o : Option SystemCall). option_map form_of o ≡ Some (forms.Exit kind code) → class regs ≡ 6) regs
-    (λ is e. absurd (cc)) (λ swapped call is swaps e. absurd (cc)) (λ is e. absurd (cc)) (λ is e. absurd (cc))
+    of_registers (λ (o : Option CallForm). o ≡ Some (forms.Exit kind code) → class regs ≡ 6) regs
+    (λ is e. absurd (cc)) (λ kind is e. absurd (cc)) (λ is e. absurd (cc)) (λ is e. absurd (cc))
     (λ is e. is) (λ e. absurd (cc))
 
 -- registers that make a command have its class, its driver and its number
@@ -83,11 +77,11 @@ record IsCommand (regs : Registers) (driver number : ℕ) : Type 0 where
   number_is : a1 regs ≡ number
 
 command_class : (regs : Registers) (driver number x y : ℕ)
-    → form_in regs ≡ Some (forms.Command driver number x y) → IsCommand regs driver number
+    → call_of regs ≡ Some (forms.Command driver number x y) → IsCommand regs driver number
 command_class regs driver number x y =
-    of_registers (λ (o : Option SystemCall). option_map form_of o ≡ Some (forms.Command driver number x y)
+    of_registers (λ (o : Option CallForm). o ≡ Some (forms.Command driver number x y)
     → IsCommand regs driver number) regs
-    (λ is e. absurd (cc)) (λ swapped call is swaps e. absurd (cc))
+    (λ is e. absurd (cc)) (λ kind is e. absurd (cc))
     (λ is e. record { class_is = is; driver_is = cc; number_is = cc })
     (λ is e. absurd (cc)) (λ is e. absurd (cc)) (λ e. absurd (cc))
 
@@ -248,7 +242,7 @@ module _ (law : RefusedByAnyDriver) (around : CommandContext) (r : Record) where
       arms = ap (λ (c : ℕ). cond (c == 2) (not asks) (c == 6) && cond (c == 2) (a0 r.process.regs == alarm_driver) true)
           six
 
-  of_form : (form : CallForm) → form_in r.process.regs ≡ Some form → Leaves r (by_form around r form)
+  of_form : (form : CallForm) → call_of r.process.regs ≡ Some form → Leaves r (by_form around r form)
   unfolding by_form
   of_form (forms.Yield number b1 b2) is = of_yield number b1 b2
   of_form (forms.Swap swap) is = of_swap swap (swap_refusal swap r.own)
@@ -257,11 +251,11 @@ module _ (law : RefusedByAnyDriver) (around : CommandContext) (r : Record) where
   of_form (forms.Memop operation argument) is = of_memop operation argument
   of_form (forms.Exit kind code) is = of_exit kind code (exit_class r.process.regs kind code is)
 
-  of_served : (strict : Bool) (call : SystemCall) → call_of r.process.regs ≡ Some call
+  of_served : (strict : Bool) (call : CallForm) → call_of r.process.regs ≡ Some call
       → Leaves r (served strict around r call)
   unfolding served
   of_served strict call is =
-      by_test (Leaves r) (object_permits strict r.object call) _ _ (of_form (form_of call) (ap (option_map form_of) is))
+      by_test (Leaves r) (object_permits strict r.object call) _ _ (of_form call is)
       (leaves r _ refl (same_alarm r.own))
 
 -- the same of a turn
@@ -280,7 +274,7 @@ of_fault settings r denial = record {
 }
 
 of_calls : RefusedByAnyDriver → (settings : Settings) (time : ℕ) (r : Record) (accesses : List MemoryAccess)
-    (call : Option SystemCall) → call_of r.process.regs ≡ call → Quiet r (calls settings time r accesses call)
+    (call : Option CallForm) → call_of r.process.regs ≡ call → Quiet r (calls settings time r accesses call)
 of_calls law settings time r accesses None is = of_fault settings r (unknown_call r.process)
 of_calls law settings time r accesses (Some call) is =
     let l = of_served law (surroundings settings time r) r settings.strict call is in

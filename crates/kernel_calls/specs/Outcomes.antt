@@ -2,10 +2,8 @@
 use Rattle.std.specs.Prelude.{◌≡◌, ℕ, ◌<◌, ◌^◌, nat_lt, Bool, true, false, ◌&&◌, if◌then◌else◌, List, []}
 use Rattle.std.specs.Prelude.{length, Option, None, Some, Result, Ok, Err}
 use Rattle.tk_base.specs.declared.call.CallRule.{CallRule}
-use Rattle.syscall_abi.specs.declared.call.Call.{Call}
 use Rattle.syscall_abi.specs.declared.form.CallForm.{CallForm}
 use Rattle.syscall_abi.specs.declared.form.CallForm.TheVariants.{Command}
-use Rattle.syscall_abi.specs.Call.{form_of}
 use Rattle.process_model.specs.Own.{Own}
 use Rattle.process_record.specs.declared.outcome.Outcome.{Outcome}
 use Rattle.process_record.specs.declared.outcome.Outcome.TheVariants.{Replied, ToDriver, Waits, Delivered, GoesOn}
@@ -49,17 +47,13 @@ abbrev pub is_taken : CallForm → Bool
 is_taken (Command driver command a2 a3) = takes_commands driver
 is_taken form = false
 
--- whether a call is a command to a driver that takes commands
-abbrev pub is_driver_command : Call → Bool
-is_driver_command call = is_taken (form_of call)
-
 -- whether a call of a process with that object is for its driver to answer: it is permitted, too
-abbrev pub is_for_driver : Bool → List ℕ → Call → Bool
-is_for_driver strict object call = object_permits strict object call && is_driver_command call
+abbrev pub is_for_driver : Bool → List ℕ → CallForm → Bool
+is_for_driver strict object call = object_permits strict object call && is_taken call
 
 -- a call that is left to its driver: nothing has changed
-pub record IsLeft (strict : Bool) (home home_after : Homes) (process process_after : Process) (call : Call)
-    : Type 0 where
+pub record IsLeft (strict : Bool) (home home_after : Homes) (process process_after : Process)
+    (call : CallForm) : Type 0 where
   pub for_driver : is_for_driver strict (object_in home.flash process.object) call ≡ true
   pub home_stays : home_after ≡ home
   pub process_stays : process_after ≡ process
@@ -67,7 +61,7 @@ pub record IsLeft (strict : Bool) (home home_after : Homes) (process process_aft
 -- a call of the process in a slot that the kernel serves itself: it comes to what its definition says, whatever a
 -- driver would see of the board, and whatever the process has beside
 pub record IsServed (strict : Bool) (slot : ℕ) (home home_after : Homes) (process process_after : Process)
-    (call : Call) (outcome : Outcome) : Type 0 where
+    (call : CallForm) (outcome : Outcome) : Type 0 where
   pub not_for_driver : is_for_driver strict (object_in home.flash process.object) call ≡ false
   pub comes : (around : CommandContext) (beside : Beside) →
       ServingComesTo (served strict around (record_of_slot home slot process beside) call)
@@ -84,7 +78,7 @@ LeftOrServed left served Ended = served Ended
 LeftOrServed left served Again = served Again
 
 -- what becomes of a call of the process in a slot, by its outcome, under a strict filter or an open one
-abbrev pub ServesAt : Bool → ℕ → Homes → Process → Call → Homes → Process → Outcome → Type 0
+abbrev pub ServesAt : Bool → ℕ → Homes → Process → CallForm → Homes → Process → Outcome → Type 0
 ServesAt strict slot home process call home_after process_after outcome =
     LeftOrServed (IsLeft strict home home_after process process_after call)
     (IsServed strict slot home home_after process process_after call) outcome

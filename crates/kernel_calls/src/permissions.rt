@@ -4,6 +4,7 @@ ghost use Rattle.grant_enter.specs.Homes.{own_of};
 ghost use Rattle.kernel_model.specs.Parts.{object_permits};
 ghost use Rattle.process_model.specs.Flash.{object_in};
 ghost use Rattle.process_restart.specs.Own.{HasHeader};
+ghost use Rattle.syscall_abi.specs.Forms.{form_of};
 
 use grant_enter::Home;
 use process_model::Object;
@@ -20,7 +21,8 @@ pub fn is_permitted(home: &Home, slot: Slot, object: &Object, strict: bool, call
     requires slot { slot < length home.now.owns }
     requires object { (own_of home.now slot).object ≡ object.now }
     requires header { HasHeader home.now.flash object.now }
-    ensures { result ≡ object_permits strict (object_in home.now.flash object.now) call.now }
+    ensures { result ≡ object_permits strict (object_in home.now.flash object.now)
+        (form_of call.now) }
 {
     if !home.has_permissions(slot) {
         return !(strict && call.driver().is_some());

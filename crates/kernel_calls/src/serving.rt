@@ -8,6 +8,7 @@ ghost use Rattle.kernel_calls.specs.Outcomes.{is_taken, ComesAt, IsOfSlot, Keeps
 ghost use Rattle.process_restart.specs.Own.{LivesOn};
 ghost use Rattle.kernel_calls.specs.Outcomes.{ServesAt};
 ghost use Rattle.process_restart.specs.Own.{KeepsObject};
+ghost use Rattle.syscall_abi.specs.Forms.{form_of};
 
 use crate::exits::exit_call;
 use crate::memops::memop_call;
@@ -127,8 +128,8 @@ pub fn kernel_call(
     requires lives { (own_of home.old slot).lives ≡ true }
     requires count { process.old.restarts + 1 < 2 ^ 32 }
     requires life { (own_of home.old slot).life + 1 < 2 ^ 32 }
-    ensures serves { ServesAt strict slot home.old process.old call.now home.new process.new
-        result }
+    ensures serves { ServesAt strict slot home.old process.old (form_of call.now) home.new
+        process.new result }
     ensures own { IsOwn home.new.flash process.new (own_of home.new slot) }
     ensures stays { KeepsObject process.old process.new }
     ensures lives_on { LivesOn (own_of home.old slot) (own_of home.new slot) }

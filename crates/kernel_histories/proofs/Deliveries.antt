@@ -27,11 +27,11 @@ use Rattle.grant_model.specs.Grants.{shape_of}
 use Rattle.rv32_model.specs.declared.turn_end.TurnEnd.{TurnEnd}
 use Rattle.rv32_model.specs.declared.turn_end.TurnEnd.TheVariants as ends
 use Rattle.rv32_model.specs.UserTurn.{MemoryAccess}
-use Rattle.syscall_abi.specs.declared.call.Call.{Call as SystemCall}
 use Rattle.syscall_abi.specs.declared.form.CallForm.{CallForm}
+use Rattle.syscall_abi.specs.declared.form.CallForm.TheVariants as forms
 use Rattle.syscall_abi.specs.declared.form.Swap.{Swap}
 use Rattle.syscall_abi.specs.declared.reply.Reply.{Reply}
-use Rattle.syscall_abi.specs.Call.{call_of, class, form_of, a0, a1, a2, a3}
+use Rattle.syscall_abi.specs.Call.{call_of, class, a0, a1, a2, a3}
 use Rattle.tk_base.specs.declared.upcall.Wait.{Wait}
 use Rattle.tk_base.specs.declared.upcall.Wait.TheVariants.{No, For, Given}
 use Rattle.upcall_queue.specs.declared.inbox.Delivery.TheVariants.{Function}
@@ -559,12 +559,12 @@ module _ (promise : Promise) (around : CommandContext) (r : Record) where
       (of_refused 6 NoOperation (plain NoOperation)))
 
   -- a call that its object permits, or does not
-  of_served : (strict : Bool) (n : ℕ) (call : SystemCall) → LeavesByCall r n (by_form around r (form_of call))
+  of_served : (strict : Bool) (n : ℕ) (call : CallForm) → LeavesByCall r n (by_form around r call)
       → LeavesByCall r n (served strict around r call)
   unfolding served
   of_served strict n call leaves =
       by_test (LeavesByCall r n) (object_permits strict r.object call) _ _ leaves
-      (of_refused n Permission (failure_of (form_of call) Permission))
+      (of_refused n Permission (failure_of call Permission))
 
 -- the same of a turn
 abbrev pub LeavesByTurn : Record → Turned → Type 0
@@ -601,9 +601,7 @@ module _ (promise : Promise) (settings : Settings) (time : ℕ) where
   unfolding by_form
   of_calls r accesses can =
       of_registers Leaving regs (λ is. on 0 (yield_in regs) is (of_yield promise around r))
-      (λ kind call is swaps. on (class_of kind) call is
-      (subst (λ (form : CallForm). LeavesByCall r (class_of kind) (by_form around r form)) (sym swaps)
-      (of_kind promise around r kind)))
+      (λ kind is. on (class_of kind) (forms.Swap (swap_in kind regs)) is (of_kind promise around r kind))
       (λ is. on 2 (command_in regs) is (of_command promise around r _ _ _ _ _ refl))
       (λ is. on 5 (memop_in regs) is (of_memop promise around r _ _))
       (λ is. on 6 (exit_in regs) is (of_exit promise around r can _ _)) (of_fault r (unknown_call r.process) can)
@@ -614,11 +612,11 @@ module _ (promise : Promise) (settings : Settings) (time : ℕ) where
       around : CommandContext
       around = surroundings settings time r
 
-      Leaving : Option SystemCall → Type 0
+      Leaving : Option CallForm → Type 0
       Leaving call = Leaves r (calls settings time r accesses call).after
           (left_by_turn None (calls settings time r accesses call).told)
 
-      on : (n : ℕ) (call : SystemCall) → class regs ≡ n → LeavesByCall r n (by_form around r (form_of call))
+      on : (n : ℕ) (call : CallForm) → class regs ≡ n → LeavesByCall r n (by_form around r call)
           → Leaving (Some call)
       on n call is leaves =
           leaves_by r (class regs) _

@@ -47,7 +47,7 @@ counts_drop u inbox = by_test_of (awaits inbox.wait u) (u.function == 0) (has_ro
 counts_drops : (upcall : Option Scheduled) (before later : Inbox) → IsThenScheduled upcall before later
     → AtOnce upcall before later → later.dropped ≡ before.dropped + drops_by upcall before
 counts_drops None before later leaves whole =
-    let same : later.dropped ≡ before.dropped = ap (λ (i : Inbox). i.dropped) leaves.is ∙ leaves.remains.dropped in
+    let same : later.dropped ≡ before.dropped = ap (λ (i : Inbox). i.dropped) leaves.is ∙ leaves.dropped in
     omega (arith, same)
 counts_drops (Some u) before later leaves whole = ap (λ (i : Inbox). i.dropped) whole ∙ counts_drop u before
 

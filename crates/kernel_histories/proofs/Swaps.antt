@@ -33,10 +33,10 @@ use Rattle.driver_model.specs.Steps.{own_after}
 use Rattle.driver_model.specs.Commands.{Commanded, leaving_all}
 use Rattle.driver_model.specs.Drivers.{CommandContext, CommandHandler, handler_of}
 use Rattle.driver_model.specs.Pairs.{DriversLeavePairs}
-use Rattle.syscall_abi.specs.declared.call.Call.{Call as SystemCall}
 use Rattle.syscall_abi.specs.declared.form.CallForm.{CallForm}
+use Rattle.syscall_abi.specs.declared.form.CallForm.TheVariants as forms
 use Rattle.syscall_abi.specs.declared.form.Swap.{Swap}
-use Rattle.syscall_abi.specs.Call.{a0, a1, a2, a3, call_of, class, form_of}
+use Rattle.syscall_abi.specs.Call.{a0, a1, a2, a3, call_of, class}
 use Rattle.syscall_abi.specs.Reply.{put_reply}
 use Rattle.syscall_abi.specs.declared.reply.Reply.{Reply}
 use Rattle.syscall_abi.specs.declared.reply.Reply.TheVariants.{Failure, FailureU32U32, SuccessU32U32}
@@ -229,12 +229,12 @@ abbrev silent : List MemoryAccess → TurnTrace
 silent accesses = record { accesses = accesses; call = None; flag = None; denial = None }
 
 -- what a turn tells in which a call was made
-abbrev telling : Record → List MemoryAccess → SystemCall → Outcome → TurnTrace
+abbrev telling : Record → List MemoryAccess → CallForm → Outcome → TurnTrace
 telling r accesses call outcome =
     record {
       accesses = accesses;
       call = Some (made r.process.regs outcome);
-      flag = yield_flag_of r (form_of call);
+      flag = yield_flag_of r call;
       denial =
           None;
     }
@@ -348,7 +348,7 @@ module _ (law : OnlyHandingChangesPairs) (drivers : DriversLeavePairs) where
         keeps_answered c c.answer (drivers.command driver taker is around number a2 a3 r.own)
 
   module _ (past : List TurnTrace) (r : Record) (k : Knows past r) (accesses : List MemoryAccess)
-      (call : SystemCall) where
+      (call : CallForm) where
     -- the arguments of a swap
     abbrev driver : ℕ
     driver = a0 r.process.regs
@@ -517,12 +517,12 @@ module _ (law : OnlyHandingChangesPairs) (drivers : DriversLeavePairs) where
 
     -- a call that its object does not permit is refused
     permitted : (strict : Bool) (around : CommandContext)
-        → Follows past (called r accesses call (by_form around r (form_of call)))
+        → Follows past (called r accesses call (by_form around r call))
         → Follows past (called r accesses call (served strict around r call))
     unfolding served
     permitted strict around follows =
         by_test (λ s. Follows past (called r accesses call s)) (object_permits strict r.object call) _ _ follows
-        (refused_so Permission (failure_of (form_of call) Permission))
+        (refused_so Permission (failure_of call Permission))
 
   -- a call that the registers make, or none that there is
   asks : (past : List TurnTrace) (settings : Settings) (time : ℕ) (r : Record) (accesses : List MemoryAccess)
@@ -532,9 +532,8 @@ module _ (law : OnlyHandingChangesPairs) (drivers : DriversLeavePairs) where
       of_registers (λ call. Follows past (calls settings time r accesses call)) regs
       (λ is. on (yield_in regs) (of_other past r k accesses (yield_in regs) 0 _ is refl refl
       (keeps_yield r (a0 regs) (a1 regs) (a2 regs))))
-      (λ kind call is swaps. on call
-      (subst (λ (form : CallForm). Follows past (called r accesses call (by_form around r form))) (sym swaps)
-      (swap_follows past r k accesses call kind is)))
+      (λ kind is. on (forms.Swap (swap_in kind regs))
+      (swap_follows past r k accesses (forms.Swap (swap_in kind regs)) kind is))
       (λ is. on (command_in regs) (of_other past r k accesses (command_in regs) 2 _ is refl refl
       (keeps_taken r around (a0 regs) (a1 regs) (a2 regs) (a3 regs) (handler_of (a0 regs)) refl)))
       (λ is. on (memop_in regs) (of_other past r k accesses (memop_in regs) 5 _ is refl refl
@@ -548,7 +547,7 @@ module _ (law : OnlyHandingChangesPairs) (drivers : DriversLeavePairs) where
       around : CommandContext
       around = surroundings settings time r
 
-      on : (call : SystemCall) → Follows past (called r accesses call (by_form around r (form_of call)))
+      on : (call : CallForm) → Follows past (called r accesses call (by_form around r call))
           → Follows past (calls settings time r accesses (Some call))
       on call follows = permitted past r k accesses call settings.strict around follows
 

@@ -17,8 +17,9 @@ use Rattle.rv32_model.specs.declared.turn_end.TurnEnd.{TurnEnd}
 use Rattle.rv32_model.specs.declared.turn_end.TurnEnd.TheVariants as ends
 use Rattle.rv32_model.specs.Laws.{CallsAreOfEcall}
 use Rattle.rv32_model.specs.UserTurn.{MemoryAccess}
-use Rattle.syscall_abi.specs.declared.call.Call.{Call as SystemCall}
-use Rattle.syscall_abi.specs.Call.{a0, a1, a2, call_of, class, form_of}
+use Rattle.syscall_abi.specs.declared.form.CallForm.{CallForm}
+use Rattle.syscall_abi.specs.declared.form.CallForm.TheVariants as forms
+use Rattle.syscall_abi.specs.Call.{a0, a1, a2, call_of, class}
 use Rattle.process_model.specs.Permission.{denied}
 use Rattle.driver_model.specs.Drivers.{CommandContext}
 use Rattle.process_record.specs.declared.emit.CallMade.{CallMade}
@@ -29,7 +30,7 @@ use Rattle.process_record.specs.Process.{after_call, waiting}
 use Rattle.kernel_model.specs.Record.{Record, byte_at, instruction, with_effect}
 use Rattle.kernel_model.specs.Parts.{with_process}
 use Rattle.kernel_model.specs.declared.settings.Settings.{Settings}
-use Rattle.kernel_model.specs.Calls.{Served, by_form, comes_to, failure_of, served}
+use Rattle.kernel_model.specs.Calls.{Served, by_form, comes_to, failure_of, refused_with, served}
 use Rattle.kernel_model.specs.Parts.{object_permits}
 use Rattle.kernel_model.specs.Calls.{yield_for, yield_now, yielding}
 use Rattle.kernel_model.specs.Turn.{TurnTrace, Turned, turn_counted, at_turn_end, made, surroundings}
@@ -39,7 +40,7 @@ use Rattle.kernel_model.specs.World.{World, after}
 use Rattle.kernel_histories.specs.Deliveries.{First, FirstOf, Nothing, Takes, is_yielded}
 use Rattle.kernel_histories.specs.Deliveries.{taken_by_call, taken_by_yield, takes, told_in, wait_in, wait_of}
 use Rattle.kernel_model.specs.Histories.{class_of}
-use Rattle.kernel_model.proofs.Classes.{command_in, exit_in, memop_in, of_registers, yield_in}
+use Rattle.kernel_model.proofs.Classes.{command_in, exit_in, memop_in, of_registers, swap_in, yield_in}
 use Rattle.kernel_histories.proofs.Swaps.{no_swap}
 use Rattle.kernel_model.proofs.Memops.{by_test}
 use Rattle.kernel_laws.proofs.Refused.{only_counts}
@@ -159,21 +160,23 @@ module _ (settings : Settings) (time : ℕ) (P : Takes → Record → Record →
         → ByCall (served strict around counted (yield_in regs))
     unfolding served by_form
     of_served strict around is =
-        let failure = failure_of (form_of (yield_in regs)) Permission in
-        by_test ByCall (object_permits strict r.object (yield_in regs)) _ _ (of_yield is)
-        (takes_none _ _ (not_refused (made regs (Replied failure (Some Permission))) Permission refl))
+        let failure = failure_of (yield_in regs) Permission in
+        let refusal = refused_with counted Permission failure in
+        by_test ByCall (object_permits strict r.object (yield_in regs))
+        (yielding counted (a0 regs) (a1 regs) (a2 regs)) refusal (of_yield is)
+        (takes_none _ refusal.after (not_refused (made regs (Replied failure (Some Permission))) Permission refl))
 
     of_calls : (accesses : List MemoryAccess) → Takings None (calls settings time counted accesses (call_of regs))
     of_calls accesses =
-        of_registers (λ (o : Option SystemCall). Takings None (calls settings time counted accesses o)) regs
+        of_registers (λ (o : Option CallForm). Takings None (calls settings time counted accesses o)) regs
         (λ is. of_served settings.strict around is)
-        (λ kind call is swaps. other (class_of kind) call (no_swap 0 refl kind) is) (other 2 (command_in regs) refl)
-        (other 5 (memop_in regs) refl) (other 6 (exit_in regs) refl) (each.nothing r _)
+        (λ kind is. other (class_of kind) (forms.Swap (swap_in kind regs)) (no_swap 0 refl kind) is)
+        (other 2 (command_in regs) refl) (other 5 (memop_in regs) refl) (other 6 (exit_in regs) refl) (each.nothing r _)
       where
         around : CommandContext
         around = surroundings settings time counted
 
-        other : (n : ℕ) (call : SystemCall) → (n == 0) ≡ false → class regs ≡ n
+        other : (n : ℕ) (call : CallForm) → (n == 0) ≡ false → class regs ≡ n
             → Takings None (calls settings time counted accesses (Some call))
         other n call apart is =
             let s = served settings.strict around counted call in

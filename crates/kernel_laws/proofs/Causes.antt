@@ -3,7 +3,6 @@ use Rattle.std.proofs.Common.{◌≡◌, ◌⊎◌, inl, inr, ℕ, ◌+◌, ◌=
 use Rattle.std.proofs.Common.{None, Some, Result, Ok, Err, is_ok, is_some, slice_get, refl, ap, sym, subst, ◌∙◌}
 use Rattle.std.specs.Prelude.{IsTrue}
 use Rattle.std.specs.List.{list_any}
-use Rattle.std.specs.Option.{option_map}
 use Rattle.tk_base.specs.declared.access.Denial.{Denial}
 use Rattle.tk_base.specs.declared.call.CallRule.{CallRule}
 use Rattle.tk_base.specs.declared.upcall.Upcall.{Upcall as Scheduled}
@@ -19,15 +18,15 @@ use Rattle.rv32_model.specs.declared.turn_end.TurnEnd.{TurnEnd}
 use Rattle.rv32_model.specs.declared.turn_end.TurnEnd.TheVariants as ends
 use Rattle.rv32_model.specs.Laws.{CallsAreOfEcall, stores_at}
 use Rattle.rv32_model.specs.UserTurn.{MemoryAccess, UserTurn}
-use Rattle.syscall_abi.specs.declared.call.Call.{Call as SystemCall}
 use Rattle.syscall_abi.specs.declared.form.CallForm.{CallForm}
 use Rattle.syscall_abi.specs.declared.form.CallForm.TheVariants as forms
 use Rattle.syscall_abi.specs.declared.form.Swap.{Swap}
 use Rattle.syscall_abi.specs.declared.reply.Reply.{Reply}
 use Rattle.tk_base.specs.Regs.{Registers}
-use Rattle.syscall_abi.specs.Call.{a0, a1, call_of, class, form_of}
+use Rattle.syscall_abi.specs.Call.{a0, a1, call_of, class}
 use Rattle.process_model.specs.Changes.{ChangesAt, IsInside, IsWhole, KeepsBytes, OnlyWritesChangeBytes, own_byte}
 use Rattle.process_model.specs.Flag.{flag_place}
+use Rattle.process_model.specs.Handed.{lies_in_ram}
 use Rattle.driver_model.specs.Bytes.{CommandsWriteInBuffers, ShowsClock, clock_buffer, shows_clock}
 use Rattle.driver_model.specs.Steps.{own_after}
 use Rattle.driver_model.specs.Commands.{Commanded}
@@ -97,15 +96,11 @@ restarts_so r flag ends {shown} is = by_reading (header_reading r.object)
     by_reading (Ok h) = by_main h h.main
     by_reading (Err fault) = kept r r flag (λ at before after. refl) refl
 
--- the form of the call that registers make
-abbrev pub form_in : Registers → Option CallForm
-form_in regs = option_map form_of (call_of regs)
-
 -- registers that make an exit have its class
-exit_class : (regs : Registers) (kind code : ℕ) → form_in regs ≡ Some (forms.Exit kind code) → class regs ≡ 6
+exit_class : (regs : Registers) (kind code : ℕ) → call_of regs ≡ Some (forms.Exit kind code) → class regs ≡ 6
 exit_class regs kind code =
-    of_registers (λ (o : Option SystemCall). option_map form_of o ≡ Some (forms.Exit kind code) → class regs ≡ 6) regs
-    (λ is e. absurd (cc)) (λ swapped call is swaps e. absurd (cc)) (λ is e. absurd (cc)) (λ is e. absurd (cc))
+    of_registers (λ (o : Option CallForm). o ≡ Some (forms.Exit kind code) → class regs ≡ 6) regs
+    (λ is e. absurd (cc)) (λ kind is e. absurd (cc)) (λ is e. absurd (cc)) (λ is e. absurd (cc))
     (λ is e. is) (λ e. absurd (cc))
 
 -- registers that make a command have its class, its driver and its number
@@ -115,11 +110,11 @@ pub record IsCommand (regs : Registers) (driver number : ℕ) : Type 0 where
   pub number_is : a1 regs ≡ number
 
 pub command_class : (regs : Registers) (driver number x y : ℕ)
-    → form_in regs ≡ Some (forms.Command driver number x y) → IsCommand regs driver number
+    → call_of regs ≡ Some (forms.Command driver number x y) → IsCommand regs driver number
 command_class regs driver number x y =
-    of_registers (λ (o : Option SystemCall). option_map form_of o ≡ Some (forms.Command driver number x y)
+    of_registers (λ (o : Option CallForm). o ≡ Some (forms.Command driver number x y)
     → IsCommand regs driver number) regs
-    (λ is e. absurd (cc)) (λ swapped call is swaps e. absurd (cc))
+    (λ is e. absurd (cc)) (λ kind is e. absurd (cc))
     (λ is e. record { class_is = is; driver_is = cc; number_is = cc })
     (λ is e. absurd (cc)) (λ is e. absurd (cc)) (λ e. absurd (cc))
 
@@ -155,7 +150,7 @@ module _ (law : OnlyWritesChangeBytes) (commands : CommandsWriteInBuffers) (arou
   of_yield_for driver number None = record { own = λ a before after. inl refl; storage = refl }
   of_yield_for driver number (Some upcall) = record { own = λ a before after. inl refl; storage = refl }
 
-  of_yield : (number a1 a2 : ℕ) → Leaves r (cond (number == 0) (flag_place a1 r.own) None) (yielding r number a1 a2)
+  of_yield : (number a1 a2 : ℕ) → Leaves r (yield_flag_of r (forms.Yield number a1 a2)) (yielding r number a1 a2)
   unfolding yielding
   of_yield number a1 a2 = by_number (number == 0)
     where
@@ -181,7 +176,7 @@ module _ (law : OnlyWritesChangeBytes) (commands : CommandsWriteInBuffers) (arou
       by_one false = by_two (number == 2)
 
       by_number : (b : Bool)
-          → Leaves r (cond b (flag_place a1 r.own) None)
+          → Leaves r (cond (b && lies_in_ram r.own.layout a1 1) (Some a1) None)
           (cond b (yield_now r a1 (first 0))
           (cond (number == 1) waits (cond (number == 2) (yield_for r a1 a2 (first place)) goes_on)))
       by_number true = of_yield_now a1 (first 0)
@@ -232,7 +227,7 @@ module _ (law : OnlyWritesChangeBytes) (commands : CommandsWriteInBuffers) (arou
       (by_test (Leaves r None) (kind == 1) _ _ (restarts_so r None _ (ap (λ (n : ℕ). n == 6 && true) six))
       (same_own r None _))
 
-  of_form : (form : CallForm) → form_in r.process.regs ≡ Some form → (asked_in r.process.regs ≡ true → IsWhole r.own)
+  of_form : (form : CallForm) → call_of r.process.regs ≡ Some form → (asked_in r.process.regs ≡ true → IsWhole r.own)
       → Leaves r (yield_flag_of r form) (by_form around r form)
   unfolding by_form
   of_form (forms.Yield number a1 a2) is whole = of_yield number a1 a2
@@ -242,13 +237,13 @@ module _ (law : OnlyWritesChangeBytes) (commands : CommandsWriteInBuffers) (arou
   of_form (forms.Memop operation argument) is whole = of_memop operation argument
   of_form (forms.Exit kind code) is whole = of_exit kind code (exit_class r.process.regs kind code is)
 
-  of_served : (strict : Bool) (call : SystemCall) → call_of r.process.regs ≡ Some call
+  of_served : (strict : Bool) (call : CallForm) → call_of r.process.regs ≡ Some call
       → (asked_in r.process.regs ≡ true → IsWhole r.own)
-      → Leaves r (yield_flag_of r (form_of call)) (served strict around r call)
+      → Leaves r (yield_flag_of r call) (served strict around r call)
   unfolding served
   of_served strict call is whole =
-      by_test (Leaves r (yield_flag_of r (form_of call))) (object_permits strict r.object call) _ _
-      (of_form (form_of call) (ap (option_map form_of) is) whole) (same_own r _ _)
+      by_test (Leaves r (yield_flag_of r call)) (object_permits strict r.object call) _ _
+      (of_form call is whole) (same_own r _ _)
 
 of_fault : (settings : Settings) (r : Record) (denial : Denial)
     → Changes r None true false (faulted settings r denial).after
@@ -268,7 +263,7 @@ module _ (law : OnlyWritesChangeBytes) (commands : CommandsWriteInBuffers) (of_e
   abbrev Causes : Record → Turned → Type 0
   Causes r t = Changes r t.told.flag (ends_life t.told) (showed_clock t.told.call) t.after
 
-  of_calls : (r : Record) (accesses : List MemoryAccess) (call : Option SystemCall) → call_of r.process.regs ≡ call
+  of_calls : (r : Record) (accesses : List MemoryAccess) (call : Option CallForm) → call_of r.process.regs ≡ call
       → let t = calls settings time r accesses call in (asks_clock t.told.call ≡ true → IsWhole r.own) → Causes r t
   of_calls r accesses None is whole = of_fault settings r (unknown_call r.process)
   of_calls r accesses (Some call) is whole =

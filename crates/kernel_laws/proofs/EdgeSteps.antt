@@ -59,7 +59,7 @@ use Rattle.kernel_laws.specs.Scheduled.{answer_schedules, answer_step, call_sche
 use Rattle.kernel_laws.specs.Scheduled.{event_schedules, scheduled_by}
 use Rattle.kernel_laws.specs.Scheduled.{upcall_told}
 use Rattle.kernel_model.proofs.Steps.{IsAnswer}
-use Rattle.kernel_laws.proofs.Scheduled.{act_leaves, all_remain, told_inbox, turn_leaves}
+use Rattle.kernel_laws.proofs.Scheduled.{act_leaves, all_remain, then_scheduled, told_inbox, turn_leaves}
 
 -- an upcall is of another driver than the buttons
 abbrev pub OfAnother : Option Scheduled → Type 0
@@ -146,7 +146,7 @@ module _ (law : DriversScheduleTheirOwn) where
 answer_then : (settings : Settings) (event : Event) (r : Record) → IsAnswer event
     → IsThenScheduled (upcall_told event r) r.own.inbox (apply settings event r).own.inbox
 answer_then settings event r is =
-    record { left = r.own.inbox; remains = all_remain r.own.inbox; is = told_inbox settings event r is }
+    then_scheduled _ _ r.own.inbox _ (all_remain r.own.inbox) (told_inbox settings event r is)
 
 -- an operator's act schedules nothing
 act_then : (settings : Settings) (verb : Verb) (r : Record)
@@ -268,7 +268,7 @@ serves_by settings arrival r told edge is s =
 
 -- no upcall is scheduled
 stays : (own : Own) → SchedulesEdge None own own
-stays own = (None, tt, record { left = own.inbox; remains = all_remain own.inbox; is = refl })
+stays own = (None, tt, then_scheduled None _ own.inbox _ (all_remain own.inbox) refl)
 
 serves_none : (settings : Settings) (r : Record) → ServesFor settings None r None
 serves_none settings r = record { schedules = stays r.own; knows = refl; filters = λ us. refl }
@@ -419,7 +419,7 @@ module _ (law : DriversScheduleTheirOwn) (refuse : RefusedByAnyDriver) (of_ecall
   pub answer_leaves : (settings : Settings) (told : Option Answer) (r : Record)
       → IsThenScheduled (answer_schedules settings told r) r.own.inbox (happens settings told r).own.inbox
   answer_leaves settings None r =
-      record { left = r.own.inbox; remains = all_remain r.own.inbox; is = refl }
+      then_scheduled None _ r.own.inbox _ (all_remain r.own.inbox) refl
   answer_leaves settings (Some a) r = event_then refuse of_ecall settings a.event r
 
   pub same_record : (o : Option Record) (x y : Record) → o ≡ Some x → o ≡ Some y → x ≡ y

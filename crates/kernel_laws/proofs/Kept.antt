@@ -16,8 +16,8 @@ use Rattle.rv32_model.specs.declared.turn_end.TurnEnd.{TurnEnd}
 use Rattle.rv32_model.specs.declared.turn_end.TurnEnd.TheVariants as ends
 use Rattle.tk_base.specs.declared.process.Verb.{Verb}
 use Rattle.rv32_model.specs.UserTurn.{MemoryAccess}
-use Rattle.syscall_abi.specs.declared.call.Call.{Call as SystemCall}
-use Rattle.syscall_abi.specs.Call.{call_of, form_of}
+use Rattle.syscall_abi.specs.declared.form.CallForm.{CallForm}
+use Rattle.syscall_abi.specs.Call.{call_of}
 use Rattle.process_record.specs.declared.emit.CallMade.{CallMade}
 use Rattle.process_record.specs.declared.process.State.{State}
 use Rattle.process_record.specs.declared.process.State.TheVariants.{Running, Yielded, Faulted, Terminated}
@@ -62,14 +62,14 @@ leaves_idle : (settings : Settings) (r : Record) → Leaves settings r (idle r)
 leaves_idle settings r = leaves_same settings r (idle r) (all_same r.own) refl
 
 leaves_call : (promise : DriversPromise) (settings : Settings) (time : ℕ) (r : Record) (accesses : List MemoryAccess)
-    (call : SystemCall)
+    (call : CallForm)
     → Leaves settings r (called r accesses call (served settings.strict (surroundings settings time r) r call))
 leaves_call promise settings time r accesses call =
     of_call (λ s. Leaves settings r (called r accesses call s)) promise settings.strict
     (surroundings settings time r) r call
     (record {
       refused = λ rule.
-          leaves_same settings r (called r accesses call (refused_with r rule (failure_of (form_of call) rule)))
+          leaves_same settings r (called r accesses call (refused_with r rule (failure_of call rule)))
           (all_same r.own) refl;
       served = λ s is. record { dropped = is.dropped; room = is.room; lines = is.lines };
     })
@@ -97,7 +97,7 @@ leaves_fault settings r denial = by_action (decision settings.policy r.process.r
         }
 
 leaves_calls : (promise : DriversPromise) (settings : Settings) (time : ℕ) (r : Record) (accesses : List MemoryAccess)
-    (call : Option SystemCall) → Leaves settings r (calls settings time r accesses call)
+    (call : Option CallForm) → Leaves settings r (calls settings time r accesses call)
 leaves_calls promise settings time r accesses (Some call) = leaves_call promise settings time r accesses call
 leaves_calls promise settings time r accesses None = leaves_fault settings r (unknown_call r.process)
 
@@ -193,7 +193,7 @@ IsQuiet r t =
 no_denial : (denial : Denial) → ◌≡◌ {A = Option Denial} (Some denial) None → ⊥
 no_denial denial e = cc
 
-quiet_calls : (settings : Settings) (time : ℕ) (r : Record) (accesses : List MemoryAccess) (call : Option SystemCall)
+quiet_calls : (settings : Settings) (time : ℕ) (r : Record) (accesses : List MemoryAccess) (call : Option CallForm)
     → IsQuiet r (calls settings time r accesses call)
 quiet_calls settings time r accesses (Some call) none denial = absurd (no_call none)
   where

@@ -1,5 +1,5 @@
 -- What a refused call leaves of its process and of the world, by the end of its instruction.
-use Rattle.std.proofs.Common.{◌≡◌, ℕ, List, [], Option, None, Some, slice_get, refl, sym, ap, ap₂, subst}
+use Rattle.std.proofs.Common.{◌≡◌, ℕ, List, [], Option, None, Some, slice_get, slice_set, refl, sym, ap, ap₂, subst}
 use Rattle.std.specs.Prelude.{All}
 use Rattle.std.proofs.lemmas.List.Elements.{All-nil, All-cons}
 use Rattle.tk_base.specs.declared.call.CallRule.{CallRule}
@@ -12,8 +12,8 @@ use Rattle.rv32_model.specs.declared.turn_end.TurnEnd.{TurnEnd}
 use Rattle.rv32_model.specs.declared.turn_end.TurnEnd.TheVariants as ends
 use Rattle.rv32_model.specs.Laws.{CallsAreOfEcall}
 use Rattle.rv32_model.specs.UserTurn.{MemoryAccess, UserTurn, Write}
-use Rattle.syscall_abi.specs.declared.call.Call.{Call as SystemCall}
-use Rattle.syscall_abi.specs.Call.{call_of, form_of}
+use Rattle.syscall_abi.specs.declared.form.CallForm.{CallForm}
+use Rattle.syscall_abi.specs.Call.{call_of}
 use Rattle.process_model.specs.Instruction.{ram_after}
 use Rattle.process_model.specs.Permission.{denied}
 use Rattle.driver_model.specs.Commands.{BoardRequest}
@@ -51,12 +51,12 @@ module _ (law : RefusedChangesNothingElse) (of_ecall : CallsAreOfEcall) (setting
   abbrev Refuses : Record → Turned → Type 0
   Refuses r t = (rule : CallRule) → refusal_in t.told ≡ Some rule → CallIsRefused rule r t.after × (t.acts ≡ [])
 
-  of_calls : (r : Record) (accesses : List MemoryAccess) (call : Option SystemCall) → call_of r.process.regs ≡ call
+  of_calls : (r : Record) (accesses : List MemoryAccess) (call : Option CallForm) → call_of r.process.regs ≡ call
       → Refuses r (calls settings time (turn_counted r) accesses call)
   of_calls r accesses None is rule e = absurd (no_rule rule e)
   of_calls r accesses (Some call) is rule e =
       let same : served settings.strict (surroundings settings time (turn_counted r)) (turn_counted r) call
-      ≡ refused_with (turn_counted r) rule (failure_of (form_of call) rule) =
+      ≡ refused_with (turn_counted r) rule (failure_of call rule) =
       law settings.strict (surroundings settings time (turn_counted r)) (turn_counted r) call rule e in
       ((call, is, ap (λ (s : Served). s.after) same), ap (λ (s : Served). s.acts) same)
 
@@ -101,13 +101,11 @@ module _ (law : RefusedChangesNothingElse) (of_ecall : CallsAreOfEcall) (w : Wor
           let is_so = of_turn law of_ecall w.settings w.clock.time r rule e in
           record {
             before = r;
-            after = t.after;
             is_there = is;
             call = is_so.0.0;
             is_made = is_so.0.1;
-            refused = is_so.0.2;
-            world = ap (λ (acts : List BoardRequest). record (after_turn_of w slot t)
-                { devices = routed slot acts w.devices }) is_so.1;
+            world = ap₂ (λ (s : Record) (acts : List BoardRequest). record (after_turn_of w slot t)
+                { records = slice_set w.records slot s; devices = routed slot acts w.devices }) is_so.0.2 is_so.1;
           }
 
   of_choice : (choice : Choice) → let s = carried_out w choice in All (IfRefused w s.after) s.labels

@@ -5,7 +5,7 @@ use Rattle.std.proofs.Common.{length, slice_get, Option, None, Some, Result, Ok,
 use Rattle.std.proofs.Common.{IfSome, arith, eqb-true, unwrap_or}
 use Rattle.std.specs.Prelude.{is_none, option_and_then, remove, slice_set}
 use Rattle.std.specs.List.{position_or_len}
-use Rattle.std.specs.Option.{option_map}
+use Rattle.std.specs.Option.{option_map, option_map_or}
 use Rattle.std.proofs.lemmas.Bool.{false≢true}
 use Rattle.std.proofs.Math.Seq.{drop-length}
 use Rattle.tk_base.specs.declared.access.Denial.{Denial}
@@ -16,6 +16,8 @@ use Rattle.tk_base.specs.declared.kinds.PairKind.TheVariants.{Upcall, ReadOnly, 
 use Rattle.tk_base.specs.Bits.{bit_of}
 use Rattle.tk_base.specs.Kinds.{is_buffer}
 use Rattle.tk_base.specs.declared.upcall.Upcall.{Upcall as Scheduled}
+use Rattle.tk_base.specs.declared.upcall.Wait.{Wait}
+use Rattle.tk_base.specs.declared.upcall.Wait.TheVariants.{For, Given, No}
 use Rattle.tk_base.specs.Regs.{Registers}
 use Rattle.tk_base.specs.declared.process.Verb.{Verb}
 use Rattle.tbf_headers.specs.declared.fault.HeaderFault.{HeaderFault}
@@ -25,11 +27,11 @@ use Rattle.rv32_model.specs.declared.turn_end.TurnEnd.{TurnEnd}
 use Rattle.rv32_model.specs.declared.turn_end.TurnEnd.TheVariants as ends
 use Rattle.rv32_model.specs.Laws.{CallsAreOfEcall}
 use Rattle.rv32_model.specs.UserTurn.{MemoryAccess}
-use Rattle.syscall_abi.specs.declared.call.Call.{Call as SystemCall}
 use Rattle.syscall_abi.specs.declared.form.Swap.{Swap}
 use Rattle.syscall_abi.specs.declared.form.CallForm.{CallForm}
+use Rattle.syscall_abi.specs.declared.form.CallForm.TheVariants as forms
 use Rattle.syscall_abi.specs.declared.reply.Reply.{Reply}
-use Rattle.syscall_abi.specs.Call.{a0, a1, a2, a3, call_of, class, form_of}
+use Rattle.syscall_abi.specs.Call.{a0, a1, a2, a3, call_of, class}
 use Rattle.fault_policy.specs.declared.Action.{Action}
 use Rattle.fault_policy.specs.declared.Action.TheVariants.{Stop, Restart}
 use Rattle.fault_policy.specs.Policy.{decision}
@@ -78,7 +80,7 @@ use Rattle.kernel_model.specs.Parts.{restarted_by, restarted_main}
 use Rattle.kernel_model.specs.Calls.{swap_by, swap_refusal}
 use Rattle.kernel_model.specs.Calls.{taken_by, yield_for, yield_now, yielding}
 use Rattle.kernel_model.specs.Parts.{swapped}
-use Rattle.kernel_model.specs.Edges.{IsRemainder, IsThenScheduled}
+use Rattle.kernel_model.specs.Edges.{IsThenScheduled}
 use Rattle.kernel_model.specs.Named.{is_of_edge}
 use Rattle.kernel_model.specs.Histories.{class_of}
 use Rattle.kernel_model.specs.Turn.{Event, Turn, Alarmed, Edge, Taken, WriteDone, Input, Word, NoWord, Stored, Turned}
@@ -182,25 +184,55 @@ edge_key driver number true is P same apart =
     (subst (λ (n : ℕ). P buttons n) (sym (eqb-true number 0 both.1)) same)
 edge_key driver number false is P same apart = apart (λ u e. of_key driver number u e ∙ is)
 
+-- What remains of what was scheduled for a process.
+pub record IsRemainder (before left : Inbox) : Type 0 where
+  pub dropped : left.dropped ≡ before.dropped
+  pub given : (args : List ℕ) → left.wait ≡ Given args → before.wait ≡ Given args
+  pub gone : ℕ
+  pub pending : filter (is_of buttons 0) left.pending ≡ drop gone (filter (is_of buttons 0) before.pending)
+
+-- and then an upcall is scheduled, or none
+pub then_scheduled : (upcall : Option Scheduled) (before left later : Inbox) → IsRemainder before left
+    → later ≡ scheduled_if upcall left → IsThenScheduled upcall before later
+then_scheduled upcall before left later r is = record {
+  left = left;
+  dropped = r.dropped;
+  given = r.given;
+  gone = r.gone;
+  pending = r.pending;
+  is = is ∙ by_upcall upcall;
+}
+  where
+    by_upcall : (o : Option Scheduled) → scheduled_if o left ≡ option_map_or (λ u. scheduled u left) o left
+    by_upcall None = refl
+    by_upcall (Some u) = refl
+
+-- what is waited for is not given
+no_wait : (args : List ℕ) → ◌≡◌ {A = Wait} No (Given args) → ⊥
+no_wait args e = cc
+
+one_wait : (driver number : ℕ) (args : List ℕ) → ◌≡◌ {A = Wait} (For driver number) (Given args) → ⊥
+one_wait driver number args e = cc
+
 -- what remains of what was scheduled: all; all, with something else that is waited for; all but the first, or the first
 -- of
 -- a driver and a number; all but those of a driver and a number; nothing
 pub all_remain : (inbox : Inbox) → IsRemainder inbox inbox
-all_remain inbox = record { dropped = refl; given = λ e. refl; gone = 0; pending = refl }
+all_remain inbox = record { dropped = refl; given = λ args e. e; gone = 0; pending = refl }
 
 taken_first : (inbox : Inbox) → IsRemainder inbox (taken_at 0 inbox)
 taken_first inbox =
     let front = front_gone is_of_edge inbox.pending in
-    record { dropped = refl; given = λ e. refl; gone = front.0; pending = front.1 }
+    record { dropped = refl; given = λ args e. e; gone = front.0; pending = front.1 }
 
 taken_of : (driver number : ℕ) (inbox : Inbox)
     → IsRemainder inbox (taken_at (place_of driver number inbox.pending) inbox)
 taken_of driver number inbox =
     edge_key driver number _ refl (λ d n. IsRemainder inbox (taken_at (place_of d n inbox.pending) inbox))
-    (record { dropped = refl; given = λ e. refl; gone = 1; pending = first_gone is_of_edge inbox.pending })
+    (record { dropped = refl; given = λ args e. e; gone = 1; pending = first_gone is_of_edge inbox.pending })
     (λ apart. record {
       dropped = refl;
-      given = λ e. refl;
+      given = λ args e. e;
       gone = 0;
       pending = others_stay (is_of driver number) is_of_edge apart inbox.pending;
     })
@@ -212,13 +244,13 @@ without_remain driver number inbox =
     (λ d n. IsRemainder inbox (record inbox { pending = without_key d n inbox.pending }))
     (record {
       dropped = refl;
-      given = λ e. refl;
+      given = λ args e. e;
       gone = length (filter is_of_edge inbox.pending);
       pending = all_gone is_of_edge inbox.pending ∙ sym (drop-length (filter is_of_edge inbox.pending));
     })
     (λ apart. record {
       dropped = refl;
-      given = λ e. refl;
+      given = λ args e. e;
       gone = 0;
       pending = others_left (is_of driver number) is_of_edge apart inbox.pending;
     })
@@ -226,7 +258,7 @@ without_remain driver number inbox =
 none_remain : (inbox : Inbox) → IsRemainder inbox (cleared inbox)
 none_remain inbox = record {
   dropped = refl;
-  given = λ e. absurd (false≢true e);
+  given = λ args e. absurd (no_wait args e);
   gone = length (filter is_of_edge inbox.pending);
   pending = sym (drop-length (filter is_of_edge inbox.pending));
 }
@@ -234,7 +266,7 @@ none_remain inbox = record {
 delivered_remain : (next : Delivery) (inbox : Inbox) → IsRemainder inbox (left_by next inbox)
 delivered_remain (Function upcall) inbox = taken_first inbox
 delivered_remain (Arguments args) inbox =
-    record { dropped = refl; given = λ e. absurd (false≢true e); gone = 0; pending = refl }
+    record { dropped = refl; given = λ args e. absurd (no_wait args e); gone = 0; pending = refl }
 
 -- what a turn leaves of a process beside its bytes: what remains, and which buttons it knows to be pressed
 record Keeps (r s : Record) : Type 0 where
@@ -259,7 +291,7 @@ pub record Schedules (upcall : Option Scheduled) (r s : Record) : Type 0 where
 
 nothing_more : (r s : Record) → Keeps r s → Schedules None r s
 nothing_more r s k =
-    record { leaves = record { left = s.own.inbox; remains = k.remains; is = refl }; whole = tt; pressed = k.pressed }
+    record { leaves = then_scheduled None _ s.own.inbox _ k.remains refl; whole = tt; pressed = k.pressed }
 
 same_inbox : (r s : Record) → s.own.inbox ≡ r.own.inbox → s.pressed ≡ r.pressed → Keeps r s
 same_inbox r s inbox pressed =
@@ -340,7 +372,12 @@ module _ (refuse : RefusedByAnyDriver) (settings : Settings) (time : ℕ) (r : R
 
   of_yield_for : (driver number : ℕ) (first : Option Scheduled) → Left (yield_for counted driver number first)
   of_yield_for driver number None = record {
-    remains = record { dropped = refl; given = λ e. absurd (false≢true e); gone = 0; pending = refl };
+    remains = record {
+      dropped = refl;
+      given = λ args e. absurd (one_wait driver number args e);
+      gone = 0;
+      pending = refl;
+    };
     pressed = refl;
   }
   of_yield_for driver number (Some upcall) = record { remains = taken_of driver number r.own.inbox; pressed = refl }
@@ -400,7 +437,7 @@ module _ (refuse : RefusedByAnyDriver) (settings : Settings) (time : ℕ) (r : R
       ∙ ap (option_and_then (λ (t : CommandHandler). scheduled_by (t around (a1 regs) (a2 regs) (a3 regs) r.own).step))
       taken))
       (record {
-        leaves = record { left = r.own.inbox; remains = all_remain r.own.inbox; is = queued };
+        leaves = then_scheduled _ _ r.own.inbox _ (all_remain r.own.inbox) queued;
         whole = at_once (scheduled_by c.step) r.own.inbox (own_after c.step).inbox queued;
         pressed = refl;
       })
@@ -424,12 +461,12 @@ module _ (refuse : RefusedByAnyDriver) (settings : Settings) (time : ℕ) (r : R
   of_commanded is (Some taker) taken = of_answer is taker taken _ refl
 
   -- a call that its object permits, or does not
-  of_served : (call : SystemCall) → ByCall (by_form around counted (form_of call))
+  of_served : (call : CallForm) → ByCall (by_form around counted call)
       → ByCall (served settings.strict around counted call)
   unfolding served
   of_served call serves =
       by_test ByCall (object_permits settings.strict r.object call) _ _ serves
-      (was_refused (refused_with counted Permission (failure_of (form_of call) Permission)) Permission refl
+      (was_refused (refused_with counted Permission (failure_of call Permission)) Permission refl
       (same _ refl refl))
 
   of_fault : (s : Record) (denial : Denial) → s.own.inbox ≡ r.own.inbox → s.pressed ≡ r.pressed
@@ -450,20 +487,19 @@ module _ (refuse : RefusedByAnyDriver) (settings : Settings) (time : ℕ) (r : R
   of_calls : (accesses : List MemoryAccess) → ByTurn (calls settings time counted accesses (call_of regs))
   unfolding by_form
   of_calls accesses =
-      of_registers (λ (o : Option SystemCall). ByTurn (calls settings time counted accesses o)) regs
+      of_registers (λ (o : Option CallForm). ByTurn (calls settings time counted accesses o)) regs
       (λ is. of_served (yield_in regs) (no_command 0 (formed (yield_in regs)) refl is (of_yield (a0 regs) (a1 regs)
       (a2 regs))))
-      (λ kind call is swaps. of_served call
-      (subst (λ (form : CallForm). ByCall (by_form around counted form)) (sym swaps)
+      (λ kind is. of_served (forms.Swap (swap_in kind regs))
       (no_command (class_of kind) (swapped counted (swap_in kind regs)) (no_swap kind) is
-      (of_swap (swap_in kind regs) (swap_refusal (swap_in kind regs) r.own)))))
+      (of_swap (swap_in kind regs) (swap_refusal (swap_in kind regs) r.own))))
       (λ is. of_served (command_in regs) (of_commanded is (handler_of (a0 regs)) refl))
       (λ is. of_served (memop_in regs) (no_command 5 (formed (memop_in regs)) refl is (of_memop (a0 regs) (a1 regs))))
       (λ is. of_served (exit_in regs) (no_command 6 (formed (exit_in regs)) refl is (of_exit (a0 regs) (a1 regs))))
       (of_fault counted _ refl refl)
     where
-      formed : SystemCall → Served
-      formed call = by_form around counted (form_of call)
+      formed : CallForm → Served
+      formed call = by_form around counted call
 
       no_swap : (kind : PairKind) → (class_of kind == 2) ≡ false
       no_swap Upcall = refl

@@ -2,7 +2,6 @@
 use Rattle.std.proofs.Common.{◌≡◌, ℕ, ◌==◌, ◌&&◌, Bool, true, false, cond, List, Option, None, Some}
 use Rattle.std.proofs.Common.{refl, ap, sym, ◌∙◌, eq-eqb}
 use Rattle.std.proofs.lemmas.Bool.{false≢true}
-use Rattle.std.specs.Option.{option_map}
 use Rattle.tk_base.specs.Regs.{Registers}
 use Rattle.tk_base.specs.declared.call.CallRule.TheVariants.{Permission}
 use Rattle.grant_values.specs.Drivers.{number_of_driver}
@@ -11,10 +10,9 @@ use Rattle.grant_values.specs.declared.drivers.Driver.TheVariants.{Alarm, Button
 use Rattle.rv32_model.specs.declared.turn_end.TurnEnd.{TurnEnd}
 use Rattle.rv32_model.specs.declared.turn_end.TurnEnd.TheVariants as ends
 use Rattle.rv32_model.specs.UserTurn.{MemoryAccess}
-use Rattle.syscall_abi.specs.declared.call.Call.{Call as SystemCall}
 use Rattle.syscall_abi.specs.declared.form.CallForm.{CallForm}
 use Rattle.syscall_abi.specs.declared.form.CallForm.TheVariants as forms
-use Rattle.syscall_abi.specs.Call.{a0, call_of, class, form_of}
+use Rattle.syscall_abi.specs.Call.{a0, call_of, class}
 use Rattle.process_model.specs.Own.{Own}
 use Rattle.process_record.specs.declared.process.State.{State}
 use Rattle.process_record.specs.declared.process.State.TheVariants.{Running, Yielded, Faulted, Terminated}
@@ -27,7 +25,7 @@ use Rattle.kernel_model.specs.declared.settings.Settings.{Settings}
 use Rattle.kernel_model.specs.Calls.{Served, by_form, failure_of, refused_with, served, taken_by}
 use Rattle.kernel_model.specs.Parts.{calls, object_permits}
 use Rattle.kernel_model.specs.Turn.{at_turn_end, called, surroundings, turn_counted, turn_in, turned, idle}
-use Rattle.kernel_laws.proofs.Causes.{IsCommand, command_class, form_in}
+use Rattle.kernel_laws.proofs.Causes.{IsCommand, command_class}
 use Rattle.kernel_laws.proofs.Commands.{handled}
 use Rattle.kernel_laws.specs.Clock.{TimeComesInByTheAlarm, is_for_alarm}
 
@@ -66,7 +64,7 @@ module _ (n : ℕ) (around : CommandContext) (r : Record) (none : is_alarms r.pr
       ap (λ (c : Commanded). taken_by around number a2 a3 r (Some (λ around number a2 a3 own. c)))
       (blind n driver taker is (not_alarms r.process.regs driver number command none) around number a2 a3 r.own)
 
-  of_form : (form : CallForm) → form_in r.process.regs ≡ Some form
+  of_form : (form : CallForm) → call_of r.process.regs ≡ Some form
       → by_form (record around { now = n }) r form ≡ by_form around r form
   unfolding by_form
   of_form (forms.Yield number a1 a2) is = refl
@@ -76,19 +74,19 @@ module _ (n : ℕ) (around : CommandContext) (r : Record) (none : is_alarms r.pr
   of_form (forms.Memop operation argument) is = refl
   of_form (forms.Exit kind code) is = refl
 
-  of_served : (strict : Bool) (call : SystemCall) → call_of r.process.regs ≡ Some call
+  of_served : (strict : Bool) (call : CallForm) → call_of r.process.regs ≡ Some call
       → served strict (record around { now = n }) r call ≡ served strict around r call
   unfolding served
   of_served strict call is =
       ap (λ (s : Served). cond (object_permits strict r.object call) s
-      (refused_with r Permission (failure_of (form_of call) Permission)))
-      (of_form (form_of call) (ap (option_map form_of) is))
+      (refused_with r Permission (failure_of call Permission)))
+      (of_form call is)
 
 module _ (settings : Settings) (start time other : ℕ) where
   abbrev elsewhere : Settings
   elsewhere = record settings { start = start }
 
-  of_calls : (r : Record) (accesses : List MemoryAccess) (call : Option SystemCall) → call_of r.process.regs ≡ call
+  of_calls : (r : Record) (accesses : List MemoryAccess) (call : Option CallForm) → call_of r.process.regs ≡ call
       → let t = calls settings time r accesses call in is_for_alarm t.told.call ≡ false
       → calls elsewhere other r accesses call ≡ t
   of_calls r accesses None is none = refl

@@ -21,12 +21,11 @@ use Rattle.grant_values.specs.Drivers.{number_of_driver}
 use Rattle.rv32_model.specs.declared.turn_end.TurnEnd.{TurnEnd}
 use Rattle.rv32_model.specs.declared.turn_end.TurnEnd.TheVariants as ends
 use Rattle.rv32_model.specs.UserTurn.{MemoryAccess}
-use Rattle.syscall_abi.specs.declared.call.Call.{Call as SystemCall}
 use Rattle.syscall_abi.specs.declared.form.CallForm.{CallForm}
 use Rattle.syscall_abi.specs.declared.form.CallForm.TheVariants as forms
 use Rattle.syscall_abi.specs.declared.form.Swap.{Swap}
 use Rattle.syscall_abi.specs.declared.reply.Reply.{Reply}
-use Rattle.syscall_abi.specs.Call.{a0, call_of, form_of}
+use Rattle.syscall_abi.specs.Call.{a0, call_of}
 use Rattle.upcall_queue.specs.declared.inbox.Delivery.{Delivery}
 use Rattle.upcall_queue.specs.Pending.{due, place_of}
 use Rattle.process_model.specs.Own.{Own}
@@ -60,7 +59,7 @@ use Rattle.kernel_model.specs.World.{operating, ran, random_step, receive_step, 
 use Rattle.kernel_model.proofs.Memops.{by_test, memop_gives}
 use Rattle.kernel_model.proofs.Places.{of_stepped, of_turned, slice_get-set_other, slice_get-set_same}
 use Rattle.kernel_model.proofs.Told.{of_device, with_rest}
-use Rattle.kernel_laws.proofs.Causes.{IsCommand, command_class, form_in}
+use Rattle.kernel_laws.proofs.Causes.{IsCommand, command_class}
 use Rattle.kernel_laws.proofs.Commands.{handled}
 use Rattle.kernel_lives.specs.Lists.{asks_at}
 use Rattle.kernel_lives.specs.Requests.{RequestsBeginByCommands, asks_for, tells_asking}
@@ -238,7 +237,7 @@ module _ (ask : AskTheirOwn) (refuse : RefusedByAnyDriver) (queue : QueueName) (
         memop_gives Asks r operation argument (λ rule. no_wait) (λ reply. no_wait)
         (λ new reply. no_wait)
 
-    of_form : (form : CallForm) → form_in r.process.regs ≡ Some form → Asks (by_form around r form)
+    of_form : (form : CallForm) → call_of r.process.regs ≡ Some form → Asks (by_form around r form)
     unfolding by_form
     of_form (forms.Yield number b1 b2) is = of_yield number b1 b2
     of_form (forms.Swap swap) is = of_swap swap (swap_refusal swap r.own)
@@ -247,11 +246,11 @@ module _ (ask : AskTheirOwn) (refuse : RefusedByAnyDriver) (queue : QueueName) (
     of_form (forms.Memop operation argument) is = of_memop operation argument
     of_form (forms.Exit kind code) is = of_exit kind code
 
-    of_served : (strict : Bool) (call : SystemCall) → call_of r.process.regs ≡ Some call
+    of_served : (strict : Bool) (call : CallForm) → call_of r.process.regs ≡ Some call
         → Asks (served strict around r call)
     unfolding served
     of_served strict call is =
-        by_test Asks (object_permits strict r.object call) _ _ (of_form (form_of call) (ap (option_map form_of) is))
+        by_test Asks (object_permits strict r.object call) _ _ (of_form call is)
         no_wait
 
 -- whether what a turn tells is such a command
@@ -266,7 +265,7 @@ module _ (ask : AskTheirOwn) (refuse : RefusedByAnyDriver) (queue : QueueName) (
   of_fault : (r : Record) (denial : Denial) → AsksIn (faulted settings r denial)
   of_fault r denial waits = absurd (false≢true (sym (all_left queue) ∙ waits))
 
-  of_calls : (r : Record) (accesses : List MemoryAccess) (call : Option SystemCall) → call_of r.process.regs ≡ call
+  of_calls : (r : Record) (accesses : List MemoryAccess) (call : Option CallForm) → call_of r.process.regs ≡ call
       → AsksIn (calls settings time r accesses call)
   of_calls r accesses None is = of_fault r (unknown_call r.process)
   of_calls r accesses (Some call) is =

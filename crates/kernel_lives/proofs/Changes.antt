@@ -30,7 +30,6 @@ use Rattle.rv32_model.specs.declared.turn_end.TurnEnd.{TurnEnd}
 use Rattle.rv32_model.specs.declared.turn_end.TurnEnd.TheVariants as ends
 use Rattle.tk_base.specs.declared.process.Verb.{Verb}
 use Rattle.rv32_model.specs.UserTurn.{MemoryAccess}
-use Rattle.syscall_abi.specs.declared.call.Call.{Call as SystemCall}
 use Rattle.syscall_abi.specs.declared.form.CallForm.{CallForm}
 use Rattle.syscall_abi.specs.declared.form.CallForm.TheVariants as forms
 use Rattle.syscall_abi.specs.declared.form.Swap.{Swap}
@@ -39,7 +38,7 @@ use Rattle.syscall_abi.specs.declared.reply.Reply.TheVariants.{Failure, FailureU
 use Rattle.syscall_abi.specs.declared.reply.Reply.TheVariants.{SuccessU32U32}
 use Rattle.tk_base.specs.Call.{error_of}
 use Rattle.tbf_headers.specs.Meaning.{header_reading, region_count}
-use Rattle.syscall_abi.specs.Call.{call_of, form_of}
+use Rattle.syscall_abi.specs.Call.{call_of}
 use Rattle.process_record.specs.declared.process.RecordedRefusal.{RecordedRefusal}
 use Rattle.process_record.specs.declared.process.State.{State}
 use Rattle.process_record.specs.declared.process.State.TheVariants.{Running, Yielded, Faulted, Terminated}
@@ -296,11 +295,11 @@ module _ (R : Own → Own → Type 0) (commands : OfEachCommand R) (I J : Record
   of_form around r alive h (forms.Exit kind code) = by_exit r alive h kind code
 
   after_call : (strict : Bool) (around : CommandContext) (r : Record) → is_alive r.process.state ≡ true → I r
-      → (call : SystemCall) → J (served strict around r call).after
+      → (call : CallForm) → J (served strict around r call).after
   unfolding Q served
   after_call strict around r alive h call =
-      by_test (object_permits strict r.object call) _ _ (λ may. of_form around r alive h (form_of call))
-      (λ may_not. by_refused r h Permission (failure_of (form_of call) Permission))
+      by_test (object_permits strict r.object call) _ _ (λ may. of_form around r alive h call)
+      (λ may_not. by_refused r h Permission (failure_of call Permission))
 
   after_denial : (settings : Settings) (r : Record) → is_alive r.process.state ≡ true → I r → (denial : Denial)
       → J (faulted settings r denial).after
@@ -311,7 +310,7 @@ module _ (R : Own → Own → Type 0) (commands : OfEachCommand R) (I J : Record
       by_action Restart = k.faults_again r denial alive h
 
   after_calls : (settings : Settings) (time : ℕ) (r : Record) → is_alive r.process.state ≡ true → I r
-      → (accesses : List MemoryAccess) (call : Option SystemCall) → J (calls settings time r accesses call).after
+      → (accesses : List MemoryAccess) (call : Option CallForm) → J (calls settings time r accesses call).after
   after_calls settings time r alive h accesses (Some call) =
       after_call settings.strict (surroundings settings time r) r alive h call
   after_calls settings time r alive h accesses None = after_denial settings r alive h _

@@ -13,7 +13,7 @@ use Rattle.fault_policy.specs.declared.Action.TheVariants.{Stop, Restart}
 use Rattle.fault_policy.specs.Policy.{decision}
 use Rattle.upcall_queue.specs.declared.inbox.Delivery.{Delivery}
 use Rattle.upcall_queue.specs.Pending.{due}
-use Rattle.syscall_abi.specs.declared.call.Call.{Call as SystemCall}
+use Rattle.syscall_abi.specs.declared.form.CallForm.{CallForm}
 use Rattle.syscall_abi.specs.Call.{call_of}
 use Rattle.process_record.specs.declared.process.State.{State}
 use Rattle.process_record.specs.declared.process.State.TheVariants.{Running, Yielded, Faulted, Terminated}
@@ -43,7 +43,7 @@ of_fault settings r denial d is = by_action (decision settings.policy r.process.
         (λ h m read main. record { last = is; state = inr refl })
 
 -- any other end of a turn tells no denial
-of_calls : (settings : Settings) (time : ℕ) (r : Record) (accesses : List MemoryAccess) (call : Option SystemCall)
+of_calls : (settings : Settings) (time : ℕ) (r : Record) (accesses : List MemoryAccess) (call : Option CallForm)
     (d : Denial) → let t = calls settings time r accesses call in t.told.denial ≡ Some d → RecordsDenial d t.after
 of_calls settings time r accesses None d is = of_fault settings r (unknown_call r.process) d is
 of_calls settings time r accesses (Some call) d is = absurd (cc)

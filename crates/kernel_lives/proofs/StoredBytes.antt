@@ -26,12 +26,11 @@ use Rattle.fault_policy.specs.declared.Action.TheVariants.{Stop, Restart}
 use Rattle.fault_policy.specs.Policy.{decision}
 use Rattle.upcall_queue.specs.declared.inbox.Delivery.{Delivery}
 use Rattle.upcall_queue.specs.Pending.{due, place_of}
-use Rattle.syscall_abi.specs.declared.call.Call.{Call as SystemCall}
 use Rattle.syscall_abi.specs.declared.form.CallForm.{CallForm}
 use Rattle.syscall_abi.specs.declared.form.CallForm.TheVariants as forms
 use Rattle.syscall_abi.specs.declared.form.Swap.{Swap}
 use Rattle.syscall_abi.specs.declared.reply.Reply.{Reply}
-use Rattle.syscall_abi.specs.Call.{call_of, form_of}
+use Rattle.syscall_abi.specs.Call.{call_of}
 use Rattle.process_model.specs.Changes.{own_byte}
 use Rattle.process_model.specs.Served.{fitting, bytes_at, ram_at}
 use Rattle.process_model.specs.Own.{Own}
@@ -117,10 +116,10 @@ module _ (around : CommandContext) (r : Record) where
   of_form (forms.Memop operation argument) = of_memop operation argument
   of_form (forms.Exit kind code) = of_exit kind code
 
-  of_served : (strict : Bool) (call : SystemCall) → Leaves (served strict around r call)
+  of_served : (strict : Bool) (call : CallForm) → Leaves (served strict around r call)
   unfolding served
   of_served strict call =
-      by_test Leaves (object_permits strict r.object call) _ _ (of_form (form_of call)) refl
+      by_test Leaves (object_permits strict r.object call) _ _ (of_form call) refl
 
 -- nor a turn
 module _ (settings : Settings) (time : ℕ) where
@@ -134,7 +133,7 @@ module _ (settings : Settings) (time : ℕ) where
       by_action Stop = refl
       by_action Restart = restarted fault
 
-  of_calls : (r : Record) (accesses : List MemoryAccess) (call : Option SystemCall)
+  of_calls : (r : Record) (accesses : List MemoryAccess) (call : Option CallForm)
       → (calls settings time r accesses call).after.storage ≡ r.storage
   of_calls r accesses None = of_fault r (unknown_call r.process)
   of_calls r accesses (Some call) = of_served (surroundings settings time r) r settings.strict call

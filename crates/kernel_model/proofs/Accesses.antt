@@ -17,7 +17,7 @@ use Rattle.rv32_model.specs.declared.turn_end.TurnEnd.TheVariants as ends
 use Rattle.rv32_model.specs.declared.instr.Instr.TheVariants.{Ecall}
 use Rattle.rv32_model.specs.Laws.{AccessesArePermitted, CallsAreOfEcall, DataIsAligned, DenialsAreDue, IsInstrAt}
 use Rattle.rv32_model.specs.UserTurn.{MemoryAccess, denied_at}
-use Rattle.syscall_abi.specs.declared.call.Call.{Call as SystemCall}
+use Rattle.syscall_abi.specs.declared.form.CallForm.{CallForm}
 use Rattle.syscall_abi.specs.Call.{call_of, class, class_table}
 use Rattle.process_model.specs.Permission.{denied}
 use Rattle.process_record.specs.declared.process.State.{State}
@@ -35,7 +35,7 @@ use Rattle.kernel_model.proofs.Places.{of_stepped, of_turned}
 
 -- a turn lists the accesses of its instruction, or none
 module _ (P : MemoryAccess → Type 0) where
-  by_call : (settings : Settings) (time : ℕ) (r : Record) (accesses : List MemoryAccess) (call : Option SystemCall)
+  by_call : (settings : Settings) (time : ℕ) (r : Record) (accesses : List MemoryAccess) (call : Option CallForm)
       → All P accesses → All P (calls settings time r accesses call).told.accesses
   by_call settings time r accesses None each = All-nil P
   by_call settings time r accesses (Some call) each = each
@@ -74,7 +74,7 @@ turn_permitted permitted aligned settings time r =
 
 -- a class for which there is no call is above 7
 above_all : (regs : Registers) (n : ℕ)
-    → option_map (λ (row : ℕ × SystemCall). row.1) (find (λ (row : ℕ × SystemCall). row.0 == n) (class_table regs))
+    → option_map (λ (row : ℕ × CallForm). row.1) (find (λ (row : ℕ × CallForm). row.0 == n) (class_table regs))
     ≡ None → 7 < n
 unfolding class_table
 above_all regs zero e = absurd (cc)
@@ -93,7 +93,7 @@ unknown_class regs e = above_all regs (class regs) e
 
 -- a denial is one of the instruction's, or that of a call of an unknown class
 module _ (law : DenialsAreDue) (of_ecall : CallsAreOfEcall) (settings : Settings) (time : ℕ) where
-  call_due : (r s : Record) (accesses : List MemoryAccess) (call : Option SystemCall) → call_of s.process.regs ≡ call
+  call_due : (r s : Record) (accesses : List MemoryAccess) (call : Option CallForm) → call_of s.process.regs ≡ call
       → s.process.regs ≡ r.process.regs
       → IsInstrAt (denied r.own.layout) (byte_at r) r.process.regs.pc (Some Ecall)
       → IfSome (calls settings time s accesses call).told.denial (DenialIsDue r)

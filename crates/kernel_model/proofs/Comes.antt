@@ -20,11 +20,9 @@ use Rattle.driver_model.specs.Steps.{own_after}
 use Rattle.driver_model.specs.Commands.{Commanded, refusing as refused_by_driver}
 use Rattle.driver_model.specs.Drivers.{CommandContext, CommandHandler, handler_of}
 use Rattle.driver_model.specs.Laws.{IsAtMostOneMore}
-use Rattle.syscall_abi.specs.declared.call.Call.{Call as SystemCall}
 use Rattle.syscall_abi.specs.declared.form.CallForm.{CallForm}
 use Rattle.syscall_abi.specs.declared.form.CallForm.TheVariants as forms
 use Rattle.syscall_abi.specs.declared.form.Swap.{Swap}
-use Rattle.syscall_abi.specs.Call.{form_of}
 use Rattle.syscall_abi.specs.declared.reply.Reply.{Reply}
 use Rattle.syscall_abi.specs.declared.reply.Reply.TheVariants.{Failure}
 use Rattle.process_record.specs.declared.outcome.Outcome.TheVariants as outcomes
@@ -224,8 +222,8 @@ of_form P promise around r (forms.Exit kind code) both = of_exit P around r kind
 
 -- what holds of a call that is refused and of one that is served holds of every call
 pub of_call : (P : Served → Type 0) (promise : DriversPromise) (strict : Bool) (around : CommandContext) (r : Record)
-    (call : SystemCall) → OfBoth P around r (failure_of (form_of call)) → P (served strict around r call)
+    (call : CallForm) → OfBoth P around r (failure_of call) → P (served strict around r call)
 unfolding served
 of_call P promise strict around r call both =
-    by_test P (object_permits strict r.object call) _ _ (of_form P promise around r (form_of call) both)
+    by_test P (object_permits strict r.object call) _ _ (of_form P promise around r call both)
     (both.refused Permission)

@@ -1,5 +1,5 @@
 -- That the system call filter holds in runs, by the call that was served.
-use Rattle.std.proofs.Common.{◌≡◌, ℕ, ◌==◌, ◌&&◌, Bool, true, false, cond, not, List, Option, None, Some, refl, sym}
+use Rattle.std.proofs.Common.{◌≡◌, ℕ, ◌==◌, Bool, true, false, cond, List, Option, None, Some, refl, sym}
 use Rattle.std.proofs.Common.{ap, subst, ◌∙◌}
 use Rattle.std.specs.Prelude.{IfSome}
 use Rattle.std.proofs.lemmas.Bool.{false≢true}
@@ -13,10 +13,9 @@ use Rattle.rv32_model.specs.declared.turn_end.TurnEnd.TheVariants as ends
 use Rattle.rv32_model.specs.UserTurn.{MemoryAccess}
 use Rattle.upcall_queue.specs.declared.inbox.Delivery.{Delivery}
 use Rattle.upcall_queue.specs.Pending.{due}
-use Rattle.syscall_abi.specs.declared.call.Call.{Call as SystemCall}
 use Rattle.syscall_abi.specs.declared.form.CallForm.{CallForm}
 use Rattle.syscall_abi.specs.declared.form.CallForm.TheVariants as forms
-use Rattle.syscall_abi.specs.Call.{a0, a1, call_of, class, form_of}
+use Rattle.syscall_abi.specs.Call.{a0, a1, a2, a3, call_of, class}
 use Rattle.syscall_filter.specs.Permission.{permitted}
 use Rattle.process_record.specs.declared.emit.CallMade.{CallMade}
 use Rattle.process_record.specs.declared.outcome.Outcome.{Outcome}
@@ -36,14 +35,9 @@ use Rattle.kernel_model.specs.Filter.{IsFiltered, StepsAreFiltered, is_allowed, 
 
 -- what is permitted by the form of a call is allowed by what a turn shows of it
 module _ (strict : Bool) (list : Option (List ℕ)) (regs : Registers) (outcome : Outcome) where
-  abbrev Follows : Option SystemCall → Type 0
-  Follows o = IfSome o (λ call. permitted strict list (form_of call) ≡ true → names_driver (class regs) ≡ true
+  abbrev Follows : Option CallForm → Type 0
+  Follows o = IfSome o (λ call. permitted strict list call ≡ true → names_driver (class regs) ≡ true
       → is_allowed strict list (made regs outcome) ≡ true)
-
-  -- without a list a filter that lets such a call through is not strict
-  open_filter : (strict : Bool) → not (strict && true) ≡ true → not strict ≡ true
-  open_filter true e = e
-  open_filter false e = e
 
   -- a class that names no driver
   nameless : (n : ℕ) {A : Type 0} → names_driver n ≡ false → class regs ≡ n → names_driver (class regs) ≡ true → A
@@ -59,7 +53,7 @@ module _ (strict : Bool) (list : Option (List ℕ)) (regs : Registers) (outcome 
   of_swap : (kind : PairKind) → class regs ≡ class_of kind → (list : Option (List ℕ))
       → permitted strict list (forms.Swap (swap_in kind regs)) ≡ true
       → is_allowed strict list (made regs outcome) ≡ true
-  of_swap kind is None may = open_filter strict may
+  of_swap kind is None may = may
   of_swap kind is (Some entries) may =
       ap (λ (c : ℕ). cond (c == 2) (allows entries (a0 regs) (a1 regs)) (lists entries (a0 regs))) is
       ∙ not_command kind (allows entries (a0 regs) (a1 regs)) (lists entries (a0 regs)) ∙ may
@@ -67,32 +61,30 @@ module _ (strict : Bool) (list : Option (List ℕ)) (regs : Registers) (outcome 
   of_command : (x y : ℕ) → class regs ≡ 2 → (list : Option (List ℕ))
       → permitted strict list (forms.Command (a0 regs) (a1 regs) x y) ≡ true
       → is_allowed strict list (made regs outcome) ≡ true
-  of_command x y is None may = open_filter strict may
+  of_command x y is None may = may
   of_command x y is (Some entries) may =
       ap (λ (c : ℕ). cond (c == 2) (allows entries (a0 regs) (a1 regs)) (lists entries (a0 regs))) is ∙ may
 
   follows : Follows (call_of regs)
   follows =
       of_registers Follows regs (λ is may names. nameless 0 refl is names)
-      (λ kind call is form may names.
-      of_swap kind is list (subst (λ (f : CallForm). permitted strict list f ≡ true) form may))
-      (λ is may names. of_command _ _ is list may)
+      (λ kind is may names. of_swap kind is list may) (λ is may names. of_command (a2 regs) (a3 regs) is list may)
       (λ is may names. nameless 5 refl is names) (λ is may names. nameless 6 refl is names) tt
 
 -- a call that was not refused was permitted
-not_refused : (strict : Bool) (around : CommandContext) (r : Record) (call : SystemCall)
+not_refused : (strict : Bool) (around : CommandContext) (r : Record) (call : CallForm)
     → rule_shown (served strict around r call).outcome ≡ None → object_permits strict r.object call ≡ true
 unfolding served
 not_refused strict around r call e = by_test (object_permits strict r.object call) e
   where
     by_test : (b : Bool)
-        → rule_shown (cond b (by_form around r (form_of call))
-        (refused_with r Permission (failure_of (form_of call) Permission))).outcome ≡ None → b ≡ true
+        → rule_shown (cond b (by_form around r call)
+        (refused_with r Permission (failure_of call Permission))).outcome ≡ None → b ≡ true
     by_test true e = refl
     by_test false e = absurd (cc)
 
 module _ (settings : Settings) (time : ℕ) where
-  of_calls : (r : Record) (accesses : List MemoryAccess) (call : Option SystemCall) → call_of r.process.regs ≡ call
+  of_calls : (r : Record) (accesses : List MemoryAccess) (call : Option CallForm) → call_of r.process.regs ≡ call
       → IsFiltered settings r (calls settings time r accesses call).told
   of_calls r accesses None is shown e names rule = absurd (cc)
   of_calls r accesses (Some call) is shown e names rule =
@@ -102,7 +94,7 @@ module _ (settings : Settings) (time : ℕ) where
       (ap (λ (m : CallMade). m.rule) same ∙ rule) in
       let names_it = ap (λ (m : CallMade). names_driver m.class) same ∙ names in
       let allowed =
-      subst (λ (o : Option SystemCall). Follows settings.strict (permissions_of r) r.process.regs s.outcome o) is
+      subst (λ (o : Option CallForm). Follows settings.strict (permissions_of r) r.process.regs s.outcome o) is
       (follows settings.strict (permissions_of r) r.process.regs s.outcome) may names_it in
       ap (is_allowed settings.strict (permissions_of r)) (sym same) ∙ allowed
 

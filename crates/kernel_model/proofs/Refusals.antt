@@ -1,7 +1,6 @@
 -- A refused call changes nothing else, and every call is answered, by what every call comes to.
 use Rattle.std.proofs.Common.{◌≡◌, ◌≢◌, Option, None, Some, ap, sym, ◌∙◌}
 use Rattle.tk_base.specs.declared.call.CallRule.{CallRule}
-use Rattle.syscall_abi.specs.Call.{form_of}
 use Rattle.syscall_abi.specs.declared.reply.Reply.{Reply}
 use Rattle.process_record.specs.declared.outcome.Outcome.TheVariants.{ToDriver}
 use Rattle.kernel_model.specs.Record.{Record}
@@ -24,9 +23,9 @@ no_rule rule e = cc
 
 pub refused_changes_nothing_else : DriversPromise → RefusedChangesNothingElse
 refused_changes_nothing_else promise strict around r call =
-    of_call (IsRefusedBy r (failure_of (form_of call))) promise strict around r call
+    of_call (IsRefusedBy r (failure_of call)) promise strict around r call
     (record {
-      refused = refused_so r (failure_of (form_of call));
+      refused = refused_so r (failure_of call);
       served =
           λ s is rule e. absurd (no_rule rule (sym is.no_rule ∙ e));
     })

@@ -9,7 +9,7 @@ use Rattle.tk_base.specs.declared.call.CallRule.TheVariants.{Break, Index, NoDri
 use Rattle.tk_base.specs.declared.call.CallRule.TheVariants.{Outside, Permission}
 use Rattle.tk_base.specs.Call.{error_of}
 use Rattle.tbf_headers.specs.declared.program.Main.{Main}
-use Rattle.tbf_headers.specs.Meaning.{Meaning, header_reading, permissions_by, region_in, region_count}
+use Rattle.tbf_headers.specs.Meaning.{Meaning, header_reading, of_app, region_in, region_count}
 use Rattle.syscall_filter.specs.Permission.{permitted}
 use Rattle.process_layout.specs.LayoutView.{first_break}
 use Rattle.process_layout.specs.Bounds.{permits_break}
@@ -19,7 +19,7 @@ use Rattle.upcall_queue.specs.declared.inbox.Delivery.{Delivery}
 use Rattle.upcall_queue.specs.declared.inbox.Delivery.TheVariants.{Function, Arguments}
 use Rattle.upcall_queue.specs.declared.inbox.Inbox.{Inbox}
 use Rattle.upcall_queue.specs.Pending.{place_of, taken_at}
-use Rattle.grant_values.specs.Drivers.{counts_of}
+use Rattle.grant_values.specs.Drivers.{counts_of, driver_of}
 use Rattle.tk_base.specs.Kinds.{count_of}
 use Rattle.grant_model.specs.Grants.{shape_of}
 use Rattle.process_model.specs.Own as own
@@ -27,12 +27,10 @@ use Rattle.process_model.specs.Own.{Own, own_ended}
 use Rattle.process_model.specs.Handed.{handing, has_place, held, may_share}
 use Rattle.process_model.specs.Flag.{with_flag}
 use Rattle.driver_model.specs.Commands.{BoardRequest, leaving_all}
-use Rattle.driver_model.specs.Drivers.{CommandContext, CommandHandler, handler_of}
-use Rattle.syscall_abi.specs.declared.call.Call.{Call as SystemCall}
+use Rattle.driver_model.specs.Drivers.{CommandContext, CommandHandler, handler_by}
 use Rattle.syscall_abi.specs.declared.form.CallForm.{CallForm}
 use Rattle.syscall_abi.specs.declared.form.CallForm.TheVariants as forms
 use Rattle.syscall_abi.specs.declared.form.Swap.{Swap}
-use Rattle.syscall_abi.specs.Call.{form_of}
 use Rattle.syscall_abi.specs.declared.reply.Reply.{Reply}
 use Rattle.syscall_abi.specs.declared.reply.Reply.TheVariants.{Failure, FailureU32U32, Success, SuccessU32}
 use Rattle.syscall_abi.specs.declared.reply.Reply.TheVariants.{SuccessU32U32}
@@ -85,9 +83,8 @@ failure_of form rule = Failure (error_of rule)
 -- a subscribe or an allow: the pair is handed, and the former one given back; or it is refused for a cause
 abbrev pub swap_by : Record → Swap → Option CallRule → Served
 swap_by r swap None =
-    let former = held swap.kind swap.driver swap.number r.own in
-    let own = handing swap.kind swap.driver swap.number swap.pair r.own in
-    replied (record r { own = own }) (SuccessU32U32 former.0 former.1)
+    let old = held swap.kind swap.driver swap.number r.own in
+    replied (record r { own = handing swap.kind swap.driver swap.number swap.pair r.own }) (SuccessU32U32 old.0 old.1)
 swap_by r swap (Some rule) = refused_with r rule (failure_of (forms.Swap swap) rule)
 
 -- a process goes on with what is delivered to it, and what is scheduled for it changes
@@ -178,8 +175,7 @@ restarted_with r h m =
 -- a process that starts again, by the header of its own object (TRD 104, "Exit"); as it was where that has a fault, or
 -- says nothing of its entry
 unfoldable pub restart : Record → Record
-restart r =
-    unwrap_or (option_and_then (λ h. option_map (restarted_with r h) h.main) (result_ok (header_reading r.object))) r
+restart r = unwrap_or (of_app (restarted_with r) (header_reading r.object)) r
 
 -- a call that ends a life of its process, which leaves all queues then
 abbrev pub ended : Record → Outcome → Served
@@ -209,7 +205,7 @@ taken_by around number a2 a3 r (Some taker) =
 unfoldable pub by_form : CommandContext → Record → CallForm → Served
 by_form around r (forms.Yield number a1 a2) = yielding r number a1 a2
 by_form around r (forms.Swap swap) = swap_by r swap (swap_refusal swap r.own)
-by_form around r (forms.Command driver number a2 a3) = taken_by around number a2 a3 r (handler_of driver)
+by_form around r (forms.Command driver n a2 a3) = taken_by around n a2 a3 r (option_map handler_by (driver_of driver))
 by_form around r (forms.Memop operation argument) = memop r operation argument
 by_form around r (forms.Exit kind code) = exit r kind code
 
@@ -217,7 +213,7 @@ by_form around r (forms.Exit kind code) = exit r kind code
 -- Format, "Permissions"); one that cannot be read has no such list. Permission comes before all else: a call that is
 -- not permitted is refused so whatever else would refuse it, and though there is no such driver. Whether the filter is
 -- strict is no part of what a command sees of the board.
-unfoldable pub served : Bool → CommandContext → Record → SystemCall → Served
+unfoldable pub served : Bool → CommandContext → Record → CallForm → Served
 served strict around r call =
-    if permitted strict (permissions_by (header_reading r.object)) (form_of call) then by_form around r (form_of call)
-    else refused_with r Permission (failure_of (form_of call) Permission)
+    let list = option_and_then (λ h. h.permissions) (result_ok (header_reading r.object)) in
+    if permitted strict list call then by_form around r call else refused_with r Permission (failure_of call Permission)

@@ -1,17 +1,17 @@
 -- What edges of buttons schedule, step by step (TRD 104, "Subscribe", "Yield"; the buttons are Tock's driver 0x3): an
 -- edge of which a process is told schedules one upcall for it, and nothing else schedules any. When edges come is this
 -- board's own rule.
-use Rattle.std.specs.Prelude.{◌≡◌, ◌≢◌, ◌≤◌, ◌⊎◌, ℕ, ◌+◌, Bool, true, false, if◌then◌else◌, List, [], ◌∷◌, ◌++◌, drop}
+use Rattle.std.specs.Prelude.{◌≡◌, ◌≢◌, ◌≤◌, ◌⊎◌, ℕ, ◌+◌, Bool, true, if◌then◌else◌, List, [], ◌∷◌, ◌++◌, drop}
 use Rattle.std.specs.Prelude.{filter}
 use Rattle.std.specs.Prelude.{length, slice_get, Option, None, Some, IfSome, option_and_then, option_map, unwrap_or}
 use Rattle.std.specs.List.{cons_option}
+use Rattle.std.specs.Option.{option_map_or}
 use Rattle.tk_base.specs.Bits.{bit_of, with_bit}
 use Rattle.tk_base.specs.declared.limits.TheConstants.{PENDING_LIMIT}
 use Rattle.tk_base.specs.declared.process.Choice.{Choice}
 use Rattle.tk_base.specs.declared.process.Choice.TheVariants.{Device}
 use Rattle.tk_base.specs.declared.process.Dev.TheVariants as dev
 use Rattle.tk_base.specs.declared.upcall.Upcall.{Upcall as Scheduled}
-use Rattle.tk_base.specs.declared.upcall.Wait.{Wait}
 use Rattle.tk_base.specs.declared.upcall.Wait.TheVariants.{Given}
 use Rattle.script_text.specs.Settings.{ScriptEvent as Arrival}
 use Rattle.board_devices.specs.Arriving.{change_by}
@@ -20,7 +20,6 @@ use Rattle.upcall_queue.specs.Pending.{awaits, is_of, scheduled}
 use Rattle.process_model.specs.Own.{Own}
 use Rattle.process_model.specs.Served.{own_scheduled}
 use Rattle.driver_model.specs.Buttons.{buttons, is_told}
-use Rattle.driver_model.specs.Upcalls.{scheduled_if}
 use Rattle.kernel_model.specs.Record.{Record}
 use Rattle.kernel_model.specs.World.{World, after, is_ready}
 use Rattle.kernel_model.specs.Choices.{OfEachProcess}
@@ -48,25 +47,16 @@ arrivals_in w (choice ∷ choices) = cons_option (arrival_in w choice) (arrivals
 abbrev pub told_edge_in : World → Choice → Record → Option (ℕ × Bool)
 told_edge_in w choice r = option_and_then (λ e. if is_told e.0 r.own then Some e else None) (edge_in w choice r)
 
--- whether what a process waited for alone was given
-abbrev pub is_given : Wait → Bool
-is_given (Given args) = true
-is_given other = false
-
--- What remains of what was scheduled for a process: no upcall more is dropped; nothing is given that was not given
--- before; of the pending upcalls of edges the first ones, which were delivered or taken away, are gone, and the others
--- stand as they stood.
-pub record IsRemainder (before left : Inbox) : Type 0 where
-  pub dropped : left.dropped ≡ before.dropped
-  pub given : is_given left.wait ≡ true → left.wait ≡ before.wait
-  pub gone : ℕ
-  pub pending : filter (is_of buttons 0) left.pending ≡ drop gone (filter (is_of buttons 0) before.pending)
-
--- What is scheduled is what remains of what was before, and one upcall more, or none.
+-- What is scheduled for a process is what is left of what was before, and one upcall more, or none. In what is left no
+-- upcall more is dropped; nothing is given that was not given before; of the pending upcalls of edges the first ones,
+-- which were delivered or taken away, are gone, and the others stand as they stood.
 pub record IsThenScheduled (upcall : Option Scheduled) (before later : Inbox) : Type 0 where
   pub left : Inbox
-  pub remains : IsRemainder before left
-  pub is : later ≡ scheduled_if upcall left
+  pub dropped : left.dropped ≡ before.dropped
+  pub given : (args : List ℕ) → left.wait ≡ Given args → before.wait ≡ Given args
+  pub gone : ℕ
+  pub pending : filter (is_of buttons 0) left.pending ≡ drop gone (filter (is_of buttons 0) before.pending)
+  pub is : later ≡ option_map_or (λ u. scheduled u left) upcall left
 
 -- an edge of which a process is told schedules its upcall, that which it now holds, with the button and its state, 1
 -- for pressed, and changes nothing else of what is its own; where there is none no upcall of an edge is scheduled: one

@@ -12,8 +12,7 @@ use Rattle.tbf_headers.specs.Meaning.{header_reading, main_by}
 use Rattle.board_devices.specs.Arriving.{differs}
 use Rattle.script_text.specs.Settings.{ScriptEvent as Arrival}
 use Rattle.process_record.specs.Emit.{nothing}
-use Rattle.syscall_abi.specs.Call.{form_of}
-use Rattle.syscall_abi.specs.declared.call.Call.{Call as SystemCall}
+use Rattle.syscall_abi.specs.declared.form.CallForm.{CallForm}
 use Rattle.process_model.specs.Own.{Own}
 use Rattle.driver_model.specs.Commands.{BoardRequest, QueueName}
 use Rattle.driver_model.specs.Drivers.{CommandContext}
@@ -144,13 +143,13 @@ NextLiesAhead = (w : World) → ready_device (ready_devices w) ≡ None → IfSo
 -- Values").
 abbrev pub RefusedChangesNothingElse : Type 0
 RefusedChangesNothingElse =
-    (strict : Bool) (around : CommandContext) (r : Record) (call : SystemCall) (rule : CallRule)
+    (strict : Bool) (around : CommandContext) (r : Record) (call : CallForm) (rule : CallRule)
     → rule_shown (served strict around r call).outcome ≡ Some rule
-    → served strict around r call ≡ refused_with r rule (failure_of (form_of call) rule)
+    → served strict around r call ≡ refused_with r rule (failure_of call rule)
 
 -- a call has come to its end once it is served: no driver has it still to answer
 abbrev pub NoneIsLeft : Type 0
-NoneIsLeft = (strict : Bool) (around : CommandContext) (r : Record) (call : SystemCall) →
+NoneIsLeft = (strict : Bool) (around : CommandContext) (r : Record) (call : CallForm) →
     (served strict around r call).outcome ≢ ToDriver
 
 -- What drivers keep of a process changes at its own calls alone, and at what ends its life: a turn without a call and

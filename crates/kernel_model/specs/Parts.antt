@@ -20,13 +20,12 @@ use Rattle.tk_base.specs.Call.{error_of}
 use Rattle.rv32_model.specs.UserTurn.{MemoryAccess, denied_at}
 use Rattle.tbf_headers.specs.declared.fault.HeaderFault.{HeaderFault}
 use Rattle.tbf_headers.specs.declared.program.Main.{Main}
-use Rattle.tbf_headers.specs.Meaning.{Meaning, header_reading, permissions_by, region_in}
-use Rattle.syscall_abi.specs.declared.call.Call.{Call as SystemCall}
+use Rattle.tbf_headers.specs.Meaning.{Meaning, header_reading, of_app, permissions_by, region_in}
+use Rattle.syscall_abi.specs.declared.form.CallForm.{CallForm}
 use Rattle.syscall_abi.specs.declared.form.Swap.{Swap}
 use Rattle.syscall_abi.specs.declared.reply.Reply.{Reply}
 use Rattle.syscall_abi.specs.declared.reply.Reply.TheVariants.{FailureU32U32}
-use Rattle.syscall_abi.specs.Call.{call_of, form_of}
-use Rattle.process_record.specs.Process.{after_refusal, after_turn}
+use Rattle.syscall_abi.specs.Call.{call_of}
 use Rattle.syscall_filter.specs.Permission.{permitted}
 use Rattle.upcall_queue.specs.declared.inbox.Delivery.{Delivery}
 use Rattle.upcall_queue.specs.Pending.{left_by}
@@ -48,7 +47,7 @@ use Rattle.process_record.specs.Lines.{slot_named}
 use Rattle.process_record.specs.Operator.{ends_by}
 use Rattle.kernel_model.specs.declared.settings.Settings.{Settings}
 use Rattle.kernel_model.specs.Record.{Record, instruction, record_with_step, slot_line_of, with_effect}
-use Rattle.kernel_model.specs.Calls.{failure_of}
+use Rattle.kernel_model.specs.Calls.{failure_of, refused_with}
 use Rattle.kernel_model.specs.Calls.{Served, deliver, driver_answered, restarted_with, served, swap_by, swap_refusal}
 use Rattle.kernel_model.specs.Turn.{Alarmed, Event, NoWord, TurnTrace, Turned, Word, apply, at_turn_end, called}
 use Rattle.kernel_model.specs.Turn.{faulted}
@@ -94,9 +93,9 @@ abbrev pub commanded : Record → Commanded → Served
 commanded r c = record (driver_answered (record_with_step r c.step) c.answer) { acts = c.acts }
 
 -- whether an object permits a call to its process, under a strict filter or an open one
-abbrev pub object_permits : Bool → List ℕ → SystemCall → Bool
+abbrev pub object_permits : Bool → List ℕ → CallForm → Bool
 object_permits strict object call =
-    permitted strict (permissions_by (header_reading object)) (form_of call)
+    permitted strict (permissions_by (header_reading object)) call
 
 -- a process that starts again by what its header says of its entry; as it was where it says nothing
 abbrev pub restarted_main : Record → Meaning → Option Main → Record
@@ -104,17 +103,17 @@ restarted_main r h main = unwrap_or (option_map (restarted_with r h) main) r
 
 -- the same by what the header means; as it was where it has a fault
 abbrev pub restarted_by : Record → Result Meaning HeaderFault → Record
-restarted_by r header = unwrap_or (option_and_then (λ h. option_map (restarted_with r h) h.main) (result_ok header)) r
+restarted_by r header = unwrap_or (of_app (restarted_with r) header) r
 
 -- a class that is unknown is denied as a fetch at the `ecall`'s address
 abbrev pub unknown_call : Process → Denial
 unknown_call p = denied_at Fetch p.regs.pc UnknownClass
 
 -- the call that stands in the registers is served; an unknown class is a fault
-abbrev pub calls : Settings → ℕ → Record → List MemoryAccess → Option SystemCall → Turned
+abbrev pub calls : Settings → ℕ → Record → List MemoryAccess → Option CallForm → Turned
 calls settings time r accesses call =
     let serve =
-    λ (c : SystemCall). called r accesses c (served settings.strict (surroundings settings time r) r c) in
+    λ (c : CallForm). called r accesses c (served settings.strict (surroundings settings time r) r c) in
     unwrap_or (option_map serve call) (faulted settings r (denied_at Fetch r.process.regs.pc UnknownClass))
 
 -- the turn of a process that runs
@@ -236,8 +235,8 @@ served_by w dev.Store = slice_get (may_serve (only_in w) w.devices.waiting.store
 -- the refusal is recorded. Its memory, its grants, its upcalls and its storage are as they were.
 abbrev pub CallIsRefused : CallRule → Record → Record → Type 0
 CallIsRefused rule r s =
-    (call : SystemCall) × (call_of r.process.regs ≡ Some call)
-    × (s ≡ record r { process = after_refusal (after_turn r.process) rule (failure_of (form_of call) rule) })
+    (call : CallForm) × (call_of r.process.regs ≡ Some call)
+    × (s ≡ (refused_with (turn_counted r) rule (failure_of call rule)).after)
 
 -- the serial line of a lane
 abbrev pub line_in : ℕ → Devices → SerialLine

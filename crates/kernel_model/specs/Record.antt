@@ -4,8 +4,9 @@ use Rattle.std.specs.Prelude.{ℕ, ◌+◌, ◌-◌, ◌&&◌, nat_le, nat_lt, i
 use Rattle.rv32_model.specs.UserTurn.{UserTurn, user_turn}
 use Rattle.process_model.specs.Permission.{denied}
 use Rattle.process_model.specs.Own.{Own}
+use Rattle.process_model.specs.Served.{own_scheduling}
 use Rattle.process_model.specs.Changes.{own_byte}
-use Rattle.driver_model.specs.Steps.{DriverStep, own_after}
+use Rattle.driver_model.specs.Steps.{DriverStep}
 use Rattle.process_model.specs.Instruction.{with_write}
 use Rattle.process_record.specs.declared.process.Process.{Process}
 use Rattle.process_record.specs.declared.summary.SlotLine.{SlotLine}
@@ -33,7 +34,7 @@ byte_at r at =
 
 -- a record of which a driver served the process: what it left is the process's own, and what it scheduled is queued
 abbrev pub record_with_step : Record → DriverStep → Record
-record_with_step r step = record r { own = own_after step }
+record_with_step r step = record r { own = own_scheduling step.schedules step.own }
 
 -- the instruction at pc, under what the process may access and over its own bytes
 abbrev pub instruction : Record → UserTurn

@@ -3,11 +3,11 @@ use Rattle.std.specs.Prelude.{◌≡◌, ℕ, ◌+◌, Some, All, option_and_the
 use Rattle.tk_base.specs.declared.call.CallRule.{CallRule}
 use Rattle.tk_base.specs.declared.process.Choice.{Choice}
 use Rattle.turn_scheduler.specs.RoundRobin.{used_after}
-use Rattle.syscall_abi.specs.declared.call.Call.{Call as SystemCall}
-use Rattle.syscall_abi.specs.Call.{call_of, form_of}
-use Rattle.process_record.specs.Process.{after_refusal, after_turn}
+use Rattle.syscall_abi.specs.declared.form.CallForm.{CallForm}
+use Rattle.syscall_abi.specs.Call.{call_of}
 use Rattle.kernel_model.specs.Record.{Record}
-use Rattle.kernel_model.specs.Calls.{failure_of}
+use Rattle.kernel_model.specs.Calls.{failure_of, refused_with}
+use Rattle.kernel_model.specs.Turn.{turn_counted}
 use Rattle.kernel_model.specs.World.{World, Label, after, labels}
 
 -- Of the process: the turn counts, the failure of the rule stands in the reply registers, pc is past the `ecall`, and
@@ -16,15 +16,11 @@ use Rattle.kernel_model.specs.World.{World, Label, after, labels}
 -- changed.
 pub record LeavesRefused (w v : World) (slot : ℕ) (rule : CallRule) : Type 0 where
   pub before : Record
-  pub after : Record
   pub is_there : slice_get w.records slot ≡ Some before
-  pub call : SystemCall
+  pub call : CallForm
   pub is_made : call_of before.process.regs ≡ Some call
-  pub refused : after ≡ record before {
-    process = after_refusal (after_turn before.process) rule (failure_of (form_of call) rule);
-  }
   pub world : v ≡ record w {
-    records = slice_set w.records slot after;
+    records = slice_set w.records slot (refused_with (turn_counted before) rule (failure_of call rule)).after;
     clock = record { time = w.clock.time + 1; steps = w.clock.steps + 1 };
     present = record { slot = Some slot; used = used_after w.present.slot w.present.used w.pace.slice slot };
   }

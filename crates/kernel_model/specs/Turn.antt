@@ -2,6 +2,7 @@
 -- turn is one instruction is this board's own rule.
 use Rattle.std.specs.Prelude.{ℕ, ◌==◌, ◌&&◌, Bool, true, false, not, if◌then◌else◌, List, [], ◌∷◌, Option, None, Some}
 use Rattle.std.specs.Prelude.{is_some, option_map, unwrap_or}
+use Rattle.std.specs.Prelude.{◌+◌}
 use Rattle.tk_base.specs.declared.access.Access.TheVariants.{Fetch}
 use Rattle.tk_base.specs.declared.access.Rule.TheVariants.{UnknownClass}
 use Rattle.tk_base.specs.declared.access.Denial.{Denial}
@@ -9,7 +10,7 @@ use Rattle.tk_base.specs.declared.call.CallRule.{CallRule}
 use Rattle.tk_base.specs.declared.process.Verb.{Verb}
 use Rattle.tk_base.specs.declared.process.Verb.TheVariants as verbs
 use Rattle.tk_base.specs.Bits.{with_bit}
-use Rattle.tk_base.specs.Regs.{Registers}
+use Rattle.tk_base.specs.Regs.{Registers, register}
 use Rattle.rv32_model.specs.declared.turn_end.TurnEnd.{TurnEnd}
 use Rattle.rv32_model.specs.declared.turn_end.TurnEnd.TheVariants.{Went, Call, Trap}
 use Rattle.rv32_model.specs.UserTurn.{MemoryAccess, denied_at}
@@ -18,10 +19,9 @@ use Rattle.fault_policy.specs.declared.Action.TheVariants.{Stop, Restart}
 use Rattle.fault_policy.specs.Policy.{decision}
 use Rattle.upcall_queue.specs.declared.inbox.Delivery.{Delivery}
 use Rattle.upcall_queue.specs.Pending.{due, left_by}
-use Rattle.syscall_abi.specs.declared.call.Call.{Call as SystemCall}
 use Rattle.syscall_abi.specs.declared.form.CallForm.{CallForm}
 use Rattle.syscall_abi.specs.declared.form.CallForm.TheVariants.{Yield}
-use Rattle.syscall_abi.specs.Call.{call_of, class, form_of, a0, a1, a2, a3}
+use Rattle.syscall_abi.specs.Call.{call_of, class}
 use Rattle.syscall_abi.specs.Reply.{put_reply}
 use Rattle.process_model.specs.Own.{own_ended as ended_own}
 use Rattle.board_devices.specs.Clock.{clock_at}
@@ -33,13 +33,12 @@ use Rattle.driver_model.specs.Random as random
 use Rattle.driver_model.specs.Storage as storage
 use Rattle.driver_model.specs.Commands.{BoardRequest, leaving_all}
 use Rattle.driver_model.specs.Drivers.{CommandContext}
-use Rattle.process_model.specs.Flag.{flag_place}
+use Rattle.process_model.specs.Handed.{lies_in_ram}
 use Rattle.process_record.specs.declared.emit.CallMade.{CallMade}
 use Rattle.process_record.specs.declared.outcome.Outcome.{Outcome}
 use Rattle.process_record.specs.declared.outcome.Outcome.TheVariants as outcomes
 use Rattle.process_record.specs.declared.process.State.{State}
 use Rattle.process_record.specs.declared.process.State.TheVariants.{Faulted, Running, Yielded}
-use Rattle.process_record.specs.Process.{after_turn}
 use Rattle.process_record.specs.Operator.{own_operated, process_operated}
 use Rattle.kernel_model.specs.Record.{flash_of}
 use Rattle.kernel_model.specs.Record.{Record, instruction, with_effect, record_with_step}
@@ -63,9 +62,9 @@ pub record Turned : Type 0 where
   pub told : TurnTrace
   pub acts : List BoardRequest
 
--- the arguments of a call, or its reply: a0 to a3
+-- the arguments of a call, or its reply: a0 to a3, which are x10 to x13
 abbrev pub arguments : Registers → List ℕ
-arguments regs = a0 regs ∷ a1 regs ∷ a2 regs ∷ a3 regs ∷ []
+arguments regs = register regs 10 ∷ register regs 11 ∷ register regs 12 ∷ register regs 13 ∷ []
 
 -- what an outcome shows: the reply as it stands in the registers, and the rule that the call broke
 abbrev pub reply_shown : Registers → Outcome → Option (List ℕ)
@@ -101,14 +100,14 @@ faulted settings r denial =
 -- the flag that a form of calls writes: that of a yield which does not wait, where it lies in accessible RAM (TRD 104,
 -- "Yield")
 abbrev pub yield_flag_of : Record → CallForm → Option ℕ
-yield_flag_of r (Yield number a1 a2) = if number == 0 then flag_place a1 r.own else None
+yield_flag_of r (Yield number a1 a2) = if number == 0 && lies_in_ram r.own.layout a1 1 then Some a1 else None
 yield_flag_of r form = None
 
 -- a call that was made, with what came of it
-abbrev pub called : Record → List MemoryAccess → SystemCall → Served → Turned
+abbrev pub called : Record → List MemoryAccess → CallForm → Served → Turned
 called r accesses call s =
     let shown = Some (made r.process.regs s.outcome) in
-    let told = record untraced { accesses = accesses; call = shown; flag = yield_flag_of r (form_of call) } in
+    let told = record untraced { accesses = accesses; call = shown; flag = yield_flag_of r call } in
     record { after = s.after; told = told; acts = s.acts }
 
 -- what a command of a process sees of the board at a time, by its record
@@ -126,14 +125,14 @@ surroundings settings time r = record {
 abbrev pub at_turn_end : Settings → ℕ → Record → List MemoryAccess → TurnEnd → Turned
 at_turn_end settings time r accesses Went = record (idle r) { told = record untraced { accesses = accesses } }
 at_turn_end settings time r accesses Call =
-    let serve = λ (c : SystemCall). called r accesses c (served settings.strict (surroundings settings time r) r c) in
+    let serve = λ (c : CallForm). called r accesses c (served settings.strict (surroundings settings time r) r c) in
     let unknown = denied_at Fetch r.process.regs.pc UnknownClass in
     unwrap_or (option_map serve (call_of r.process.regs)) (faulted settings r unknown)
 at_turn_end settings time r accesses (Trap denial) = faulted settings r denial
 
 -- the turn of a process: one instruction, which counts, a faulting one too
 abbrev pub turn_counted : Record → Record
-turn_counted r = record r { process = after_turn r.process }
+turn_counted r = record r { process = record r.process { turns = r.process.turns + 1 } }
 
 -- Its turn. One that runs executes its next instruction, and what its end asks for is done; one that has yielded gets
 -- what is due to it, which is its turn (TRD 104, "Yield"); one that ended has none.

@@ -10,26 +10,18 @@ use Rattle.syscall_abi.specs.declared.reply.Reply.TheVariants.{Failure, FailureU
 use Rattle.syscall_abi.specs.declared.reply.Reply.TheVariants.{SuccessU32, SuccessU32U32, SuccessU64, SuccessU32U32U32}
 use Rattle.syscall_abi.specs.declared.reply.Reply.TheVariants.{SuccessU32U64}
 
--- the two words of a number of 64 bits
-abbrev pub low : ℕ → ℕ
-low value = value % 2 ^ 32
-
--- the upper 32 bits of a number of 64
-abbrev pub high : ℕ → ℕ
-high value = value / 2 ^ 32
-
--- the words of a reply: the variant's number, and then its values
+-- the words of a reply: the variant's number, and then its values, of a number of 64 bits the lower 32 first
 abbrev pub reply_words : Reply → List ℕ
 reply_words (Failure error) = 0 ∷ code_of error ∷ []
 reply_words (FailureU32 error first) = 1 ∷ code_of error ∷ first ∷ []
 reply_words (FailureU32U32 error first second) = 2 ∷ code_of error ∷ first ∷ second ∷ []
-reply_words (FailureU64 error value) = 3 ∷ code_of error ∷ low value ∷ high value ∷ []
+reply_words (FailureU64 error value) = 3 ∷ code_of error ∷ value % 2 ^ 32 ∷ value / 2 ^ 32 ∷ []
 reply_words Success = 128 ∷ []
 reply_words (SuccessU32 first) = 129 ∷ first ∷ []
 reply_words (SuccessU32U32 first second) = 130 ∷ first ∷ second ∷ []
-reply_words (SuccessU64 value) = 131 ∷ low value ∷ high value ∷ []
+reply_words (SuccessU64 value) = 131 ∷ value % 2 ^ 32 ∷ value / 2 ^ 32 ∷ []
 reply_words (SuccessU32U32U32 first second third) = 132 ∷ first ∷ second ∷ third ∷ []
-reply_words (SuccessU32U64 first value) = 133 ∷ first ∷ low value ∷ high value ∷ []
+reply_words (SuccessU32U64 first value) = 133 ∷ first ∷ value % 2 ^ 32 ∷ value / 2 ^ 32 ∷ []
 
 -- the registers with words put into one after another, from a number on
 abbrev pub with_words : ℕ → List ℕ → Registers → Registers

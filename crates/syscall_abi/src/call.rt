@@ -1,6 +1,7 @@
 //! What a process asks for by `ecall`.
-ghost use Rattle.std.specs.Prelude.{◌≡◌, ◌<◌, ◌↔◌, IsNone};
-ghost use Rattle.syscall_abi.specs.Call.{call_of, class, driver_named, form_of, swap_form};
+ghost use Rattle.std.specs.Prelude.{◌≡◌, ◌<◌, ◌↔◌, IsNone, option_map};
+ghost use Rattle.syscall_abi.specs.Call.{call_of, class};
+ghost use Rattle.syscall_abi.specs.Forms.{driver_in, form_of, swap_form, FormsTellCalls};
 
 use crate::form::{CallForm, Swap};
 use tk_base::{PairKind, Regs};
@@ -69,7 +70,7 @@ impl Call {
     /// The driver that the call names, which it may need permission for (Tock Binary Format,
     /// "Permissions"). None of a yield, a memop and an exit, which are every process's to make.
     pub fn driver(&self) -> Option<u32>
-        ensures { result ≡ driver_named self.now }
+        ensures { result ≡ driver_in (form_of self.now) }
     {
         match self.form() {
             CallForm::Swap(Swap { driver, .. }) | CallForm::Command { driver, .. } => Some(driver),
@@ -131,9 +132,10 @@ impl Call {
 
     /// The call that the registers make: the class stands in a4, the arguments in a0 to a3. None
     /// exactly for a class above 7 (TRD 104, "System Call API"; Tock's kernel has class 7 beside those).
+    /// The contract names it by its form, which is that of no other call ([`forms_tell_calls`]).
     #[tactic(auto, unfolding(crate::specs::Call::call_of, crate::specs::Call::class_table))]
     pub fn of(regs: &Regs) -> Option<Call>
-        ensures call { result ≡ call_of regs.now }
+        ensures call { option_map form_of result ≡ call_of regs.now }
         ensures none { IsNone result ↔ (7 < class regs.now) }
     {
         let (a0, a1) = (regs.get(10), regs.get(11));
@@ -179,6 +181,11 @@ impl Call {
         }
     }
 }
+
+/// Calls with one form are one call.
+pub fn forms_tell_calls()
+    ensures { FormsTellCalls }
+{}
 
 /// The form of a subscribe or an allow.
 fn swap(kind: PairKind, driver: u32, number: u32, pair: (u32, u32)) -> CallForm

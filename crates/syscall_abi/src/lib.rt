@@ -6,6 +6,6 @@ mod call;
 mod form;
 mod reply;
 
-pub use call::Call;
+pub use call::{Call, forms_tell_calls};
 pub use form::{CallForm, Swap};
 pub use reply::{Reply, reply_of};

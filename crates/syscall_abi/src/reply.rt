@@ -1,6 +1,6 @@
 //! What a process gets back for a system call.
-ghost use Rattle.std.specs.Prelude.{◌≡◌, ◌+◌, ◌≤◌, length};
-ghost use Rattle.syscall_abi.specs.Reply.{put_reply, reply_of, with_words, is_failure, low, high};
+ghost use Rattle.std.specs.Prelude.{◌≡◌, ◌+◌, ◌/◌, ◌%◌, ◌^◌, ◌≤◌, length};
+ghost use Rattle.syscall_abi.specs.Reply.{put_reply, reply_of, with_words, is_failure};
 
 use tk_base::{CallRule, ErrorCode, Regs};
 
@@ -88,14 +88,14 @@ pub fn reply_of(answer: Result<Reply, CallRule>) -> (Reply, Option<CallRule>)
 
 /// The low word of a number of 64 bits.
 fn low_word(value: u64) -> u32
-    ensures { result ≡ low value }
+    ensures { result ≡ value % 2 ^ 32 }
 {
     (value % 0x1_0000_0000) as u32
 }
 
 /// The high word of a number of 64 bits.
 fn high_word(value: u64) -> u32
-    ensures { result ≡ high value }
+    ensures { result ≡ value / 2 ^ 32 }
 {
     (value / 0x1_0000_0000) as u32
 }

@@ -1,10 +1,11 @@
 use Rattle.std.proofs.Common.{◌≡◌, ◌+◌, Some, ap, sym, subst, ◌∙◌}
 use Rattle.process_record.specs.declared.process.Process.{Process}
+use Rattle.syscall_abi.specs.Forms.{form_of}
 use Rattle.tk_base.specs.declared.process.ProcessId.{ProcessId}
 use Rattle.driver_model.specs.Drivers.{CommandHandler, handler_of}
 use Rattle.grant_enter.specs.Homes.{ChangesOnly, Homes, own_of}
 use Rattle.process_model.specs.Flash.{object_in}
-use Rattle.kernel_calls.specs.Outcomes.{is_driver_command}
+use Rattle.kernel_calls.specs.Outcomes.{is_taken}
 use Rattle.board_drivers.specs.declared.drivers.Order.{Order}
 use Rattle.board_drivers.specs.Residents.{id_of}
 use Rattle.board_turns.proofs.Commands.{Came, came, came_in_place, finishes, living_id, some_of, stays_seated, taken_of}
@@ -24,9 +25,9 @@ order c = record {
 -- who takes it
 taker : (c : After-give_reply) → (t : CommandHandler) × (handler_of c.in-Command.driver ≡ Some t)
 taker c = some_of (handler_of c.in-Command.driver)
-    (ap is_driver_command (sym c.in-Command.is)
+    (ap is_taken (sym (ap form_of c.in-Command.is))
     ∙ taken_of c.args.self.now.moment.settings.strict (object_in c.args.self.now.home.flash c.args.process.now.object)
-    c.args.call.now c.requires.left)
+    (form_of c.args.call.now) c.requires.left)
 
 -- the id is that of the process
 known : (c : After-give_reply) → c.in-Some.id ≡ id_of c.args.slot (own_of c.args.self.now.home c.args.slot)
@@ -48,9 +49,11 @@ returns-clause-serves c =
     let a = (goal.at.returns-clause-serves c).After-give_reply in
     finishes c.args.self.now.moment c.args.slot c.args.self.now.home c.command-reply.new.home (order a)
     c.command-reply.result
-    c.args.self.now.drivers c.command-reply.new.self c.args.process.now c.give_reply.new.process c.args.call.now
+    c.args.self.now.drivers c.command-reply.new.self c.args.process.now c.give_reply.new.process
+    (form_of c.args.call.now)
     c.give_reply.result (taker a).0 (taker a).1
-    c.in-Command.is c.requires.left (answered a) (ap (λ (p : Process). p.object) c.give_reply.ensures.stays)
+    (ap form_of c.in-Command.is) c.requires.left (answered a)
+    (ap (λ (p : Process). p.object) c.give_reply.ensures.stays)
     (ap (λ (h : Homes). h.flash) c.command-reply.ensures.rest) c.give_reply.ensures.gives
 
 pub returns-clause-leaves : goal.returns-clause-leaves

@@ -1,4 +1,5 @@
 use Rattle.std.proofs.Common.{List, ap, sym, subst}
+use Rattle.syscall_abi.specs.Forms.{form_of}
 use Rattle.driver_model.specs.Commands.{BoardRequest}
 use Rattle.grant_enter.specs.Homes.{own_of}
 use Rattle.board_drivers.specs.Driven.{Drives}
@@ -15,7 +16,7 @@ returns-clause-serves c =
     let m = c.args.self.now.moment in
     let home = c.args.self.now.home in
     let process = c.args.process.now in
-    let call = c.args.call.now in
+    let call = form_of c.args.call.now in
     let id = id_of c.args.slot (own_of home c.args.slot) in
     elim c.match-kernel_call.branch [
       | in-ToDriver w ↦

@@ -1,4 +1,5 @@
-use Rattle.std.proofs.Common.{ap, sym, ◌∙◌, []}
+use Rattle.std.proofs.Common.{ap, sym, option_map, ◌∙◌, []}
+use Rattle.syscall_abi.specs.Forms.{form_of}
 use Rattle.kernel_model.specs.Calls.{Served}
 use Rattle.kernel_model.specs.Turn.{arguments, surroundings}
 use Rattle.kernel_calls.specs.Outcomes.{record_of_slot}
@@ -17,8 +18,8 @@ returns-in_default-clause-serves c =
     unknown_faults x.moment c.args.slot x.home.flash (resident x.home c.args.slot c.args.process.now)
     (resident f.new.self.home c.args.slot f.new.process) c.unknown_class-denial.result
     (told_in_emit f.new.emit) x.drivers
-    f.new.self.drivers (sym c.of.ensures.call ∙ c.in_default.is) c.unknown_class-denial.ensures f.ensures.shown
-    f.ensures.settles f.ensures.gone
+    f.new.self.drivers (sym c.of.ensures.call ∙ ap (option_map form_of) c.in_default.is)
+    c.unknown_class-denial.ensures f.ensures.shown f.ensures.settles f.ensures.gone
 
 -- the reply to a call
 pub call_shown-requires : goal.call_shown-requires
