@@ -14,32 +14,44 @@ from common import TOCK, write
 from cases.case import REPOSITORY
 
 # Notes when it begins and ends a crate, refuses one with the word `wrong`, and makes a program that tells of which
-# sources it was made. Kept work is a file that it writes in `out`.
-PROVER = """#!/bin/sh
-[ "$1" != version ] || { echo "a prover, version %s"; exit 0; }
-name=$(basename "$PWD")
+# sources it was made.
+KIT = {
+    "rt": """#!/bin/sh
+case $1 in
+    version) echo "a prover, version %(version)s" ;;
+    doc) echo "%(kit)s/START-HERE.md" ;;
+esac
+""",
+    "rattle": """#!/bin/sh
+name=$3
+for word; do made=$word; done
 echo "begin $name" >>"$LOG"
 sleep ${SLEEP:-0}
 ! grep -r wrong src || { echo "$name: a wrong body"; exit 1; }
-mkdir -p out/rlib out/incremental
-case $1 in
-    lib) echo built >out/rlib/stamp ;;
-    run) for below in base one other middle; do [ -e ../$below/out/rlib/stamp ] || exit 1; done
-        { echo '#!/bin/sh'; echo "echo made of $(cat ../*/src/*.rt | tr '\\n' ' ')for \\"\\$@\\""; } >out/tock
-        chmod +x out/tock ;;
+for word; do case $word in *=*/out/proved/*) [ -d "${word#*=}" ] || exit 2 ;; esac; done
+case $made in
+    *.o) { echo '#!/bin/sh'; echo "echo made of $(cat ../*/src/*.rt | tr '\\n' ' ')for \\"\\$@\\""; } >"$made" ;;
+    *) mkdir -p "$made" ;;
 esac
 echo "end $name" >>"$LOG"
-"""
+""",
+    "rattle-link": """#!/bin/sh
+while [ "$1" != -o ]; do shift; done
+cp "$3" "$2" && chmod +x "$2"
+""",
+}
 CRATES = """# the crates
 base:
 one: base
-other: base hex   # and a library of the kit
+other: base hex samples   # and a library of the kit, and one that no source but tests names
+samples: base
 
 middle: one other
 beside: middle
 tock: middle
 """
-NAMES = ("base", "one", "other", "middle", "beside", "tock")
+NAMES = ("base", "one", "other", "samples", "middle", "beside", "tock")
+USES = {"one": "base", "other": "base", "middle": "one other", "tock": "middle"}
 PROVED = ["base", "middle", "one", "other", "tock"]
 ABOUT = r"(less than a minute|about a minute|about \d+ minutes)"
 BEGUN = (r"tock: proving the kernel's 5 crates and building the program, once; this takes %s where none was proved "
@@ -58,6 +70,7 @@ class Repository:
         self.environment.update(LOG=self.log, PATH=os.path.join(folder, "bin") + os.pathsep + os.environ["PATH"])
         for name in NAMES:
             self.writes(name, name)
+            write(self.top, os.path.join("crates", name, "specs", "Lib.antt"), USES.get(name, "") + "\n")
         write(self.top, "crates.txt", CRATES)
         write(self.top, "HANDLES", "Handles allowed: none.\n")
         shutil.copy(TOCK, self.top)
@@ -70,7 +83,10 @@ class Repository:
         write(self.top, os.path.join("crates", name, "src", file), text + "\n")
 
     def prover(self, version):
-        write(os.path.join(os.path.dirname(self.top), "bin"), "rt", PROVER % version, 0o755)
+        kit = os.path.dirname(self.top)
+        for command, text in KIT.items():
+            text = text % {"version": version, "kit": kit} if command == "rt" else text
+            write(os.path.join(kit, "bin"), command, text, 0o755)
 
     def begins(self, tock="tock", words=("soak", "1"), **more):
         """./tock, running. An interrupt stops it, also where these tests run in the background of a shell that has
@@ -119,30 +135,30 @@ def first(repository):
             return "%s was begun before %s was proved" % (upper, below)
     if len(os.sched_getaffinity(0)) > 1 and sorted(lines[2:4]) != ["begin one", "begin other"]:
         return "not side by side: %s" % lines
-    left = os.path.exists(os.path.join(repository.top, "out", "proving"))
     again = repository.runs(), repository.proved()[0]
-    return None if again == ((0, made(), ""), []) and not left else "a later run: %r" % (again,)
+    return None if again == ((0, made(), ""), []) else "a later run: %r" % (again,)
 
 
 def changed(repository):
-    """A source that is edited, added or deleted, and another prover, are noticed; other times and what the program does
-    not need are not."""
+    """A source that is edited, added or deleted, and another prover, are noticed, and what stands on it is proved again
+    and no more; other times and what the program does not need are not."""
     repository.runs()
     repository.proved()
     source = os.path.join(repository.top, "crates", "base", "src", "lib.rt")
-    for what, change, text, is_noticed in (
-            ("touched", lambda: os.utime(source), "base", False),
-            ("not needed", lambda: repository.writes("beside", "beside"), "base", False),
-            ("edited", lambda: repository.writes("base", "basis"), "basis", True),
-            ("added", lambda: repository.writes("base", "added", "added.rt"), "added basis", True),
-            ("deleted", lambda: os.remove(source.replace("lib", "added")), "basis", True),
-            ("another prover", lambda: repository.prover(2), "basis", True),
-            ("the same prover", lambda: repository.prover(2), "basis", False)):
+    for what, change, text, again in (
+            ("touched", lambda: os.utime(source), "base", []),
+            ("not needed", lambda: repository.writes("beside", "beside"), "base", []),
+            ("edited", lambda: repository.writes("base", "basis"), "basis", PROVED),
+            ("edited higher", lambda: repository.writes("middle", "middle "), "basis", ["middle", "tock"]),
+            ("added", lambda: repository.writes("base", "added", "added.rt"), "added basis", PROVED),
+            ("deleted", lambda: os.remove(source.replace("lib", "added")), "basis", PROVED),
+            ("another prover", lambda: repository.prover(2), "basis", PROVED),
+            ("the same prover", lambda: repository.prover(2), "basis", [])):
         change()
         status, out, told = repository.runs()
         names, _ = repository.proved()
         is_right = (status, sorted(out.split())) == (0, sorted(made(base=text).split()))
-        if not is_right or names != (PROVED if is_noticed else []):
+        if not is_right or names != again:
             return "%s: %d, %r, proved %s" % (what, status, out, names)
     return None
 
@@ -157,11 +173,11 @@ def refused(repository):
     names, _ = repository.proved()
     if (status, out) != (1, "") or "== other\nsrc/lib.rt:wrong\nother: a wrong body\n" not in told or "middle" in names:
         return "%d, %r, told %r, proved %s" % (status, out, told, names)
-    if not os.path.exists(os.path.join(repository.top, "crates", "base", "out", "rlib", "stamp")):
-        return "what was proved is not kept"
     repository.writes("other", "mended")
     status, out, told = repository.runs()
-    return None if (status, out) == (0, made(other="mended")) else "mended: %d, %r" % (status, out)
+    names, _ = repository.proved()
+    is_right = (status, out) == (0, made(other="mended")) and "base" not in names
+    return None if is_right else "mended: %d, %r, proved %s" % (status, out, names)
 
 
 def edited_meanwhile(repository):
@@ -188,31 +204,20 @@ def two_at_once(repository):
 
 
 def stopped(repository):
-    """Where it is stopped, what was proved is kept, and no copy of the repository is left."""
-    run = repository.begins(SLEEP="0.5")
-    repository.waits("end base")
-    os.killpg(run.pid, signal.SIGINT)
-    status, out, told = repository.ends(run)
-    kept = os.path.exists(os.path.join(repository.top, "crates", "base", "out", "rlib", "stamp"))
-    if status == 0 or out or not kept or os.path.exists(os.path.join(repository.top, "out", "proving")):
-        return "%d, %r, told %r, kept %s" % (status, out, told, kept)
-    status, out, _ = repository.runs()
-    return None if (status, out) == (0, made()) else "a later run: %d, %r" % (status, out)
-
-
-def killed(repository):
-    """Where it is killed, the next run takes up what copies of the repository have, and removes them."""
-    run = repository.begins(SLEEP="0.5")
-    repository.waits("begin one")
-    os.killpg(run.pid, signal.SIGKILL)
-    repository.ends(run)
-    copies = os.path.join(repository.top, "out", "proving")
-    made_before = os.path.join(repository.top, "crates", "one", "out")
-    write(copies, "0/crates/one/out/kept", "kept")
-    shutil.rmtree(made_before, ignore_errors=True)
-    status, out, told = repository.runs()
-    if (status, out) != (0, made()) or os.path.exists(copies) or not os.path.exists(os.path.join(made_before, "kept")):
-        return "%d, %r, told %r" % (status, out, told)
+    """Where it is stopped or killed, what was proved is kept, and the next run goes on from there."""
+    for number in (signal.SIGINT, signal.SIGKILL):
+        repository.writes("base", "base for %d" % number)
+        run = repository.begins(SLEEP="0.5")
+        repository.waits("begin one")
+        os.killpg(run.pid, number)
+        status, out, told = repository.ends(run)
+        if status == 0 or out:
+            return "%d, %r, told %r" % (status, out, told)
+        repository.proved()
+        status, out, _ = repository.runs()
+        names, _ = repository.proved()
+        if (status, out) != (0, made(base="base for %d" % number)) or "base" in names or "one" not in names:
+            return "a later run: %d, %r, proved %s" % (status, out, names)
     return None
 
 
@@ -254,5 +259,5 @@ def tried(check):
 def checks(program):
     """Each check with its name."""
     return [("first-run-" + check.__name__.replace("_", "-"), lambda check=check: tried(check))
-            for check in (first, changed, refused, edited_meanwhile, two_at_once, stopped, killed, no_prover,
-                          help_first, linked)]
+            for check in (first, changed, refused, edited_meanwhile, two_at_once, stopped, no_prover, help_first,
+                          linked)]
