@@ -1,6 +1,6 @@
-"""The first run of ./tock, and those after a change, with a prover that stands in for `rt`: that it proves what the
-program needs and no more, each crate once those below it are proved, and never runs a program that other sources or
-another prover made. `checks` gives each check with its name, for tests/run."""
+"""The first run of ./tock, and those after a change, with a prover that stands in for the kit's: that it proves what
+the program needs and no more, each crate once those below it are proved, and never runs a program that other sources
+or another prover made. `checks` gives each check with its name, for tests/run."""
 
 import os
 import re

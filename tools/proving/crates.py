@@ -37,8 +37,8 @@ def size(paths):
 
 
 def work(functions, below):
-    """About how many seconds the proof of a crate takes one processor, by the bytes of its functions and by those of
-    all sources below it, which are read. Its lemmas take little beside these."""
+    """How much there is to do for the proof of a crate, by the bytes of its functions and by those of all sources below
+    it, which are read. Its lemmas take little beside these."""
     return 8 + functions / 350 + below / 50000
 
 

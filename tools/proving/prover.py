@@ -4,12 +4,15 @@ program.
 A library has its statements alone, and what was checked is not kept for a later check of the same crate: that would
 take half as long again. `rt check`, by which a crate is written, keeps what it checked itself."""
 
+import contextlib
 import hashlib
 import os
 import shutil
+import signal
 import subprocess
 
 from crates import sources
+
 
 def said_by_rt(word):
     """What `rt` says to a word."""
@@ -67,7 +70,7 @@ class Prover:
         return self.out(name, "proved", name + ".rlib")
 
     def kept(self, name):
-        """The file that tells of what a crate's library, or the program, was made."""
+        """The file that tells of what a crate's library was made."""
         return self.out(name, "proved", "stamp")
 
     def stamp(self, name):
@@ -82,17 +85,16 @@ class Prover:
         return total.hexdigest() if all(below) else ""
 
     def prove(self, name, jobs):
-        """Whether a crate is proved, with so many jobs, and all that the prover said. What was proved before from the
-        same is not proved again."""
-        is_program = name == self.crates.program
-        made = self.out(name, name) if is_program else self.library(name)
-        kept, stamp = self.kept(name), self.stamp(name)
+        """Whether a crate is proved, with so many jobs, and all that the prover said. A library that was made before
+        from the same is not made again."""
+        if name == self.crates.program:
+            return self.build(name, jobs)
+        made, kept, stamp = self.library(name), self.kept(name), self.stamp(name)
         if stamp and os.path.exists(made) and text_of(kept) == stamp:
             return True, b""
         shutil.rmtree(os.path.dirname(kept), ignore_errors=True)
         os.makedirs(os.path.dirname(kept))
-        is_proved, said = (self.build(name, jobs, made) if is_program else
-                           self.rattle(name, jobs, "--statements", "-o", made))
+        is_proved, said = self.rattle(name, jobs, "--statements", "-o", made)
         # Where a source was edited meanwhile, nobody can tell which text was proved.
         if is_proved and stamp == self.stamp(name):
             with open(kept, "w", encoding="ascii") as file:
@@ -100,32 +102,39 @@ class Prover:
         return is_proved, said
 
     def rattle(self, name, jobs, *more):
-        """As `call`, of `rattle`, which proves a crate over the libraries of those below it."""
-        words = ["build", "--crate-name", name, self.crates.root(name), "--links", name + "=", "--jobs", str(jobs),
+        """Whether `rattle` proves a crate over the libraries of those below it, and all that it said."""
+        words = ["build", "--crate-name", name, self.crates.root(name), "--links", name + "=",
                  *self.kit.libraries(["std", *self.crates.of_kit[name]]), *self.kit.logic()]
         for other in self.crates.on[name]:
             words += ["--extern", "%s=%s" % (other, self.library(other))]
         for other in self.crates.below(name):
             words += ["-L", "dependency=" + os.path.dirname(self.library(other))]
-        return self.call(name, "rattle", *words, *more)
+        status, said = self.call(name, "rattle", *words, "--jobs", str(jobs), *more)
+        # It was killed, most likely for want of memory: once more, with what takes least.
+        if status == -signal.SIGKILL and jobs > 1:
+            status, said = self.call(name, "rattle", *words, "--jobs", "1", *more)
+        return status == 0, said
 
-    def build(self, name, jobs, made):
-        """As `call`, of the program: it is proved, compiled and linked."""
-        kit = self.kit.folder
+    def build(self, name, jobs):
+        """The same of the program, which is compiled and linked too. One that was built before is taken away first."""
+        kit, made = self.kit.folder, self.out(name, name)
+        os.makedirs(os.path.dirname(made), exist_ok=True)
+        with contextlib.suppress(FileNotFoundError):
+            os.remove(made)
         tools = ["--toolchain", kit + "/toolchain", "-o"]
         is_proved, said = self.rattle(name, jobs, "--backend", "llvm", *tools, made + ".o")
         if not is_proved:
             return False, said
-        is_linked, more = self.call(name, "rattle-link", "--target", "x86_64-unknown-linux-gnu", *tools, made,
-                                    made + ".o", kit + "/c/libos_c.a", kit + "/c/liblibc_c.a")
-        return is_linked, said + more
+        status, more = self.call(name, "rattle-link", "--target", "x86_64-unknown-linux-gnu", *tools, made,
+                                 made + ".o", kit + "/c/libos_c.a", kit + "/c/liblibc_c.a")
+        return status == 0, said + more
 
     def call(self, name, command, *words):
-        """Whether a command of the kit ended well in a crate's folder, and all that it said."""
+        """How a command of the kit ended in a crate's folder, and all that it said."""
         if self.is_stopped:
-            return False, b""
+            return 1, b""
         how = {"stdin": subprocess.DEVNULL, "stdout": subprocess.PIPE, "stderr": subprocess.STDOUT}
         process = subprocess.Popen([self.kit.command(command), *words], cwd=self.crates.folder(name), **how)
         self.running[name] = process
         said = process.communicate()[0]
-        return process.returncode == 0, said
+        return process.returncode, said
