@@ -3,7 +3,7 @@ use Rattle.std.proofs.Common.{◌≡◌, ◌≢◌, ℕ, zero, suc, ◌+◌, ◌
 use Rattle.std.proofs.Common.{length}
 use Rattle.std.proofs.Common.{slice_index_or, slice_set, nat_lt, Option, None, Some, refl, sym, ap, subst, ◌∙◌}
 use Rattle.std.proofs.Common.{arith, eqb-true, eq-eqb}
-use Rattle.std.specs.Prelude.{IfSome, min, nat_eq}
+use Rattle.std.specs.Prelude.{IfSome, min, nat_eq, not}
 use Rattle.std.specs.Option.{option_eq}
 use Rattle.std.specs.List.{range_with_len}
 use Rattle.std.proofs.lemmas.Bool.{false≢true}
@@ -33,6 +33,14 @@ same_option (Some x) (Some y) e = ap Some (eqb-true x y e)
 found_same : (o : Option ℕ) → option_eq nat_eq o o ≡ true
 found_same None = refl
 found_same (Some x) = eq-eqb x x refl
+
+-- two that are not found unlike are the same
+pub same_kept : (o other : Option ℕ) → not (option_eq nat_eq o other) ≡ false → o ≡ other
+same_kept o other e = same_option o other (by_test (option_eq nat_eq o other) e)
+  where
+    by_test : (b : Bool) → not b ≡ false → b ≡ true
+    by_test true f = refl
+    by_test false f = cc
 
 pub unlike : (o other : Option ℕ) → option_eq nat_eq o other ≡ false → o ≢ other
 unlike o other e same =

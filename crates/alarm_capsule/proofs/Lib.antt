@@ -1,4 +1,5 @@
 mod Firing
+mod Living
 mod Nearest
 mod Showing
 mod Slots

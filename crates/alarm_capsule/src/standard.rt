@@ -15,7 +15,7 @@ use grant_enter::Home;
 use tk_base::{NotReady, SLOT_COUNT, Slot};
 
 /// The alarm that is due in the lowest slot.
-#[tactic(auto, unfolding(driver_model::specs::Alarm::due_slot), using(crate::proofs::Slots::passed))]
+#[tactic(auto, unfolding(driver_model::specs::Alarm::due_slot))]
 fn first_expired(home: &Home, now: u32) -> Option<Due>
     ensures slot { option_map (λ due. due.id.slot) result ≡ due_slot now home.now.owns }
     ensures due { IfSome result (λ due. AlarmIsDue now due.id.slot home.now due) }

@@ -9,7 +9,8 @@ ghost use Rattle.driver_model.specs.Alarm.{alarm_in, due_for, due_slot, has_due,
 ghost use Rattle.driver_model.specs.Alarm.{next_left};
 ghost use Rattle.driver_model.specs.Alarm.{ticks_left};
 ghost use Rattle.driver_model.specs.Alarm.{ticks_left_in};
-ghost use Rattle.alarm_capsule.specs.Times.{AllBehind, AllTell, NoneDueBelow, OthersTell, TellsAlarm};
+ghost use Rattle.alarm_capsule.specs.Times.{AllBehind, AllTell, BecomesDue, NoneDueBelow, OthersTell};
+ghost use Rattle.alarm_capsule.specs.Times.{TellsAlarm};
 ghost use Rattle.alarm_capsule.specs.Times.{comes_before, nearest_kept};
 
 use crate::answers::{Due, expired_in};
@@ -43,7 +44,8 @@ fn alarm_of(home: &Home, id: &ProcessId) -> Option<Armed>
 /// The ticks that are left of the alarm of the process that lives in a slot. None exactly where
 /// none lives there, or it has none armed.
 fn ticks_left_in(home: &Home, slot: Slot, now: u32) -> Option<u32>
-    ensures { result ≡ ticks_left_in now home.now.owns slot }
+    ensures is { result ≡ ticks_left_in now home.now.owns slot }
+    ensures due { IfSome result (λ left. BecomesDue now 0 left (slice_get home.now.owns slot)) }
 {
     let id = home.id(slot)?;
     let alarm = alarm_of(home, &id)?;
@@ -58,9 +60,8 @@ fn due_time(home: &Home, slot: Slot, now: u32, time: u64) -> Option<u64>
         ≡ option_map (λ left. time + left) (ticks_left_in now home.now.owns slot) }
     ensures tells { TellsAlarm now time result (slice_get home.now.owns slot) }
 {
-    let id = home.id(slot)?;
-    let alarm = alarm_of(home, &id)?;
-    Some(time + u64::from(ticks_left(&alarm, now)))
+    let left = ticks_left_in(home, slot, now)?;
+    Some(time + u64::from(left))
 }
 
 /// The lesser of two numbers of ticks, where there are two; the one that there is, where there is
@@ -234,7 +235,7 @@ impl AlarmTimes {
 
     /// That in the lowest slot, by a look at each slot from one on: it asks that none below that is due.
     #[inline(never)]
-    #[tactic(auto, unfolding(driver_model::specs::Alarm::due_slot), using(crate::proofs::Slots::passed))]
+    #[tactic(auto, unfolding(driver_model::specs::Alarm::due_slot))]
     fn first_due_from(&self, home: &Home, from: usize, now: u32, time: u64) -> Option<Due>
         requires tell { AllTell now time self.now home.now.owns }
         requires below { NoneDueBelow from now home.now.owns }

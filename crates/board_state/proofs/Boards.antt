@@ -42,14 +42,15 @@ use Rattle.kernel_model.specs.Laws.{NextIsReady, NextLiesAhead}
 use Rattle.kernel_model.specs.Run.{is_left, may_go, next, next_time, passes_to, ready_devices, ready_slots}
 use Rattle.kernel_model.specs.Run.{situation_of}
 use Rattle.driver_model.specs.Alarm.{nearer}
+use Rattle.board_drivers.specs.declared.drivers.Drivers.{Drivers}
 use Rattle.board_drivers.specs.Calm.{end_at, only_of}
 use Rattle.kernel_model.specs.Shown.{summary_of}
 use Rattle.board_state.specs.declared.state.BoardState.{BoardState}
-use Rattle.board_drivers.specs.Residents.{Resident, resident_turns, can_turn_in, resident_line}
+use Rattle.board_drivers.specs.Residents.{Resident, resident, resident_turns, can_turn_in, resident_line}
 use Rattle.board_state.specs.Shows.{IsBoard, recorded, world_of, residents}
-use Rattle.board_drivers.proofs.Records.{beside_get, reads_shown, owns_shown}
+use Rattle.board_drivers.proofs.Records.{beside_get, reads_shown, owns_shown, seated_there}
 use Rattle.board_drivers.proofs.Pairs.{zip-get, get_or-zip, length-firsts}
-use Rattle.board_turns.specs.Turning.{MayTurnAt}
+use Rattle.board_turns.specs.Turning.{HasProcess, MayTurn}
 
 -- each process has storage
 pub has_storage : (b : BoardState) → IsBoard b → length (residents b) ≤ length b.machine.drivers.stores.slots
@@ -340,12 +341,25 @@ next_ahead w (Some at) is near law none =
     subst (λ (o : Option ℕ). IfSome o (λ n. w.clock.time < n)) (sym is) (law w none) in
     (later, near)
 
--- turns of a slot of a board's tables may be made while steps are left
-pub may_turn_on : (turns : ℕ) (b : BoardState) (slot : ℕ) → IsBoard b → slot < length b.processes.items
+-- turns of a slot of a board's tables may be made while steps are left, whatever the drivers are
+pub may_turn_on : (turns : ℕ) (b : BoardState) (d : Drivers) (slot : ℕ) → IsBoard b → slot < length b.processes.items
     → b.machine.moment.steps + turns ≤ STEP_LIMIT
-    → MayTurnAt turns slot b.machine b.processes.items
-may_turn_on turns b slot board within limit =
-    record { within = within; owns = board.owns; seated = board.seated; limit = limit; guard = board.machine.guard }
+    → HasProcess slot b.machine.home b.processes.items (MayTurn turns slot (record b.machine { drivers = d }))
+may_turn_on turns b d slot board within limit = record {
+  within = within;
+  owns = board.owns;
+  holds = λ process is. record {
+    slot = within_owns;
+    seated = seated_there b.machine.home.flash b.machine.moment.steps b.processes.items b.machine.home.owns slot
+        (resident b.machine.home slot process) is (slice_get-get_or b.machine.home.owns slot nobody within_owns)
+        board.seated;
+    limit = limit;
+    guard = board.machine.guard;
+  };
+}
+  where
+    within_owns : slot < length b.machine.home.owns
+    within_owns = omega (arith, within, board.owns)
 
 -- no process has an alarm armed before the first step, and none is kept
 pub first_tell : (start : ℕ) (times : List (Option ℕ)) (home : Homes) (es : List Footprint)

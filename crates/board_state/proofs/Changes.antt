@@ -22,7 +22,7 @@ use Rattle.board_drivers.specs.declared.moment.Moment.{Moment}
 use Rattle.board_turns.specs.declared.turn.Shown.{Shown}
 use Rattle.board_drivers.specs.Driven.{devices_of}
 use Rattle.board_drivers.specs.Residents.{Resident, record_of, id_of, IsResident}
-use Rattle.board_turns.specs.Turning.{ChangesSlot, TurnsAt}
+use Rattle.board_turns.specs.Turning.{ChangesSlot, StepsInSlot, Turns}
 use Rattle.board_state.specs.Shows.{world_of, residents}
 use Rattle.board_turns.proofs.Turns.{rests_seated_on}
 use Rattle.board_drivers.proofs.Pairs.{zip-set, zip-get}
@@ -127,7 +127,7 @@ abbrev pub a_step_later : Moment → Moment
 a_step_later m = record m { steps = m.steps + 1 }
 
 module _ (b : BoardState) (slot : ℕ) (x : Machine) (processes : List Process) (shown : Shown)
-    (t : TurnsAt slot b.machine x b.processes.items processes shown)
+    (t : StepsInSlot 1 slot b.machine x b.processes.items processes (Turns slot b.machine x shown))
     (few : length (residents b) ≤ length b.machine.drivers.stores.slots) where
   -- the record before the turn, and the turn
   abbrev pub before_turn : Record
@@ -149,7 +149,7 @@ module _ (b : BoardState) (slot : ℕ) (x : Machine) (processes : List Process) 
   unfolding carried_out
   world_after used u =
       let m = turn_later b.machine.moment in
-      let does = t.turns (bytes_of b.machine.drivers.stores.slots slot) in
+      let does = t.does (bytes_of b.machine.drivers.stores.slots slot) in
       let pressed = b.machine.drivers.buttons.pressed in
       let records : map (record_of x.home.flash x.drivers.buttons.pressed)
       (zip (zip processes x.home.owns) x.drivers.stores.slots)
@@ -178,7 +178,7 @@ module _ (b : BoardState) (slot : ℕ) (x : Machine) (processes : List Process) 
       (shown_by (carried_out (world_of b) (Run slot)).labels)
   unfolding carried_out shown_by
   turn_shown printed p =
-      let shows = (t.turns (bytes_of b.machine.drivers.stores.slots slot)).1 in
+      let shows = (t.does (bytes_of b.machine.drivers.stores.slots slot)).1 in
       ap (λ (xs : List ℕ). record {
         printed = record { items = xs };
         slot = Some slot;

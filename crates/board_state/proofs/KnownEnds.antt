@@ -1,5 +1,5 @@
 -- What is known of how the instruction of the next turn ends.
-use Rattle.std.proofs.Common.{◌≡◌, ℕ, List, slice_get, Option, None, Some, refl, subst, arith}
+use Rattle.std.proofs.Common.{◌≡◌, slice_get, ℕ, Option, None, Some, refl, subst, arith}
 use Rattle.std.specs.Prelude.{IfSome}
 use Rattle.std.proofs.lemmas.Option.{slice_get-get_or, slice_get_within}
 use Rattle.tk_base.specs.declared.process.Choice.{Choice}
@@ -12,7 +12,7 @@ use Rattle.kernel_model.specs.Record.{Record}
 use Rattle.kernel_model.specs.World.{World}
 use Rattle.board_drivers.specs.Residents.{resident}
 use Rattle.board_drivers.proofs.Records.{beside, record_found}
-use Rattle.board_turns.specs.Turning.{IsKnownEnd as IsKnownOf, IsKnownEndAt}
+use Rattle.board_turns.specs.Turning.{IsKnownEnd as IsKnownOf}
 use Rattle.board_state.specs.declared.state.BoardState.{BoardState}
 use Rattle.board_state.specs.Shows.{IsBoard, world_of}
 use Rattle.board_state.specs.KnownEnds.{EndsSo, IsKnownOfChoice}
@@ -34,20 +34,13 @@ nothing_known_next w (Some choice) = nothing_known w choice
 
 -- what is known of a turn's instruction is known of that of the process in the slot
 pub known_at : (b : BoardState) (slot : ℕ) (end : TurnEnd) → IsBoard b → IsKnownOfChoice (world_of b) end (Run slot)
-    → IsKnownEndAt slot end b.machine.home b.processes.items
-known_at b slot end board known = by_process (slice_get b.processes.items slot) refl
-  where
-    flash : List ℕ
-    flash = b.machine.home.flash
-
-    by_process : (o : Option Process) → slice_get b.processes.items slot ≡ o
-        → IfSome o (λ p. IsKnownOf end flash (resident b.machine.home slot p))
-    by_process None e = tt
-    by_process (Some p) e =
-        subst (λ (o : Option Record). IfSome o (EndsSo end))
-        (record_found flash b.machine.drivers.buttons.pressed b.processes.items b.machine.home.owns
-        b.machine.drivers.stores.slots slot p (own_of b.machine.home slot) e
-        (slice_get-get_or b.machine.home.owns slot nobody
-        (omega (arith, board.owns, slice_get_within b.processes.items slot p e)))
-        (beside b.processes.items b.machine.home.owns b.machine.drivers.stores.slots board.owns board.few
-        board.machine.driven.slots)) known
+    → (p : Process) → slice_get b.processes.items slot ≡ Some p
+    → IsKnownOf end b.machine.home.flash (resident b.machine.home slot p)
+known_at b slot end board known p is =
+    subst (λ (o : Option Record). IfSome o (EndsSo end))
+    (record_found b.machine.home.flash b.machine.drivers.buttons.pressed b.processes.items b.machine.home.owns
+    b.machine.drivers.stores.slots slot p (own_of b.machine.home slot) is
+    (slice_get-get_or b.machine.home.owns slot nobody
+    (omega (arith, board.owns, slice_get_within b.processes.items slot p is)))
+    (beside b.processes.items b.machine.home.owns b.machine.drivers.stores.slots board.owns board.few
+    board.machine.driven.slots)) known

@@ -1,7 +1,7 @@
 -- What is seen of one process on a board is what its record has.
 use Rattle.std.proofs.Common.{◌≡◌, ℕ, ◌≤◌, ◌<◌, List, length, slice_get, slice_index_or, Option, None, Some, refl, sym}
 use Rattle.std.proofs.Common.{ap, ◌∙◌, zero, suc, [], ◌∷◌, Bool, true, false, cond, ◌||◌, ◌==◌, nat_lt, is_some, eq-eqb}
-use Rattle.std.proofs.Common.{arith, ◌&&◌, not, IfSome}
+use Rattle.std.proofs.Common.{arith, ◌&&◌, not}
 use Rattle.std.specs.List.{AllByRecursion, zip}
 use Rattle.std.specs.Prelude.{All}
 use Rattle.std.proofs.lemmas.Bool.{false≢true}
@@ -19,7 +19,6 @@ use Rattle.kernel_model.specs.Record.{Record}
 use Rattle.kernel_model.specs.Named.{can_run}
 use Rattle.kernel_model.specs.Turn.{has_turn}
 use Rattle.kernel_model.specs.World.{is_ready, may_be_made}
-use Rattle.board_turns.specs.Turning.{IsFreeAt}
 use Rattle.board_state.specs.declared.state.BoardState.{BoardState}
 use Rattle.board_drivers.specs.Residents.{Resident}
 use Rattle.board_state.specs.Shows.{IsBoard, recorded, residents, world_of}
@@ -66,9 +65,13 @@ module _ (b : BoardState) (board : IsBoard b) (slot : ℕ) where
       (slice_get-get_or b.machine.home.owns slot nobody (omega (arith, within, board.owns))))
 
   -- a slot whose turn is ready has no process that is held
-  pub free_there : is_ready (world_of b) (Run slot) ≡ true → IsFreeAt slot b.processes.items
+  pub free_there : is_ready (world_of b) (Run slot) ≡ true → (p : Process) → slice_get b.processes.items slot ≡ Some p
+      → p.held ≡ false
   unfolding may_be_made
-  free_there ready = by_process (slice_get b.processes.items slot) refl
+  free_there ready p is =
+      by_held p.held (has_turn p.state (due (own_of b.machine.home slot).inbox))
+      (right_is (nat_lt b.machine.moment.steps STEP_LIMIT) _
+      (sym (ap (λ (o : Option Record). nat_lt b.machine.moment.steps STEP_LIMIT && can_run o) (there p is)) ∙ ready))
     where
       right_is : (x y : Bool) → (x && y) ≡ true → y ≡ true
       right_is true y e = e
@@ -77,14 +80,6 @@ module _ (b : BoardState) (board : IsBoard b) (slot : ℕ) where
       by_held : (held x : Bool) → (not held && x) ≡ true → held ≡ false
       by_held true x e = absurd (false≢true e)
       by_held false x e = refl
-
-      by_process : (o : Option Process) → slice_get b.processes.items slot ≡ o → IfSome o (λ p. p.held ≡ false)
-      by_process None is = tt
-      by_process (Some p) is =
-          by_held p.held (has_turn p.state (due (own_of b.machine.home slot).inbox))
-          (right_is (nat_lt b.machine.moment.steps STEP_LIMIT) _
-          (sym (ap (λ (o : Option Record). nat_lt b.machine.moment.steps STEP_LIMIT && can_run o) (there p is))
-          ∙ ready))
 
   -- one without a process
   pub missing : length b.processes.items ≤ slot → slice_get (world_of b).records slot ≡ None

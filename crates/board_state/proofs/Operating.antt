@@ -53,8 +53,8 @@ use Rattle.board_drivers.proofs.Lines.{line_after}
 use Rattle.board_drivers.proofs.Records.{bytes_of, owns_shown, seated_there}
 use Rattle.board_drivers.proofs.Routing.{drives_shown}
 use Rattle.board_turns.specs.declared.machine.Machine.{Machine}
-use Rattle.board_turns.specs.Operating.{OperatesAt, verb_acts}
-use Rattle.board_turns.specs.Turning.{MayTurnAt}
+use Rattle.board_turns.specs.Operating.{IsActedOn, verb_acts}
+use Rattle.board_turns.specs.Turning.{StepsInSlot}
 use Rattle.board_state.specs.declared.state.BoardState.{BoardState}
 use Rattle.board_state.specs.Makes.{act_meant, shown_act}
 use Rattle.board_state.specs.Shows.{IsBoard, world_of}
@@ -118,6 +118,12 @@ comes_shown b w slot verb is meant =
 abbrev pub let_in : Machine → List ScriptEvent → Machine
 let_in m rest = record m { drivers = record m.drivers { arrivals = rest } }
 
+-- the act is done then, on the process in that slot of a board's tables
+abbrev pub OperatesOnce : BoardState → ℕ → Verb → List ScriptEvent → Machine → List Process → Type 0
+OperatesOnce b slot verb rest x processes =
+    let m = let_in b.machine rest in
+    StepsInSlot 1 slot m x b.processes.items processes (IsActedOn verb slot m x)
+
 -- letting it in changes nothing else
 pub lets_in : (m : Machine) (rs : List Record) (slot : ℕ) (verb : Verb)
     (c : ActComes m.drivers.arrivals rs slot verb) (home : Homes) (d : Drivers) → Arrives m.home m.drivers home d
@@ -139,10 +145,11 @@ lets_in m rs slot verb c home d came =
 pub operates_in : (b : BoardState) (slot : ℕ) (verb : Verb)
     (c : ActComes b.machine.drivers.arrivals (world_of b).records slot verb) (home : Homes) (d : Drivers)
     → Arrives b.machine.home b.machine.drivers home d → (x : Machine) (processes : List Process)
-    → OperatesAt verb slot (record b.machine { home = home; drivers = d }) x b.processes.items processes
-    → OperatesAt verb slot (let_in b.machine c.rest) x b.processes.items processes
+    → (let m = record b.machine { home = home; drivers = d } in
+    StepsInSlot 1 slot m x b.processes.items processes (IsActedOn verb slot m x))
+    → OperatesOnce b slot verb c.rest x processes
 operates_in b slot verb c home d came x processes t =
-    subst (λ (m : Machine). OperatesAt verb slot m x b.processes.items processes)
+    subst (λ (m : Machine). StepsInSlot 1 slot m x b.processes.items processes (IsActedOn verb slot m x))
     (lets_in b.machine (world_of b).records slot verb c home d came) t
 
 -- a slot of that name is one of the records', ..
@@ -167,18 +174,6 @@ act_within b slot verb h c =
       h.owns,
     )
 
--- an operator may act there
-pub may_operate : (b : BoardState) (slot : ℕ) (rest : List ScriptEvent) → IsBoard b → slot < length b.processes.items
-    → b.machine.moment.steps < STEP_LIMIT → MayTurnAt 1 slot (let_in b.machine rest) b.processes.items
-may_operate b slot rest h within below =
-    record {
-      within = within;
-      owns = h.owns;
-      seated = h.seated;
-      limit = omega (arith, below);
-      guard = h.machine.guard;
-    }
-
 -- what becomes of the requests of a process on which an operator acted
 act_keeps : (size : ℕ) (verb : Verb) (r : Record) → CanStartAgain r
     → KeepsLines size r.own (operated verb r).own (acts_of verb r)
@@ -198,7 +193,7 @@ act_drops verb r =
 module _ (b : BoardState) (slot : ℕ) (verb : Verb) (c : ActComes b.machine.drivers.arrivals (world_of b).records slot
     verb)
     (x : Machine) (processes : List Process)
-    (t : OperatesAt verb slot (let_in b.machine c.rest) x b.processes.items processes) (h : IsBoard b) where
+    (t : OperatesOnce b slot verb c.rest x processes) (h : IsBoard b) where
   -- the record before the act
   abbrev pub acted_on : Record
   acted_on = record_of b.machine.home.flash b.machine.drivers.buttons.pressed
@@ -231,7 +226,7 @@ module _ (b : BoardState) (slot : ℕ) (verb : Verb) (c : ActComes b.machine.dri
   tells : operated verb acted_on
       ≡ record_of b.machine.home.flash b.machine.drivers.buttons.pressed
       (t.at.after, bytes_of b.machine.drivers.stores.slots slot)
-  tells = t.operates (record {
+  tells = t.does.operates (record {
     storage = bytes_of b.machine.drivers.stores.slots slot;
     pressed = b.machine.drivers.buttons.pressed;
   })
@@ -251,15 +246,16 @@ module _ (b : BoardState) (slot : ℕ) (verb : Verb) (c : ActComes b.machine.dri
       (zip (zip processes x.home.owns) x.drivers.stores.slots)
       ≡ slice_set w.records slot (operated verb acted_on) =
       ap (λ (s : ButtonsView). map (record_of x.home.flash s.pressed)
-      (zip (zip processes x.home.owns) x.drivers.stores.slots)) t.drives.buttons
-      ∙ ap (λ (s : _). map (record_of x.home.flash pressed) (zip (zip processes x.home.owns) s.slots)) t.drives.bytes
+      (zip (zip processes x.home.owns) x.drivers.stores.slots)) t.does.drives.buttons
+      ∙ ap (λ (s : _). map (record_of x.home.flash pressed) (zip (zip processes x.home.owns) s.slots))
+      t.does.drives.bytes
       ∙ kept_records slot b.machine.home x.home b.processes.items processes t.at pressed b.machine.drivers.stores.slots
       ∙ ap (slice_set w.records slot) (sym tells) in
       ap (λ (rs : List Record). with_step b rs (devices_of x.drivers) m b.present b.used) records
       ∙ ap (λ (ds : Devices). with_step b (slice_set w.records slot (operated verb acted_on)) ds m b.present b.used)
       (drives_shown (id_of slot t.at.before.1) (verb_acts verb t.at.before.0) (let_in b.machine c.rest).drivers
       x.drivers
-      t.drives)
+      t.does.drives)
       ∙ sym (ap (λ (s : Stepped). s.after) (acts_so law))
 
   -- what it shows, where its line was printed as it is listed
@@ -294,7 +290,7 @@ module _ (b : BoardState) (slot : ℕ) (verb : Verb) (c : ActComes b.machine.dri
       → IsQueueOf queue (ids_waiting_in x.drivers queue) (slice_set b.machine.home.owns slot t.at.after.1)
   line_is queue =
       subst (λ (xs : List ProcessId). IsQueueOf queue xs (slice_set b.machine.home.owns slot t.at.after.1))
-      (sym (t.drives.queues queue))
+      (sym (t.does.drives.queues queue))
       (line_after queue (ids_waiting_in b.machine.drivers queue) b.machine.home.owns slot t.at.before.1 t.at.after.1
       (verb_acts verb t.at.before.0) (h.machine.driven.queues queue) t.at.own_was (keeps.lines queue)
       (keeps.life queue))
@@ -307,12 +303,12 @@ module _ (b : BoardState) (slot : ℕ) (verb : Verb) (c : ActComes b.machine.dri
         queues = line_is;
         within = All-set (IsWithin b.machine.moment.settings.storage) b.machine.home.owns slot t.at.after.1
             (keeps.within before_within) h.machine.driven.within;
-        leds = t.drives.lit ∙ h.machine.driven.leds;
-        buttons = ap (λ (s : ButtonsView). s.count) t.drives.buttons ∙ h.machine.driven.buttons;
-        size = ap (λ (s : _). s.size) t.drives.bytes ∙ h.machine.driven.size;
-        slots = ap (λ (s : _). length s.slots) t.drives.bytes ∙ h.machine.driven.slots;
-        ticks = same_ticks b.machine.drivers x.drivers t.drives.lines h.machine.driven.ticks;
-        free = same_free b.machine.moment.time b.machine.drivers x.drivers t.drives.lines h.machine.driven.free;
+        leds = t.does.drives.lit ∙ h.machine.driven.leds;
+        buttons = ap (λ (s : ButtonsView). s.count) t.does.drives.buttons ∙ h.machine.driven.buttons;
+        size = ap (λ (s : _). s.size) t.does.drives.bytes ∙ h.machine.driven.size;
+        slots = ap (λ (s : _). length s.slots) t.does.drives.bytes ∙ h.machine.driven.slots;
+        ticks = same_ticks b.machine.drivers x.drivers t.does.drives.lines h.machine.driven.ticks;
+        free = same_free b.machine.moment.time b.machine.drivers x.drivers t.does.drives.lines h.machine.driven.free;
       })
     where
       before_within : IsWithin b.machine.moment.settings.storage t.at.before.1
@@ -332,8 +328,7 @@ module _ (b : BoardState) (slot : ℕ) (verb : Verb) (c : ActComes b.machine.dri
 -- A board whose tables, registers and drivers are then these: after the act it is one again.
 module _ (b a : BoardState) (slot : ℕ) (verb : Verb)
     (c : ActComes b.machine.drivers.arrivals (world_of b).records slot verb)
-    (t : OperatesAt verb slot (let_in b.machine c.rest) a.machine b.processes.items a.processes.items)
-    (h : IsBoard b) where
+    (t : OperatesOnce b slot verb c.rest a.machine a.processes.items) (h : IsBoard b) where
   pub operated_board : (calm : ℕ) (times : List (Option ℕ)) (ready : List Bool) → b.machine.moment.steps < STEP_LIMIT
       → AlarmsTell b.machine.moment times a.machine.home.owns
       → TurnsTell ready (zip a.processes.items a.machine.home.owns)
@@ -356,13 +351,13 @@ module _ (b a : BoardState) (slot : ℕ) (verb : Verb)
             drops_none b slot verb c a.machine a.processes.items t h,
             lost_where b.machine.moment.steps b.machine.home.owns slot t.at.before.1 t.at.own_was h.machine.lost,
           )) h.machine.lost;
-      guard = t.guard;
+      guard = t.leaves.guard;
       driven = operated_driven b slot verb c a.machine a.processes.items t h;
-      lanes = same_lanes b.machine.moment.window b.machine.drivers a.machine.drivers t.drives.lines t.drives.words
-          t.drives.bytes h.machine.lanes;
+      lanes = same_lanes b.machine.moment.window b.machine.drivers a.machine.drivers t.does.drives.lines
+          t.does.drives.words t.does.drives.bytes h.machine.lanes;
       served = few_still b.machine.moment.steps (b.machine.moment.steps + 1) a.machine.drivers.stores.served
           (omega arith)
-          (subst (λ (s : StoredSlots). All (λ count. count ≤ b.machine.moment.steps) s.served) (sym t.drives.bytes)
+          (subst (λ (s : StoredSlots). All (λ count. count ≤ b.machine.moment.steps) s.served) (sym t.does.drives.bytes)
           h.machine.served);
       steps = omega (arith, below);
       time = omega (arith, h.machine.time);
@@ -370,7 +365,7 @@ module _ (b a : BoardState) (slot : ℕ) (verb : Verb)
       alarms = tell;
     };
     seated = still_seated slot b.machine.home a.machine.home b.processes.items a.processes.items t.at
-        b.machine.moment.steps t.seated h.seated;
+        b.machine.moment.steps t.leaves.seated h.seated;
     owns = as_many_owns slot b.machine.home a.machine.home b.processes.items a.processes.items t.at ∙ h.owns
         ∙ as_many slot b.machine.home a.machine.home b.processes.items a.processes.items t.at;
     few = omega (arith, as_many slot b.machine.home a.machine.home b.processes.items a.processes.items t.at, h.few);

@@ -51,7 +51,8 @@ use Rattle.board_state.specs.Shows.{IsBoard, recorded, residents, world_of}
 use Rattle.board_drivers.specs.Residents.{HasLost, IsResident, Resident, record_of, resident_turns}
 use Rattle.board_state.specs.KnownEnds.{EndsSo, IsKnownOfChoice}
 use Rattle.board_state.specs.Stretches.{is_running, slot_runs}
-use Rattle.board_turns.specs.Quiet.{QuietAt}
+use Rattle.board_turns.specs.Quiet.{Quietly}
+use Rattle.board_turns.specs.Turning.{StepsInSlot}
 use Rattle.board_drivers.proofs.Calm.{kept_calm, later_calm}
 use Rattle.board_drivers.proofs.Lanes.{later_free}
 use Rattle.board_state.proofs.Changes.{as_many, as_many_owns, found, kept_records, still_seated_on}
@@ -257,7 +258,7 @@ module _ (b : BoardState) (board : IsBoard b) where
       cc
 
   module _ (slot k most used : ℕ) {end : TurnEnd} (present : Option ℕ) (x : Machine) (processes : List Process)
-      (q : QuietAt k most end slot b.machine x b.processes.items processes) where
+      (q : StepsInSlot k slot b.machine x b.processes.items processes (Quietly k most end b.machine.home.flash)) where
     few : length (residents b) ≤ length b.machine.drivers.stores.slots
     few = beside b.processes.items b.machine.home.owns b.machine.drivers.stores.slots board.owns board.few
         board.machine.driven.slots
@@ -338,7 +339,7 @@ module _ (b : BoardState) (board : IsBoard b) where
     end_known ticks is =
         subst (λ (n : ℕ). IsKnownOfChoice (world_after_ticks n) end (Run slot)) (sym is)
         (subst (λ (o : Option Record). IfSome o (EndsSo end)) (sym after_there)
-        (λ stops. q.quiet.ends stops pressed storage))
+        (λ stops. q.does.ends stops pressed storage))
 
     state_is : (s : State) → is_running s ≡ true → s ≡ Running
     state_is Running e = refl
@@ -353,7 +354,7 @@ module _ (b : BoardState) (board : IsBoard b) where
         ap (λ (rs : List Record). with_step b rs (devices_of b.machine.drivers) (turns_later k b.machine.moment) present
         used)
         (records_then ∙ ap (slice_set (world_of b).records slot)
-        (q.quiet.leads pressed storage ∙ ap (λ (n : ℕ). after_instructions n before) none)
+        (q.does.leads pressed storage ∙ ap (λ (n : ℕ). after_instructions n before) none)
         ∙ set-same (world_of b).records slot before was_there)
         ∙ ap₂ (λ (o : Option ℕ) (n : ℕ). with_step b (world_of b).records (devices_of b.machine.drivers)
         (turns_later k b.machine.moment) o n) p u
@@ -378,7 +379,7 @@ module _ (b : BoardState) (board : IsBoard b) where
       stretched law chooses more =
           subst (IsStretch k (world_of b)) (sym same)
           (law k slot (world_of b) before more limit f was_there (state_is q.at.before.0.state runs) lasts_so
-          (q.quiet.go pressed storage)
+          (q.does.go pressed storage)
           (chooses k slot (at_turn (world_of b) slot) before refl was_there (state_is q.at.before.0.state runs) free
           lasts_so (lets_on f until) (none_acts until)))
         where
@@ -389,7 +390,7 @@ module _ (b : BoardState) (board : IsBoard b) where
           same =
               ap (λ (rs : List Record). with_step b rs (devices_of b.machine.drivers) (turns_later k b.machine.moment)
               present used)
-              (records_then ∙ ap (slice_set (world_of b).records slot) (q.quiet.leads pressed storage))
+              (records_then ∙ ap (slice_set (world_of b).records slot) (q.does.leads pressed storage))
               ∙ ap₂ (λ (o : Option ℕ) (n : ℕ). with_step b
               (slice_set (world_of b).records slot (after_instructions k before)) (devices_of b.machine.drivers)
               (turns_later k b.machine.moment) o n) (some more).0 ((some more).1 ∙ ap (λ (n : ℕ). n + k) begins)
@@ -409,11 +410,11 @@ module _ (b : BoardState) (board : IsBoard b) where
           (subst (λ (v : World). IsStretch k v world_then) shown (by_count law chooses law_none k refl))
 
       after_runs : after.process.state ≡ Running
-      after_runs = ap (λ (r : Record). r.process.state) (q.quiet.leads pressed storage) ∙ still_runs k before
+      after_runs = ap (λ (r : Record). r.process.state) (q.does.leads pressed storage) ∙ still_runs k before
           ∙ state_is q.at.before.0.state runs
 
       after_free : after.process.held ≡ false
-      after_free = ap (λ (r : Record). r.process.held) (q.quiet.leads pressed storage) ∙ still_free k before ∙ free
+      after_free = ap (λ (r : Record). r.process.held) (q.does.leads pressed storage) ∙ still_free k before ∙ free
 
       -- the slot is let then, where the window lasts
       still_let : b.machine.moment.time + k < b.machine.calm → is_let (only_in world_then) slot ≡ true
@@ -473,7 +474,7 @@ module _ (b : BoardState) (board : IsBoard b) where
           g.slot g.chosen in
           let same : Some after ≡ Some g.before = sym after_there ∙ ap (slice_get world_then.records) at ∙ g.is_there in
           let is : after ≡ g.before = cc in
-          q.quiet.stops fewer pressed storage (ap (λ (r : Record). (instruction r).end) is ∙ g.goes)
+          q.does.stops fewer pressed storage (ap (λ (r : Record). (instruction r).end) is ∙ g.goes)
 
       -- nor where none were left
       pub ends_shown : PresentStaysOn → (ticks asked until : ℕ) → ticks ≡ k → k ≤ most → (most ≤ k → most ≡ 0)
@@ -492,7 +493,7 @@ module _ (b : BoardState) (board : IsBoard b) where
           (omega (arith, zero_left, ahead))
 
     kept : q.at.after.1 ≡ record q.at.before.1 { ram = q.at.after.1.ram }
-    kept = kept_own k most end b.machine.home.flash q.at.before q.at.after q.quiet
+    kept = kept_own k most end b.machine.home.flash q.at.before q.at.after q.does
 
     many : length b.processes.items ≡ length processes
     many = as_many slot b.machine.home x.home b.processes.items processes q.at
@@ -501,7 +502,7 @@ module _ (b : BoardState) (board : IsBoard b) where
     pub still : StillHolds b k x.home processes
     still = record {
       seated = still_seated_on slot b.machine.home x.home b.processes.items processes q.at b.machine.moment.steps k
-          q.seated board.seated;
+          q.leaves.seated board.seated;
       lost = still_lost_on b.machine.moment.steps k slot b.machine.home x.home q.at.after.1 q.at.own_is
           (omega (
             arith,
@@ -545,7 +546,7 @@ module _ (b : BoardState) (board : IsBoard b) where
       where
         left : record_of b.machine.home.flash 0 (q.at.after, [])
             ≡ after_instructions k (record_of b.machine.home.flash 0 (q.at.before, []))
-        left = q.quiet.leads 0 []
+        left = q.does.leads 0 []
 
         turns_as_before : resident_turns q.at.after ≡ resident_turns q.at.before
         turns_as_before =

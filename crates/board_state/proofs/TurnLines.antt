@@ -46,7 +46,7 @@ use Rattle.board_state.specs.declared.state.BoardState.{BoardState}
 use Rattle.board_turns.specs.declared.turn.Shown.{Shown}
 use Rattle.board_drivers.specs.Driven.{AreDriven, Drives, HasLanes, IsQueueOf, MayServe, ids_waiting_in}
 use Rattle.board_drivers.specs.Residents.{IsResident, id_of, record_of, resident_turns}
-use Rattle.board_turns.specs.Turning.{TurnsAt}
+use Rattle.board_turns.specs.Turning.{StepsInSlot, Turns}
 use Rattle.board_drivers.specs.Residents.{can_turn_in}
 use Rattle.board_drivers.specs.Calm.{AlarmsTell, IsCalm}
 use Rattle.board_drivers.proofs.Lanes.{few_still, later_free, same_free, same_lanes, same_ticks}
@@ -94,7 +94,7 @@ may_serve b slot h there = record {
 }
 
 module _ (b : BoardState) (slot : ℕ) (x : Machine) (processes : List Process) (shown : Shown) (h : IsBoard b)
-    (t : TurnsAt slot b.machine x b.processes.items processes shown) where
+    (t : StepsInSlot 1 slot b.machine x b.processes.items processes (Turns slot b.machine x shown)) where
   abbrev seen : Record
   seen = record_of b.machine.home.flash b.machine.drivers.buttons.pressed (t.at.before, [])
 
@@ -102,10 +102,10 @@ module _ (b : BoardState) (slot : ℕ) (x : Machine) (processes : List Process) 
   turn = turned b.machine.moment.settings b.machine.moment.time seen
 
   drives : Drives (id_of slot t.at.before.1) turn.acts b.machine.drivers x.drivers
-  drives = (t.turns []).2
+  drives = (t.does []).2
 
   own_is : turn.after.own ≡ t.at.after.1
-  own_is = ap (λ (r : Record). r.own) (t.turns []).0
+  own_is = ap (λ (r : Record). r.own) (t.does []).0
 
   seat : IsResident b.machine.home.flash b.machine.moment.steps t.at.before
   seat = seated_there b.machine.home.flash b.machine.moment.steps b.processes.items b.machine.home.owns slot t.at.before
@@ -116,7 +116,7 @@ module _ (b : BoardState) (slot : ℕ) (x : Machine) (processes : List Process) 
   pub turn_leaves_alarm : AlarmsChangeAtTheirCommands → may_have_armed shown.call shown.denial ≡ false
       → HasSameAlarm t.at.before.1 t.at.after.1
   turn_leaves_alarm law unarmed =
-      let says = (t.turns []).1 in
+      let says = (t.does []).1 in
       subst (HasSameAlarm t.at.before.1) own_is
       (law b.machine.moment.settings b.machine.moment.time seen (ap₂ may_have_armed says.call says.denial ∙ unarmed))
 
@@ -124,7 +124,7 @@ module _ (b : BoardState) (slot : ℕ) (x : Machine) (processes : List Process) 
   turn_is_idle : QuietTurnsLeaveAlarms → may_have_acted shown.call shown.denial ≡ false
       → HasSameAlarm t.at.before.1 t.at.after.1 × Drives (id_of slot t.at.before.1) [] b.machine.drivers x.drivers
   turn_is_idle law quiet =
-      let says = (t.turns []).1 in
+      let says = (t.does []).1 in
       let leaves = law b.machine.moment.settings b.machine.moment.time seen
       (ap₂ may_have_acted says.call says.denial ∙ quiet) in (
         subst (HasSameAlarm t.at.before.1) own_is leaves.0,
@@ -136,7 +136,7 @@ module _ (b : BoardState) (slot : ℕ) (x : Machine) (processes : List Process) 
   turn_is_denied : is_some shown.denial ≡ true
       → HasNoneArmed t.at.after.1 × Drives (id_of slot t.at.before.1) leaving_all b.machine.drivers x.drivers
   turn_is_denied denied =
-      let says = (t.turns []).1 in
+      let says = (t.does []).1 in
       let leaves = denied_none b.machine.moment.settings b.machine.moment.time seen
       (can_start_again t.at.before.0.object.address t.at.before.1.layout (header_reading seen.object)
       seat.own.object.application) (ap is_some says.denial ∙ denied) in (
@@ -281,7 +281,8 @@ module _ (b : BoardState) (slot : ℕ) (x : Machine) (processes : List Process) 
 
 -- A board whose tables, registers and drivers are then these: after the turn it is one again, and the slot is present.
 module _ (b a : BoardState) (slot : ℕ) (shown : Shown) (h : IsBoard b)
-    (t : TurnsAt slot b.machine a.machine b.processes.items a.processes.items shown) where
+    (t : StepsInSlot 1 slot b.machine a.machine b.processes.items a.processes.items (Turns slot b.machine a.machine
+    shown)) where
   pub turned_board : (calm used : ℕ) (times : List (Option ℕ)) (ready : List Bool) → DropsAtMostOne → TurnsKeepLines
       → is_ready (world_of b) (Run slot) ≡ true
       → IsCalm b.machine.moment.settings.start b.machine.moment.window (b.machine.moment.time + 1) calm
@@ -304,12 +305,10 @@ module _ (b a : BoardState) (slot : ℕ) (shown : Shown) (h : IsBoard b)
       lost = still_lost b.machine.moment.steps slot b.machine.home a.machine.home t.at.after.1 t.at.own_is
           (omega (
             arith,
-            loses_one b.machine.moment slot b.machine.home.flash t.at.before t.at.after shown b.machine.drivers
-                a.machine.drivers drops
-                t.turns,
+            loses_one slot b.machine a.machine shown t.at.before t.at.after drops t.does,
             lost_where b.machine.moment.steps b.machine.home.owns slot t.at.before.1 t.at.own_was h.machine.lost,
           )) h.machine.lost;
-      guard = t.guard;
+      guard = t.leaves.guard;
       driven = turn_driven b slot a.machine a.processes.items shown h t keeps lives;
       lanes = lanes_stay b slot a.machine a.processes.items shown h t;
       served = served_stays b slot a.machine a.processes.items shown h t;
@@ -319,7 +318,7 @@ module _ (b a : BoardState) (slot : ℕ) (shown : Shown) (h : IsBoard b)
       alarms = tell;
     };
     seated = still_seated slot b.machine.home a.machine.home b.processes.items a.processes.items t.at
-        b.machine.moment.steps t.seated h.seated;
+        b.machine.moment.steps t.leaves.seated h.seated;
     owns = as_many_owns slot b.machine.home a.machine.home b.processes.items a.processes.items t.at ∙ h.owns
         ∙ as_many slot b.machine.home a.machine.home b.processes.items a.processes.items t.at;
     few = omega (arith, as_many slot b.machine.home a.machine.home b.processes.items a.processes.items t.at, h.few);

@@ -1,6 +1,6 @@
 -- What an operator's act leaves of a machine.
 use Rattle.std.proofs.Common.{◌≡◌, ◌≢◌, ℕ, ◌+◌, List}
-use Rattle.std.proofs.Common.{slice_set, slice_index_or, sym, ap, ap₂, subst, ◌∙◌, arith}
+use Rattle.std.proofs.Common.{sym, ap, ap₂, subst, ◌∙◌, arith}
 use Rattle.std.proofs.lemmas.List.{get_or-set_other}
 use Rattle.tk_base.specs.declared.process.Verb.{Verb}
 use Rattle.tk_base.specs.declared.process.Verb.TheVariants as verbs
@@ -13,14 +13,11 @@ use Rattle.process_restart.specs.Own.{IsOwn, KeepsObject, LivesOn}
 use Rattle.process_console.specs.Acts.{Operates as Acts}
 use Rattle.kernel_calls.specs.Own.{Beside, record_in}
 use Rattle.kernel_calls.proofs.Starts.{starts_again}
+use Rattle.kernel_model.specs.Turn.{operated}
 use Rattle.board_memory.specs.Registers.{Protect}
 use Rattle.board_drivers.specs.Residents.{IsResident}
 use Rattle.board_turns.specs.declared.guard.ActivePmp.{ActivePmp}
-use Rattle.board_turns.specs.declared.machine.Machine.{Machine}
 use Rattle.board_turns.specs.Guards.{GuardsOnly, GuardsOthers}
-use Rattle.board_turns.specs.Operating.{OperatesOnResident, OperatesAt, OperatesOn}
-use Rattle.board_turns.specs.Turning.{LeavesOn, MayTurnAt}
-use Rattle.board_turns.proofs.Tables.{changed_at}
 
 -- a change of one slot leaves what is another's own
 other_own : (slot other : ℕ) (a b : Homes) → ChangesOnly slot a b → other ≢ slot → own_of b other ≡ own_of a other
@@ -58,19 +55,19 @@ same_object flash p q own beside same =
 -- what the console does to a process is what the act leaves of its record
 pub operates : (verb : Verb) (flash : List ℕ) (p q : Process) (own own_after : Own)
     → KeepsObject p q → Acts verb (object_in flash p.object) (p, own) (q, own_after)
-    → OperatesOnResident verb flash (p, own) (q, own_after)
-operates verbs.List flash p q own own_after keeps acts = λ beside.
+    → (beside : Beside) → operated verb (record_in flash p own beside) ≡ record_in flash q own_after beside
+operates verbs.List flash p q own own_after keeps acts beside =
     ap₂ (λ (x : Process) (y : Own). record_in flash x y beside) (sym acts.0) (sym acts.1)
-operates verbs.Stop flash p q own own_after keeps acts = λ beside.
+operates verbs.Stop flash p q own own_after keeps acts beside =
     ap₂ (λ (x : Process) (y : Own). record (record_in flash p own beside) { process = x; own = y }) (sym acts.0)
     (sym acts.1) ∙ same_object flash p q own_after beside keeps.object
-operates verbs.Start flash p q own own_after keeps acts = λ beside.
+operates verbs.Start flash p q own own_after keeps acts beside =
     ap₂ (λ (x : Process) (y : Own). record (record_in flash p own beside) { process = x; own = y }) (sym acts.0)
     (sym acts.1) ∙ same_object flash p q own_after beside keeps.object
-operates verbs.Terminate flash p q own own_after keeps acts = λ beside.
+operates verbs.Terminate flash p q own own_after keeps acts beside =
     ap₂ (λ (x : Process) (y : Own). record (record_in flash p own beside) { process = x; own = y }) (sym acts.0)
     (sym acts.1) ∙ same_object flash p q own_after beside keeps.object
-operates verbs.Restart flash p q own own_after keeps acts = λ beside.
+operates verbs.Restart flash p q own own_after keeps acts beside =
     sym (starts_again flash p q own own_after beside acts)
 
 -- it leaves the process as it is to be a step later
@@ -83,19 +80,3 @@ operated_seated flash steps p q own own_after seated is keeps lives = record {
   restarts = omega (arith, seated.restarts, keeps.restarts);
   life = omega (arith, seated.life, lives);
 }
-
--- the same of a slot of the tables
-module _ (slot index : ℕ) (x : Machine) (processes : List Process) (process : Process)
-    (is : index ≡ slot) (found : process ≡ slice_index_or processes index process)
-    (may : MayTurnAt 1 slot x processes) where
-  pub operated_at : (verb : Verb) (y : Machine) (after : Process) → LeavesOn 1 slot x y after
-      → OperatesOn verb slot x y process after
-      → OperatesAt verb slot x y processes (slice_set processes index after)
-  operated_at verb y after leaves operates = record {
-    at = changed_at 1 slot index x processes process is found may y after leaves.left.rest;
-    operates = operates.operates;
-    drives = operates.drives;
-    seated = leaves.left.seated;
-    guard = leaves.guard;
-    rest = leaves.rest;
-  }

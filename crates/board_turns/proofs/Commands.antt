@@ -1,5 +1,5 @@
 -- A command that its driver answers.
-use Rattle.std.proofs.Common.{◌≡◌, ℕ, zero, suc, ◌&&◌, Bool, true, false, cond, List, [], ◌∷◌, length, slice_get}
+use Rattle.std.proofs.Common.{◌≡◌, ℕ, zero, suc, ◌&&◌, Bool, true, false, cond, List, [], ◌∷◌, slice_get}
 use Rattle.std.proofs.Common.{slice_index_or, Option, None, Some, is_some, Result, Ok, Err, refl, sym, ap, subst, ◌∙◌}
 use Rattle.std.proofs.Common.{◌≢◌, ◌⊎◌, inl, inr, arith}
 use Rattle.tk_base.specs.declared.call.CallRule.{CallRule}
@@ -34,11 +34,10 @@ use Rattle.kernel_calls.specs.Given.{given}
 use Rattle.kernel_calls.specs.Outcomes.{ServingComesTo, IsLeft, IsServed, ServesAt, acts_for, is_for_driver}
 use Rattle.kernel_calls.specs.Outcomes.{is_taken, record_of_slot}
 use Rattle.kernel_model.specs.Turn.{surroundings}
-use Rattle.board_drivers.specs.declared.moment.Moment.{Moment}
-use Rattle.board_drivers.specs.declared.drivers.Drivers.{Drivers}
 use Rattle.board_drivers.specs.declared.drivers.Order.{Order}
 use Rattle.board_drivers.specs.Driven.{Commands, Drives, MayServe, beside_in}
-use Rattle.board_drivers.specs.Residents.{IsResident, id_of}
+use Rattle.board_drivers.specs.Residents.{IsResident, Resident, id_of, resident}
+use Rattle.board_turns.specs.declared.machine.Machine.{Machine}
 use Rattle.board_turns.specs.Turning.{Finishes}
 
 both : (b c : Bool) → (b && c) ≡ true → (b ≡ true) × (c ≡ true)
@@ -90,113 +89,100 @@ given_so : (r : Record) (answer : Result Reply CallRule) → driver_answered r a
 given_so r (Ok reply) = refl
 given_so r (Err rule) = refl
 
--- what a command sees at a moment, where the drivers have these buttons pressed
-abbrev pub seen_by_commands : Moment → Drivers → CommandContext
-seen_by_commands m d = record {
-  now = clock_at m.settings.start m.time;
-  leds = m.settings.leds;
-  buttons = m.settings.buttons;
-  pressed = d.buttons.pressed;
-  storage = m.settings.storage;
+-- what a command sees on a machine
+abbrev pub seen_by_commands : Machine → CommandContext
+seen_by_commands x = record {
+  now = clock_at x.moment.settings.start x.moment.time;
+  leds = x.moment.settings.leds;
+  buttons = x.moment.settings.buttons;
+  pressed = x.drivers.buttons.pressed;
+  storage = x.moment.settings.storage;
 }
 
--- what comes of a command of the process in a slot, as its driver takes it at a moment
-abbrev pub Came : Moment → ℕ → Homes → Homes → Order → Reply × Option CallRule → Drivers → Drivers → CommandHandler
-    → Type 0
-Came m slot home home' order answer d d' taker =
-    let c = taker (seen_by_commands m d) order.number order.a2 order.a3 (own_of home slot) in
-    (answer ≡ reply_of c.answer) × (own_of home' slot ≡ own_after c.step) × Drives
-    (id_of slot (own_of home slot)) c.acts d d'
+-- what comes of a command of the process in a slot, as its driver takes it there
+abbrev pub Came : ℕ → Machine → Machine → Order → Reply × Option CallRule → CommandHandler → Type 0
+Came slot x y order answer taker =
+    let c = taker (seen_by_commands x) order.number order.a2 order.a3 (own_of x.home slot) in
+    (answer ≡ reply_of c.answer) × (own_of y.home slot ≡ own_after c.step)
+    × Drives (id_of slot (own_of x.home slot)) c.acts x.drivers y.drivers
 
-module _ (m : Moment) (slot : ℕ) (home home' : Homes) (order : Order) (answer : Reply × Option CallRule)
-    (d d' : Drivers) where
+module _ (slot : ℕ) (x y : Machine) (order : Order) (answer : Reply × Option CallRule) (taker : CommandHandler)
+    (found : handler_of order.driver ≡ Some taker) where
   -- what the driver made of it
-  pub came : (id : ProcessId) (tick : ℕ) (taker : CommandHandler) → handler_of order.driver ≡ Some taker
-      → id ≡ id_of slot (own_of home slot) → tick ≡ clock_at m.settings.start m.time
-      → MayServe m d slot (own_of home slot)
-      → Commands tick id order d (own_of home id.slot) answer (own_of home' id.slot) d'
-      → Came m slot home home' order answer d d' taker
-  came id tick taker found at when may comes =
-      subst (λ (around : CommandContext). let c = taker around order.number order.a2 order.a3 (own_of home slot) in
-      (answer ≡ reply_of c.answer) × (own_of home' slot ≡ own_after c.step)
-      × Drives (id_of slot (own_of home slot)) c.acts d d')
-      around
-      (subst (λ (k : ProcessId). let c = taker shown order.number order.a2 order.a3 (own_of home k.slot) in
-      (answer ≡ reply_of c.answer) × (own_of home' k.slot ≡ own_after c.step) × Drives k c.acts d d')
-      at (comes taker found))
-    where
-      shown : CommandContext
-      shown = record {
-        now = tick;
-        leds = length d.leds;
-        buttons = d.buttons.count;
-        pressed = d.buttons.pressed;
-        storage = d.stores.size;
-      }
-
-      around : shown ≡ seen_by_commands m d
-      around = λ i. record {
-        now = when i;
-        leds = may.leds i;
-        buttons = may.buttons i;
-        pressed = d.buttons.pressed;
-        storage = may.size i;
-      }
+  pub came : (id : ProcessId) (tick : ℕ) → id ≡ id_of slot (own_of x.home slot)
+      → tick ≡ clock_at x.moment.settings.start x.moment.time
+      → MayServe x.moment x.drivers slot (own_of x.home slot)
+      → Commands tick id order x.drivers (own_of x.home id.slot) answer (own_of y.home id.slot) y.drivers
+      → Came slot x y order answer taker
+  came id tick at when may comes =
+      subst (λ (seen : CommandContext × ProcessId).
+      let c = taker seen.0 order.number order.a2 order.a3 (own_of x.home seen.1.slot) in
+      (answer ≡ reply_of c.answer) × (own_of y.home seen.1.slot ≡ own_after c.step)
+      × Drives seen.1 c.acts x.drivers y.drivers)
+      (λ i. (
+        record {
+          now = when i;
+          leds = may.leds i;
+          buttons = may.buttons i;
+          pressed = x.drivers.buttons.pressed;
+          storage = may.size i;
+        },
+        at i,
+      )) (comes taker found)
 
   -- it has left the process in its place
-  pub came_in_place : (taker : CommandHandler) → handler_of order.driver ≡ Some taker → CommandsStayInPlace
-      → Came m slot home home' order answer d d' taker → StaysInPlace (own_of home slot) (own_of home' slot)
-  came_in_place taker found law come =
-      subst (StaysInPlace (own_of home slot)) (sym come.1)
-      (law order.driver taker found (seen_by_commands m d) order.number order.a2 order.a3 (own_of home slot))
+  pub came_in_place : CommandsStayInPlace → Came slot x y order answer taker
+      → StaysInPlace (own_of x.home slot) (own_of y.home slot)
+  came_in_place law come =
+      subst (StaysInPlace (own_of x.home slot)) (sym come.1)
+      (law order.driver taker found (seen_by_commands x) order.number order.a2 order.a3 (own_of x.home slot))
 
   -- what comes of a command that its driver answered
-  pub finishes : (p p' : Process) (call : CallForm) (o : Outcome) (taker : CommandHandler)
-      → handler_of order.driver ≡ Some taker
+  pub finishes : (p q : Process) (call : CallForm) (o : Outcome)
       → call ≡ Command order.driver order.number order.a2 order.a3
-      → is_for_driver m.settings.strict (object_in home.flash p.object) call ≡ true
-      → Came m slot home home' order answer d d' taker → p'.object ≡ p.object → home'.flash ≡ home.flash
-      → ((r : Record) → ServingComesTo (given (with_process r p) answer) (with_process r p') o)
-      → Finishes m slot home p call home' p' o d d'
+      → is_for_driver x.moment.settings.strict (object_in x.home.flash p.object) call ≡ true
+      → Came slot x y order answer taker → q.object ≡ p.object → y.home.flash ≡ x.home.flash
+      → ((r : Record) → ServingComesTo (given (with_process r p) answer) (with_process r q) o)
+      → Finishes slot x y call o (resident x.home slot p) (resident y.home slot q)
   unfolding served by_form
-  finishes p p' call o taker found is for come object same gives = record {
-    acts = c.acts;
-    serves = λ storage.
-        let beside = beside_in d storage in
-        let r = record_in home.flash p own beside in
+  finishes p q call o is for come object same gives = (
+    c.acts,
+    λ storage.
+        let beside = beside_in x.drivers storage in
+        let r = record_in x.home.flash p own beside in
         ap (λ (b : Bool). cond b (by_form around r call) (refused_with r Permission (failure_of call Permission)))
-        (both (object_permits m.settings.strict (object_in home.flash p.object) call) (is_taken call) for).0
+        (both (object_permits x.moment.settings.strict (object_in x.home.flash p.object) call) (is_taken call) for).0
         ∙ ap (by_form around r) is
         ∙ ap (taken_by around order.number order.a2 order.a3 r) found
-        ∙ ap (λ (x : Own). record (driver_answered (record_with_own r x) c.answer) { acts = c.acts }) (sym come.1)
+        ∙ ap (λ (w : Own). record (driver_answered (record_with_own r w) c.answer) { acts = c.acts }) (sym come.1)
         ∙ ap (λ (s : Served). record s { acts = c.acts })
-        (given_so (record_with_own r own') c.answer ∙ ap (given (record_with_own r own')) (sym come.0)
-        ∙ gives (record_with_own r own'))
-        ∙ ap (λ (x : Object). record {
+        (given_so (record_with_own r after) c.answer ∙ ap (given (record_with_own r after)) (sym come.0)
+        ∙ gives (record_with_own r after))
+        ∙ ap (λ (w : Object). record {
           after =
               record {
-                process = p';
-                object = object_in home.flash x;
-                own = own';
+                process = q;
+                object = object_in x.home.flash w;
+                own = after;
                 storage = storage;
-                pressed = d.buttons.pressed;
+                pressed = x.drivers.buttons.pressed;
               };
           outcome = o;
           acts =
               c.acts;
         }) (sym object)
-        ∙ ap (λ (f : List ℕ). record { after = record_in f p' own' beside; outcome = o; acts = c.acts }) (sym same);
-    drives = come.2;
-  }
+        ∙ ap (λ (f : List ℕ). record { after = record_in f q after beside; outcome = o; acts = c.acts }) (sym same),
+    come.2,
+  )
     where
       around : CommandContext
-      around = seen_by_commands m d
+      around = seen_by_commands x
 
       own : Own
-      own = own_of home slot
+      own = own_of x.home slot
 
-      own' : Own
-      own' = own_of home' slot
+      after : Own
+      after = own_of y.home slot
 
       c : Commanded
       c = taker around order.number order.a2 order.a3 own
@@ -213,35 +199,36 @@ is_served strict slot home home' p p' call Ended s n = s
 is_served strict slot home home' p p' call Again s n = s
 
 -- what was left of a call is known by other names
-pub finishes_as : (m : Moment) (slot : ℕ) (home : Homes) (p : Process) (call : CallForm) (h k : Homes) (q r : Process)
-    (o u : Outcome) (d e f : Drivers) → h ≡ k → q ≡ r → o ≡ u → e ≡ f
-    → Finishes m slot home p call k r u d f → Finishes m slot home p call h q o d e
-finishes_as m slot home p call h k q r o u d e f at same out by finish =
-    subst (λ (x : Homes). Finishes m slot home p call x q o d e) (sym at)
-    (subst (λ (x : Process). Finishes m slot home p call k x o d e) (sym same)
-    (subst (λ (x : Outcome). Finishes m slot home p call k r x d e) (sym out)
-    (subst (λ (x : Drivers). Finishes m slot home p call k r u d x) (sym by) finish)))
+pub finishes_as : (slot : ℕ) (x y z : Machine) (call : CallForm) (o u : Outcome) (r : Resident) (p q : Process)
+    → y ≡ z → p ≡ q → o ≡ u → Finishes slot x z call u r (resident z.home slot q)
+    → Finishes slot x y call o r (resident y.home slot p)
+finishes_as slot x y z call o u r p q at same out finish =
+    subst (λ (left : Machine × Process × Outcome).
+    Finishes slot x left.0 call left.2 r (resident left.0.home slot left.1))
+    (λ i. (sym at i, sym same i, sym out i)) finish
 
 -- a call that was left to its driver began as the kernel's
-pub finishes_left : (m : Moment) (slot : ℕ) (home h k : Homes) (p q r : Process) (call : CallForm) (o : Outcome)
-    (d d' : Drivers) → IsLeft m.settings.strict home h p q call
-    → Finishes m slot h q call k r o d d' → Finishes m slot home p call k r o d d'
-finishes_left m slot home h k p q r call o d d' left finish =
-    subst (λ (x : Homes). Finishes m slot x p call k r o d d') left.home_stays
-    (subst (λ (x : Process). Finishes m slot h x call k r o d d') left.process_stays finish)
+pub finishes_left : (slot : ℕ) (x y : Machine) (h : Homes) (p q : Process) (s : Resident) (call : CallForm)
+    (o : Outcome) → IsLeft x.moment.settings.strict x.home h p q call
+    → Finishes slot (record x { home = h }) y call o (resident h slot q) s
+    → Finishes slot x y call o (resident x.home slot p) s
+finishes_left slot x y h p q s call o left finish =
+    subst (λ (before : Homes × Process).
+    Finishes slot (record x { home = before.0 }) y call o (resident before.0 slot before.1) s)
+    (λ i. (left.home_stays i, left.process_stays i)) finish
 
 -- a call that the kernel served itself
-pub served_itself : (m : Moment) (slot : ℕ) (home home' : Homes) (p p' : Process) (call : CallForm) (o : Outcome)
-    (d d' : Drivers) → IsServed m.settings.strict slot home home' p p' call o
-    → Drives (id_of slot (own_of home slot)) (acts_for o) d d'
-    → Finishes m slot home p call home' p' o d d'
-served_itself m slot home home' p p' call o d d' is drives =
-    record {
-      acts = acts_for o;
-      serves = λ storage. let beside = beside_in d storage in
-          is.comes (surroundings m.settings m.time (record_of_slot home slot p beside)) beside;
-      drives = drives;
-    }
+pub served_itself : (slot : ℕ) (x y : Machine) (p q : Process) (call : CallForm) (o : Outcome)
+    → IsServed x.moment.settings.strict slot x.home y.home p q call o
+    → Drives (id_of slot (own_of x.home slot)) (acts_for o) x.drivers y.drivers
+    → Finishes slot x y call o (resident x.home slot p) (resident y.home slot q)
+served_itself slot x y p q call o is drives = (
+  acts_for o,
+  λ storage.
+      let beside = beside_in x.drivers storage in
+      is.comes (surroundings x.moment.settings x.moment.time (record_of_slot x.home slot p beside)) beside,
+  drives,
+)
 
 -- a process that stays in its place stays seated
 pub stays_seated : (flash : List ℕ) (steps : ℕ) (p p' : Process) (own own' : Own) → StaysInPlace own own'

@@ -40,7 +40,7 @@ writes_nothing t stops (Some w) e lists = absurd (stops lists.0)
 pub is_counted : (slot : ℕ) (home : Homes) (process counted : Process) → counted ≡ after_turn process
     → StoppedTurnsChangeNothing → WritesAreListed
     → (next_instruction home.flash (resident home slot process)).end ≢ Went
-    → IsMade slot home home process counted
+    → IsMade home.flash (resident home slot process) (resident home slot counted)
 unfolding ram_after
 is_counted slot home process counted is law listed stops =
     ap₂ (λ (p : Process) (o : Own). (p, o))

@@ -1,6 +1,6 @@
 -- The turn of a process.
-use Rattle.std.proofs.Common.{◌≡◌, ◌≤◌, ℕ, ◌+◌, ◌⊎◌, inl, inr, true, false, List, [], length}
-use Rattle.std.proofs.Common.{Bool, Option, None, Some, is_some, Result, Ok, Err, refl, sym, ap, ap₂, subst, ◌∙◌, arith}
+use Rattle.std.proofs.Common.{◌≡◌, ◌≤◌, ℕ, ◌+◌, ◌⊎◌, inl, inr, true, false, List, []}
+use Rattle.std.proofs.Common.{Option, None, Some, is_some, Result, Ok, Err, refl, sym, ap, subst, ◌∙◌, arith}
 use Rattle.std.proofs.lemmas.List.{length-set, set-set}
 use Rattle.tk_base.specs.declared.access.Denial.{Denial}
 use Rattle.syscall_abi.specs.Call.{call_of}
@@ -33,59 +33,58 @@ use Rattle.kernel_model.specs.Turn.{Turned, turn_counted, at_turn_end, faulted, 
 use Rattle.kernel_model.specs.Parts.{calls, delivery}
 use Rattle.kernel_model.specs.Parts.{unknown_call}
 use Rattle.driver_model.specs.Commands.{leaving_all}
-use Rattle.board_drivers.specs.declared.drivers.Drivers.{Drivers}
 use Rattle.board_turns.specs.declared.guard.ActivePmp.{ActivePmp}
 use Rattle.board_turns.specs.declared.machine.Machine.{Machine}
 use Rattle.board_turns.specs.Guards.{GuardsOnly, IsSetFor}
 use Rattle.board_memory.specs.Registers.{Protect}
-use Rattle.board_drivers.specs.declared.moment.Moment.{Moment}
 use Rattle.board_turns.specs.declared.turn.Shown.{Shown}
-use Rattle.kernel_model.specs.Laws.{DropsAtMostOne, GrantsChangeAtCalls}
-use Rattle.kernel_model.proofs.Places.{free_turned, of_turned}
+use Rattle.kernel_model.specs.Laws.{DropsAtMostOne}
+use Rattle.kernel_model.proofs.Places.{free_turned}
 use Rattle.board_drivers.specs.Driven.{Drives, MayServe, beside_in}
-use Rattle.board_drivers.specs.Residents.{Resident, IsResident}
-use Rattle.board_turns.specs.Turning.{InTurn, IsMade, KeepsRest, LeavesOn, LeavesSlot, MayTurn, ServesCall, Settles}
-use Rattle.board_drivers.specs.Residents.{id_of}
-use Rattle.board_turns.specs.Turning.{Shows, Turns, after_instruction, next_instruction, nothing_shown}
-use Rattle.board_drivers.specs.Residents.{resident}
+use Rattle.board_drivers.specs.Residents.{IsResident, Resident, id_of, resident}
+use Rattle.board_turns.specs.Turning.{InTurn, IsMade, LeavesMachine, MayTurn, ServesCall, Settles, Turns, TurnsOut}
+use Rattle.board_turns.specs.Turning.{after_instruction, machine_instructed, next_instruction, nothing_shown}
 use Rattle.board_drivers.proofs.Orders.{drives_nothing}
 
 -- a change of one slot after another is one
-pub only_twice : (slot : ℕ) (a b c : Homes) → ChangesOnly slot a b → ChangesOnly slot b c → ChangesOnly slot a c
+only_twice : (slot : ℕ) (a b c : Homes) → ChangesOnly slot a b → ChangesOnly slot b c → ChangesOnly slot a c
 only_twice slot a b c first second =
     second ∙ ap (λ (h : Homes). with_own h slot (own_of c slot)) first
     ∙ ap (λ (owns : List Own). record a { owns = owns }) (set-set a.owns slot (own_of b slot) (own_of c slot))
 
--- it leaves flash, and as many slots
+-- it leaves flash
 pub only_flash : (slot : ℕ) (a b : Homes) → ChangesOnly slot a b → b.flash ≡ a.flash
 only_flash slot a b only = ap (λ (h : Homes). h.flash) only
 
--- what a turn leaves of the process in a slot, shows, and has the drivers do
-abbrev DoesWith : ℕ → List ℕ → Resident → Resident → Shown → Drivers → Drivers → Beside → Turned → Type 0
-DoesWith slot flash old new shown d d' beside t =
-    (t.after ≡ record_in flash new.0 new.1 beside) × Shows t shown × Drives (id_of slot old.1) t.acts d d'
+-- what a turn comes to is what the turn does that it is
+as_known : (slot : ℕ) (x y : Machine) (shown : Shown) (beside : Beside) (r s : Resident) (t u : Turned) → t ≡ u
+    → TurnsOut slot x y shown beside r s u → TurnsOut slot x y shown beside r s t
+as_known slot x y shown beside r s t u e h = subst (TurnsOut slot x y shown beside r s) (sym e) h
 
--- it is that of the turn that it is
-as_known : (slot : ℕ) (flash : List ℕ) (old new : Resident) (shown : Shown) (d d' : Drivers) (beside : Beside)
-    (t u : Turned) → t ≡ u → DoesWith slot flash old new shown d d' beside u
-    → DoesWith slot flash old new shown d d' beside t
-as_known slot flash old new shown d d' beside t u e h =
-    subst (λ (x : Turned). DoesWith slot flash old new shown d d' beside x) (sym e) h
+-- the turn of a process that is not held, by its state
+by_state : (x : Machine) (r : Resident) (beside : Beside) (state : State) → r.0.held ≡ false → r.0.state ≡ state
+    → (let before = record_in x.home.flash r.0 r.1 beside in
+    turned x.moment.settings x.moment.time before ≡ turn_in x.moment.settings x.moment.time state before)
+by_state x r beside state free is =
+    let before = record_in x.home.flash r.0 r.1 beside in
+    free_turned x.moment.settings x.moment.time before free
+    ∙ ap (λ (s : State). turn_in x.moment.settings x.moment.time s before) is
 
--- the turn of a record that runs, by the end of its instruction
-by_end : (m : Moment) (flash : List ℕ) (r : Resident) (beside : Beside) (end : TurnEnd) → r.0.state ≡ Running
-    → r.0.held ≡ false → (next_instruction flash r).end ≡ end
-    → (let a = after_instruction r (next_instruction flash r) in
-    turned m.settings m.time (record_in flash r.0 r.1 beside)
-    ≡ at_turn_end m.settings m.time (record_in flash a.0 a.1 beside) (next_instruction flash r).accesses end)
-by_end m flash r beside end runs free e =
-    let a = after_instruction r (next_instruction flash r) in
-    free_turned m.settings m.time (record_in flash r.0 r.1 beside) free
-    ∙ ap (λ (s : State). turn_in m.settings m.time s (record_in flash r.0 r.1 beside)) runs
-    ∙ ap (at_turn_end m.settings m.time (record_in flash a.0 a.1 beside) (next_instruction flash r).accesses) e
+-- that of one that runs, by the end of its instruction
+by_end : (x : Machine) (r : Resident) (beside : Beside) (end : TurnEnd) → r.0.state ≡ Running → r.0.held ≡ false
+    → (next_instruction x.home.flash r).end ≡ end
+    → (let t = next_instruction x.home.flash r in
+    let a = after_instruction r t in
+    turned x.moment.settings x.moment.time (record_in x.home.flash r.0 r.1 beside)
+    ≡ at_turn_end x.moment.settings x.moment.time (record_in x.home.flash a.0 a.1 beside) t.accesses end)
+by_end x r beside end runs free e =
+    let t = next_instruction x.home.flash r in
+    let a = after_instruction r t in
+    by_state x r beside Running free runs
+    ∙ ap (at_turn_end x.moment.settings x.moment.time (record_in x.home.flash a.0 a.1 beside) t.accesses) e
 
 -- an instruction leaves a process as it is to be, a step later
-pub instruction_seated : (flash : List ℕ) (steps : ℕ) (r : Resident) (t : UserTurn) → IsResident flash steps r
+instruction_seated : (flash : List ℕ) (steps : ℕ) (r : Resident) (t : UserTurn) → IsResident flash steps r
     → IsResident flash (steps + 1) (after_instruction r t)
 instruction_seated flash steps r t s = record {
   own = record { object = s.own.object; object_is = s.own.object_is; lives = s.own.lives };
@@ -93,41 +92,6 @@ instruction_seated flash steps r t s = record {
   restarts = omega (arith, s.restarts);
   life = omega (arith, s.life);
 }
-
--- a change of one slot leaves as many
-only_as_many : (slot : ℕ) (a b : Homes) → ChangesOnly slot a b → length b.owns ≡ length a.owns
-only_as_many slot a b only = ap (λ (h : Homes). length h.owns) only ∙ length-set a.owns slot (own_of b slot)
-
--- what a later part of turns leaves, all of them leave
-pub leaves_then : (steps slot : ℕ) (a b c : Homes) (p : Process) → ChangesOnly slot a b → LeavesSlot steps slot b c p
-    → LeavesSlot steps slot a c p
-leaves_then steps slot a b c p first h = record {
-  seated = subst (λ (f : List ℕ). IsResident f steps (resident c slot p)) (only_flash slot a b first) h.seated;
-  rest = only_twice slot a b c first h.rest;
-}
-
--- and of a machine
-pub leaves_on : (slot : ℕ) (x : Machine) (home : Homes) (guard : ActivePmp) (y : Machine) (p : Process)
-    → ChangesOnly slot x.home home → LeavesOn 1 slot (record x { home = home; guard = guard }) y p
-    → LeavesOn 1 slot x y p
-leaves_on slot x home guard y p first h = record {
-  left = leaves_then (x.moment.steps + 1) slot x.home home y.home p first h.left;
-  guard = h.guard;
-  rest = record {
-    moment = h.rest.moment;
-    alarms = h.rest.alarms;
-    calm = h.rest.calm;
-    ready = h.rest.ready;
-  };
-}
-
--- a machine whose rest is kept is another one in these parts alone
-pub as_left : (old new : Machine) → KeepsRest old new
-    → new ≡ record old { home = new.home; guard = new.guard; drivers = new.drivers }
-as_left old new rest =
-    let parts : Machine → Machine = λ m. record m { home = new.home; guard = new.guard; drivers = new.drivers } in
-    ap₂ (λ (m : Moment) (times : List (Option ℕ)). record new { moment = m; alarms = times }) rest.moment rest.alarms
-    ∙ ap₂ (λ (calm : ℕ) (ready : List Bool). record (parts old) { calm = calm; ready = ready }) rest.calm rest.ready
 
 -- registers that are set for a slot fit
 pub guards_only : (slot : ℕ) (guard : ActivePmp) (home : Homes) → IsSetFor slot guard home → GuardsOnly guard home
@@ -139,94 +103,109 @@ guards_only slot guard home set = record {
     same : (a b : ℕ) → ◌≡◌ {A = Option ℕ} (Some a) (Some b) → a ≡ b
     same a b e = cc
 
--- the instruction of the process in a slot, which left the home and the process so
-module _ (m : Moment) (slot : ℕ) (home made : Homes) (p q : Process) (is : IsMade slot home made p q)
-    (only : ChangesOnly slot home made) where
-  -- the process before it
+-- the instruction of the process in a slot, which left the machine and the process so
+module _ (slot : ℕ) (x y : Machine) (p q : Process)
+    (is : IsMade x.home.flash (resident x.home slot p) (resident y.home slot q))
+    (rest : y ≡ machine_instructed slot x (own_of y.home slot) y.guard) where
+  -- the process before it, and the instruction
   abbrev before : Resident
-  before = resident home slot p
+  before = resident x.home slot p
+
+  abbrev this_turn : UserTurn
+  this_turn = next_instruction x.home.flash before
+
+  -- both after it
+  made : ◌≡◌ {A = Machine × Resident} (y, resident y.home slot q)
+      (machine_instructed slot x (own_of y.home slot) y.guard, after_instruction before this_turn)
+  made = λ i. (rest i, is i)
 
   -- its turn was counted, and is not over
-  pub in_turn : (registers : ActivePmp) → MayTurn 1 m slot home p registers → p.state ≡ Running → InTurn m slot made q
-  in_turn registers may runs = record {
-    slot = omega (arith, may.slot, only_as_many slot home made only);
-    seated = subst (λ (f : List ℕ). IsResident f (m.steps + 1) (resident made slot q))
-        (sym (only_flash slot home made only))
-        (subst (λ (r : Resident). IsResident home.flash (m.steps + 1) r) (sym is)
-        (instruction_seated home.flash m.steps before (next_instruction home.flash before) may.seated));
-    lives = ap (λ (r : Resident). r.1.lives) is ∙ may.seated.own.lives ∙ ap is_alive runs;
-    restarts = subst (λ (r : Resident). r.0.restarts ≤ m.steps) (sym is) may.seated.restarts;
-    life = subst (λ (r : Resident). r.1.life ≤ m.steps) (sym is) may.seated.life;
+  pub in_turn : MayTurn 1 slot x before → p.state ≡ Running → IsSetFor slot y.guard y.home
+      → InTurn slot y (resident y.home slot q)
+  in_turn may runs set = subst (λ (z : Machine × Resident). InTurn slot z.0 z.1) (sym made) (record {
+    slot = omega (arith, may.slot, length-set x.home.owns slot (own_of y.home slot));
+    seated = instruction_seated x.home.flash x.moment.steps before this_turn may.seated;
+    lives = may.seated.own.lives ∙ ap is_alive runs;
+    restarts = may.seated.restarts;
+    life = may.seated.life;
     limit = omega (arith, may.limit);
-  }
+    set = subst (λ (z : Machine). IsSetFor slot z.guard z.home) rest set;
+  })
 
   -- and it may be all of the turn
-  pub all_left : InTurn m slot made q → LeavesSlot (m.steps + 1) slot home made q
-  all_left t = record {
-    seated = subst (λ (f : List ℕ). IsResident f (m.steps + 1) (resident made slot q)) (only_flash slot home made only)
-        t.seated;
-    rest = only;
+  pub all_left : MayTurn 1 slot x before → IsSetFor slot y.guard y.home
+      → LeavesMachine 1 slot x y (resident y.home slot q)
+  all_left may set = record {
+    seated = subst (IsResident x.home.flash (x.moment.steps + 1)) (sym is)
+        (instruction_seated x.home.flash x.moment.steps before this_turn may.seated);
+    only = ap (λ (z : Machine). z.home) rest;
+    guard = guards_only slot y.guard y.home set;
+    rest = rest ∙ ap (λ (z : Machine). record x { home = z.home; guard = z.guard; drivers = z.drivers }) (sym rest);
+  }
+
+  -- or what follows it leaves what all of the turn leaves
+  pub then_left : (z : Machine) (r : Resident) → LeavesMachine 1 slot y z r → LeavesMachine 1 slot x z r
+  then_left z r h = record {
+    seated = subst (λ (a : Machine). IsResident a.home.flash (a.moment.steps + 1) r) rest h.seated;
+    only = only_twice slot x.home y.home z.home (ap (λ (a : Machine). a.home) rest) h.only;
+    guard = h.guard;
+    rest = h.rest ∙ ap (λ (a : Machine). record a { home = z.home; guard = z.guard; drivers = z.drivers }) rest;
   }
 
   -- it leaves what the process asks of drivers
-  pub may_serve_still : (d : Drivers) → MayServe m d slot (own_of home slot) → MayServe m d slot (own_of made slot)
-  may_serve_still d may = subst (λ (r : Resident). MayServe m d slot r.1) (sym is) (record {
-    asks = may.asks;
-    lost = may.lost;
-    leds = may.leds;
-    buttons = may.buttons;
-    size = may.size;
-  })
+  pub may_serve_still : MayServe x.moment x.drivers slot (own_of x.home slot)
+      → MayServe y.moment y.drivers slot (own_of y.home slot)
+  may_serve_still may =
+      subst (λ (z : Machine × Resident). MayServe z.0.moment z.0.drivers slot z.1.1) (sym made) (record {
+        asks = may.asks;
+        lost = may.lost;
+        leds = may.leds;
+        buttons = may.buttons;
+        size = may.size;
+      })
 
-  -- an instruction with nothing more to do
-  pub went : (d : Drivers) → p.state ≡ Running → p.held ≡ false → (next_instruction home.flash before).end ≡ Went
-      → Turns m slot home.flash before (resident made slot q) nothing_shown d d
-  went d runs free end =
-      subst (λ (r : Resident). Turns m slot home.flash before r nothing_shown d d) (sym is) (λ storage.
-      let beside = beside_in d storage in
-      as_known slot home.flash before _ nothing_shown d d beside _ _
-      (by_end m home.flash before beside Went runs free end)
-      (refl, record { call = refl; denial = refl }, drives_nothing (id_of slot before.1) d))
+  module _ (runs : p.state ≡ Running) (free : p.held ≡ false) where
+    -- an instruction with nothing more to do
+    pub went : this_turn.end ≡ Went → Turns slot x y nothing_shown before (resident y.home slot q)
+    went end =
+        subst (λ (z : Machine × Resident). Turns slot x z.0 nothing_shown before z.1) (sym made) (λ storage.
+        let beside = beside_in x.drivers storage in
+        as_known slot x x nothing_shown beside before _ _ _ (by_end x before beside Went runs free end)
+        (refl, record { call = refl; denial = refl }, drives_nothing (id_of slot before.1) x.drivers))
 
-  -- one that is denied
-  pub trapped : (new : Resident) (denial : Denial) (shown : Shown) (d d' : Drivers) → p.state ≡ Running → p.held ≡ false
-      → (next_instruction home.flash before).end ≡ Trap denial → shown ≡ record { call = None; denial = Some denial }
-      → Settles m.settings.policy made.flash q (own_of made slot) denial new
-      → Drives (id_of slot (own_of made slot)) leaving_all d d' → Turns m slot home.flash before new shown d d'
-  trapped new denial shown d d' runs free end e settles drives = λ storage.
-      let beside = beside_in d storage in
-      let settled = subst (λ (r : Resident). Settles m.settings.policy home.flash r.0 r.1 denial new) is
-      (subst (λ (f : List ℕ). Settles m.settings.policy f q (own_of made slot) denial new)
-      (only_flash slot home made only) settles) in
-      as_known slot home.flash before new _ d d' beside _ _
-      (by_end m home.flash before beside (Trap denial) runs free end) (
-        settled beside,
-        record { call = ap (λ (s : Shown). s.call) (sym e); denial = ap (λ (s : Shown). s.denial) (sym e) },
-        subst (λ (r : Resident). Drives (id_of slot r.1) leaving_all d d') is drives,
-      )
+    -- one that is denied
+    pub trapped : (z : Machine) (new : Resident) (denial : Denial) (shown : Shown) → this_turn.end ≡ Trap denial
+        → shown ≡ record { call = None; denial = Some denial }
+        → Settles y.moment.settings.policy y.home.flash denial (resident y.home slot q) new
+        → Drives (id_of slot (own_of y.home slot)) leaving_all y.drivers z.drivers → Turns slot x z shown before new
+    trapped z new denial shown end e settles drives = λ storage.
+        let beside = beside_in x.drivers storage in
+        as_known slot x z shown beside before new _ _ (by_end x before beside (Trap denial) runs free end) (
+          subst (λ (a : Machine × Resident). Settles a.0.moment.settings.policy a.0.home.flash denial a.1 new) made
+              settles beside,
+          record { call = ap (λ (s : Shown). s.call) (sym e); denial = ap (λ (s : Shown). s.denial) (sym e) },
+          subst (λ (a : Machine × Resident). Drives (id_of slot a.1.1) leaving_all a.0.drivers z.drivers) made drives,
+        )
 
-  -- one that makes a system call
-  pub makes_call : (new : Resident) (shown : Shown) (d d' : Drivers) → p.state ≡ Running → p.held ≡ false
-      → (next_instruction home.flash before).end ≡ Call
-      → ServesCall m slot made.flash (resident made slot q) new shown d d'
-      → Turns m slot home.flash before new shown d d'
-  makes_call new shown d d' runs free end serves = λ storage.
-      let beside = beside_in d storage in
-      let served = subst (λ (r : Resident). ServesCall m slot home.flash r new shown d d') is
-      (subst (λ (f : List ℕ). ServesCall m slot f (resident made slot q) new shown d d')
-      (only_flash slot home made only) serves) in
-      as_known slot home.flash before new shown d d' beside _ _ (by_end m home.flash before beside Call runs free end)
-      (served (next_instruction home.flash before).accesses storage)
+    -- one that makes a system call
+    pub makes_call : (z : Machine) (new : Resident) (shown : Shown) → this_turn.end ≡ Call
+        → ServesCall slot y z shown (resident y.home slot q) new → Turns slot x z shown before new
+    makes_call z new shown end serves = λ storage.
+        let beside = beside_in x.drivers storage in
+        as_known slot x z shown beside before new _ _ (by_end x before beside Call runs free end)
+        (subst (λ (a : Machine × Resident). ServesCall slot a.0 z shown a.1 new) made serves this_turn.accesses storage)
 
 -- a call of an unknown class is a fault
-pub unknown_faults : (m : Moment) (slot : ℕ) (flash : List ℕ) (old new : Resident) (denial : Denial) (shown : Shown)
-    (d d' : Drivers) → call_of old.0.regs ≡ None → denial ≡ unknown_call old.0
-    → shown ≡ record { call = None; denial = Some denial } → Settles m.settings.policy flash old.0 old.1 denial new
-    → Drives (id_of slot old.1) leaving_all d d' → ServesCall m slot flash old new shown d d'
-unknown_faults m slot flash old new denial shown d d' none is e settles drives = λ accesses storage.
-    let beside = beside_in d storage in
-    let r = record_in flash old.0 old.1 beside in
-    as_known slot flash old new shown d d' beside _ (faulted m.settings r denial)
+pub unknown_faults : (slot : ℕ) (x y : Machine) (old new : Resident) (denial : Denial) (shown : Shown)
+    → call_of old.0.regs ≡ None → denial ≡ unknown_call old.0
+    → shown ≡ record { call = None; denial = Some denial }
+    → Settles x.moment.settings.policy x.home.flash denial old new
+    → Drives (id_of slot old.1) leaving_all x.drivers y.drivers → ServesCall slot x y shown old new
+unknown_faults slot x y old new denial shown none is e settles drives = λ accesses storage.
+    let m = x.moment in
+    let beside = beside_in x.drivers storage in
+    let r = record_in x.home.flash old.0 old.1 beside in
+    as_known slot x y shown beside old new _ (faulted m.settings r denial)
     (ap (calls m.settings m.time r accesses) none ∙ ap (faulted m.settings r) (sym is)) (
       settles beside,
       record { call = ap (λ (s : Shown). s.call) (sym e); denial = ap (λ (s : Shown). s.denial) (sym e) },
@@ -266,81 +245,57 @@ none_due : (r : Record) (next : Option Delivery) → is_some next ≡ false → 
 none_due r None e = refl
 none_due r (Some next) e = absurd (cc)
 
-module _ (m : Moment) (slot : ℕ) (flash : List ℕ) where
+module _ (slot : ℕ) (x : Machine) where
   -- a turn in which a process may be changed, and no more
-  is_quiet : (old new : Resident) (d : Drivers)
+  is_quiet : (old new : Resident)
       → ((beside : Beside)
-      → turned m.settings m.time (record_in flash old.0 old.1 beside) ≡ idle (record_in flash new.0 new.1 beside))
-      → Turns m slot flash old new nothing_shown d d
-  is_quiet old new d t = λ storage.
-      as_known slot flash old new nothing_shown d d (beside_in d storage) _ _ (t (beside_in d storage))
-      (refl, record { call = refl; denial = refl }, drives_nothing (id_of slot old.1) d)
+      → turned x.moment.settings x.moment.time (record_in x.home.flash old.0 old.1 beside)
+      ≡ idle (record_in x.home.flash new.0 new.1 beside)) → Turns slot x x nothing_shown old new
+  is_quiet old new t = λ storage.
+      let beside = beside_in x.drivers storage in
+      as_known slot x x nothing_shown beside old new _ _ (t beside)
+      (refl, record { call = refl; denial = refl }, drives_nothing (id_of slot old.1) x.drivers)
 
   -- what is due to it is delivered
-  pub woken : (old new : Resident) (d : Drivers) → old.0.state ≡ Yielded → old.0.held ≡ false
-      → is_some (due old.1.inbox) ≡ true
+  pub woken : (old new : Resident) → old.0.state ≡ Yielded → old.0.held ≡ false → is_some (due old.1.inbox) ≡ true
       → ((beside : Beside)
-      → record_in flash new.0 new.1 beside
-      ≡ deliver_due (record_in flash (after_turn old.0) old.1 beside) (due old.1.inbox))
-      → Turns m slot flash old new nothing_shown d d
-  woken old new d waits free some delivers = is_quiet old new d (λ beside.
-      let r = record_in flash old.0 old.1 beside in
-      free_turned m.settings m.time r free ∙ ap (λ (s : State). turn_in m.settings m.time s r) waits
-      ∙ by_due r (due old.1.inbox) some
-      ∙ ap idle (sym (delivers beside)))
+      → record_in x.home.flash new.0 new.1 beside
+      ≡ deliver_due (record_in x.home.flash (after_turn old.0) old.1 beside) (due old.1.inbox))
+      → Turns slot x x nothing_shown old new
+  woken old new waits free some delivers = is_quiet old new (λ beside.
+      by_state x old beside Yielded free waits
+      ∙ by_due (record_in x.home.flash old.0 old.1 beside) (due old.1.inbox) some ∙ ap idle (sym (delivers beside)))
 
   -- where nothing is nothing happens
-  pub waits_on : (r : Resident) (d : Drivers) → r.0.state ≡ Yielded → r.0.held ≡ false → is_some (due r.1.inbox) ≡ false
-      → Turns m slot flash r r nothing_shown d d
-  waits_on r d waits free none = is_quiet r r d (λ beside.
-      free_turned m.settings m.time (record_in flash r.0 r.1 beside) free
-      ∙ ap (λ (s : State). turn_in m.settings m.time s (record_in flash r.0 r.1 beside)) waits
-      ∙ none_due (record_in flash r.0 r.1 beside) (due r.1.inbox) none)
+  pub waits_on : (r : Resident) → r.0.state ≡ Yielded → r.0.held ≡ false → is_some (due r.1.inbox) ≡ false
+      → Turns slot x x nothing_shown r r
+  waits_on r waits free none = is_quiet r r (λ beside.
+      by_state x r beside Yielded free waits
+      ∙ none_due (record_in x.home.flash r.0 r.1 beside) (due r.1.inbox) none)
 
   -- a process that ended has no turn
-  pub rests : (r : Resident) (d : Drivers) → (r.0.state ≡ Faulted) ⊎ ((code : ℕ) × (r.0.state ≡ Terminated code))
-      → Turns m slot flash r r nothing_shown d d
-  rests r d (inl is) = is_quiet r r d (λ beside.
-      let q = record_in flash r.0 r.1 beside in
-      of_turned (λ t. t ≡ idle q) m.settings m.time q refl
-      (ap (λ (s : State). turn_in m.settings m.time s q) is))
-  rests r d (inr is) = is_quiet r r d (λ beside.
-      let q = record_in flash r.0 r.1 beside in
-      of_turned (λ t. t ≡ idle q) m.settings m.time q refl
-      (ap (λ (s : State). turn_in m.settings m.time s q) is.1))
+  pub rests : (r : Resident) → r.0.held ≡ false → (r.0.state ≡ Faulted) ⊎ ((code : ℕ) × (r.0.state ≡ Terminated code))
+      → Turns slot x x nothing_shown r r
+  rests r free (inl is) = is_quiet r r (λ beside. by_state x r beside Faulted free is)
+  rests r free (inr is) = is_quiet r r (λ beside. by_state x r beside (Terminated is.0) free is.1)
 
 -- a process that had no turn is as it is to be, some steps later, so one step later
 pub rests_seated_on : (flash : List ℕ) (steps more : ℕ) (r : Resident) → IsResident flash steps r
     → IsResident flash (steps + more) r
-rests_seated_on flash steps more r s =
-    record {
-      own = s.own;
-      turns = omega (arith, s.turns);
-      restarts = omega (arith, s.restarts);
-      life =
-          omega (arith, s.life);
-    }
+rests_seated_on flash steps more r s = record {
+  own = s.own;
+  turns = omega (arith, s.turns);
+  restarts = omega (arith, s.restarts);
+  life = omega (arith, s.life);
+}
 
 pub rests_seated : (flash : List ℕ) (steps : ℕ) (r : Resident) → IsResident flash steps r
     → IsResident flash (steps + 1) r
 rests_seated flash steps r s = rests_seated_on flash steps 1 r s
 
-module _ (m : Moment) (slot : ℕ) (flash : List ℕ) (old new : Resident) (shown : Shown) (d d' : Drivers) where
-  -- a turn that shows nothing leaves what drivers keep of its process, and that it lives
-  pub keeps_quiet : GrantsChangeAtCalls → shown ≡ nothing_shown → Turns m slot flash old new shown d d'
-      → (new.1.grants ≡ old.1.grants) × (new.1.lives ≡ old.1.lives)
-  keeps_quiet law quiet turns =
-      let t = turns [] in
-      let beside = beside_in d [] in
-      let r = record_in flash old.0 old.1 beside in
-      let keeps = law m.settings m.time r (t.1.call ∙ ap (λ (s : Shown). s.call) quiet)
-      (t.1.denial ∙ ap (λ (s : Shown). s.denial) quiet) in
-      let own : (turned m.settings m.time r).after.own ≡ new.1 =
-      ap (λ (r : Record). r.own) t.0 in
-      (sym (ap (λ (o : Own). o.grants) own) ∙ keeps.0, sym (ap (λ (o : Own). o.lives) own) ∙ keeps.1)
-
-  -- and any turn drops one upcall at most
-  pub loses_one : DropsAtMostOne → Turns m slot flash old new shown d d' → new.1.inbox.dropped ≤ old.1.inbox.dropped + 1
-  loses_one law turns =
-      subst (λ (r : Record). r.own.inbox.dropped ≤ old.1.inbox.dropped + 1) (turns []).0
-      (law m.settings m.time (record_in flash old.0 old.1 (beside_in d []))).not_more
+-- any turn drops one upcall at most
+pub loses_one : (slot : ℕ) (x y : Machine) (shown : Shown) (old new : Resident) → DropsAtMostOne
+    → Turns slot x y shown old new → new.1.inbox.dropped ≤ old.1.inbox.dropped + 1
+loses_one slot x y shown old new law turns =
+    subst (λ (r : Record). r.own.inbox.dropped ≤ old.1.inbox.dropped + 1) (turns []).0
+    (law x.moment.settings x.moment.time (record_in x.home.flash old.0 old.1 (beside_in x.drivers []))).not_more

@@ -1,14 +1,10 @@
 -- Quiet turns of a process with what is its own. Only proofs use this.
-use Rattle.std.specs.Prelude.{◌≡◌, ◌≢◌, ◌<◌, ℕ, ◌+◌, List}
-use Rattle.process_record.specs.declared.process.Process.{Process}
+use Rattle.std.specs.Prelude.{◌≡◌, ◌≢◌, ◌<◌, ℕ, List}
 use Rattle.rv32_model.specs.declared.turn_end.TurnEnd.{TurnEnd}
 use Rattle.rv32_model.specs.declared.turn_end.TurnEnd.TheVariants.{Went}
 use Rattle.kernel_model.specs.Record.{instruction}
 use Rattle.kernel_model.specs.Stretch.{AllGo, after_instructions}
-use Rattle.board_turns.specs.declared.machine.Machine.{Machine}
-use Rattle.board_turns.specs.Guards.{GuardsOnly}
-use Rattle.board_drivers.specs.Residents.{IsResident, Resident, record_of}
-use Rattle.board_turns.specs.Turning.{ChangesSlot, KeepsRest}
+use Rattle.board_drivers.specs.Residents.{Resident, record_of}
 
 -- So many turns of a process, of at most so many, lead from it to another, whatever its storage is and whichever
 -- buttons are pressed: each only executes an instruction. Where they are fewer, the next instruction makes a system
@@ -21,12 +17,3 @@ pub record Quietly (k most : ℕ) (end : TurnEnd) (flash : List ℕ) (old new : 
       → (instruction (record_of flash pressed (new, storage))).end ≢ Went
   pub ends : end ≢ Went → (pressed : ℕ) (storage : List ℕ)
       → (instruction (record_of flash pressed (new, storage))).end ≡ end
-
--- so many quiet turns of the process in a slot, and of no other
-pub record QuietAt (k most : ℕ) (end : TurnEnd) (slot : ℕ) (old new : Machine)
-    (processes processes_after : List Process) : Type 0 where
-  pub at : ChangesSlot slot old.home new.home processes processes_after
-  pub quiet : Quietly k most end old.home.flash at.before at.after
-  pub seated : IsResident old.home.flash (old.moment.steps + k) at.after
-  pub guard : GuardsOnly new.guard new.home
-  pub rest : KeepsRest old new

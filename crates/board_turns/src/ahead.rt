@@ -60,7 +60,7 @@ impl Machine {
 
     /// Looks again, after a turn, when the alarm of its process becomes due and up to when no device
     /// step is ready, by what the turn showed. What a process keeps for the alarm, and that it lives,
-    /// changes in a turn that may have armed one alone; after a denial it has none armed. The time up
+    /// changes only in a turn that may have armed one; after a denial it has none armed. The time up
     /// to which no device step is ready holds on where the turn made no call that may act: a denial
     /// leaves less to do for devices.
     #[inline(always)]

@@ -2,8 +2,9 @@
 ghost use Rattle.std.specs.Prelude.{◌≡◌, ℕ};
 ghost use Rattle.process_record.specs.Operator.{ends_by};
 ghost use Rattle.board_drivers.specs.Driven.{Drives};
-ghost use Rattle.board_turns.specs.Operating.{OperatesAt, OperatesOn, verb_acts};
-ghost use Rattle.board_turns.specs.Turning.{LeavesOn, MayTurnAt, MayTurnOn};
+ghost use Rattle.board_drivers.specs.Residents.{resident};
+ghost use Rattle.board_turns.specs.Operating.{IsActedOn, verb_acts};
+ghost use Rattle.board_turns.specs.Turning.{HasProcess, LeavesMachine, MayTurn, StepsInSlot};
 
 use crate::machine::Machine;
 use process_console::act;
@@ -37,9 +38,11 @@ impl Machine {
     /// An operator acts on the process in a slot, which leaves its lists where a life of it ends,
     /// and is protected as its layout is then.
     fn operate(&mut self, process: &mut Process, slot: Slot, verb: Verb)
-        requires { MayTurnOn 1 slot self.old process.old }
-        ensures operates { OperatesOn verb slot self.old self.new process.old process.new }
-        ensures leaves { LeavesOn 1 slot self.old self.new process.new }
+        requires { MayTurn 1 slot self.old (resident self.old.home slot process.old) }
+        ensures operates { IsActedOn verb slot self.old self.new
+            (resident self.old.home slot process.old) (resident self.new.home slot process.new) }
+        ensures leaves { LeavesMachine 1 slot self.old self.new
+            (resident self.new.home slot process.new) }
     {
         self.let_go(process, slot, verb);
         act(process, &mut self.home, slot, verb);
@@ -48,8 +51,9 @@ impl Machine {
 
     /// The same of the process at its place in the table.
     pub fn operate_at(&mut self, processes: &mut Vec<Process>, slot: Slot, verb: Verb)
-        requires { MayTurnAt 1 slot self.old processes.old.items }
-        ensures { OperatesAt verb slot self.old self.new processes.old.items processes.new.items }
+        requires { HasProcess slot self.old.home processes.old.items (MayTurn 1 slot self.old) }
+        ensures { StepsInSlot 1 slot self.old self.new processes.old.items processes.new.items
+            (IsActedOn verb slot self.old self.new) }
     {
         let process = &mut processes[slot.index()];
         self.operate(process, slot, verb);

@@ -1,7 +1,7 @@
 //! Turns of the process in a slot that only execute an instruction.
 ghost use Rattle.std.specs.Prelude.{◌≡◌, ◌+◌, ◌≤◌};
-ghost use Rattle.board_turns.specs.Turning.{MayTurnAt};
-ghost use Rattle.board_turns.specs.Quiet.{QuietAt};
+ghost use Rattle.board_turns.specs.Turning.{HasProcess, MayTurn, StepsInSlot};
+ghost use Rattle.board_turns.specs.Quiet.{Quietly};
 
 use crate::machine::Machine;
 use process_record::Process;
@@ -13,10 +13,10 @@ impl Machine {
     /// `most`: how many they were, and how the next instruction ends, where it does not go. The
     /// registers are set, and memory is lent, once for all of them.
     pub fn turns_at(&mut self, processes: &mut Vec<Process>, slot: Slot, most: u32) -> Stretch
-        requires { MayTurnAt most slot self.old processes.old.items }
+        requires { HasProcess slot self.old.home processes.old.items (MayTurn most slot self.old) }
         ensures most { result.went ≤ most }
-        ensures quiet { QuietAt result.went most result.end slot self.old self.new
-            processes.old.items processes.new.items }
+        ensures quiet { StepsInSlot result.went slot self.old self.new processes.old.items
+            processes.new.items (Quietly result.went most result.end self.old.home.flash) }
         ensures drivers { self.new.drivers ≡ self.old.drivers }
     {
         let process = &mut processes[slot.index()];

@@ -1,29 +1,27 @@
 //! One turn of the process in a slot.
-ghost use Rattle.std.specs.Prelude.{◌≡◌, ◌+◌, ◌<◌, [], length, true, false, None, Some};
+ghost use Rattle.std.specs.Prelude.{◌≡◌, ◌+◌, ◌<◌, length, true, false, None, Some};
 ghost use Rattle.process_record.specs.declared.process.State.TheVariants.{Running, Yielded};
 ghost use Rattle.process_model.specs.Own.{own_ended};
 ghost use Rattle.process_record.specs.Parts.{after_fault};
 ghost use Rattle.grant_enter.specs.Homes.{own_of, ChangesOnly};
 ghost use Rattle.driver_model.specs.Commands.{leaving_all};
 ghost use Rattle.syscall_abi.specs.Forms.{form_of};
-ghost use Rattle.kernel_calls.specs.Outcomes.{acts_for, is_for_driver};
+ghost use Rattle.kernel_calls.specs.Outcomes.{is_for_driver};
 ghost use Rattle.process_model.specs.Flash.{object_in};
 ghost use Rattle.kernel_calls.specs.Own.{Beside, record_in};
-ghost use Rattle.board_drivers.specs.Driven.{Drives};
+ghost use Rattle.board_drivers.specs.Driven.{Drives, MayServe};
 ghost use Rattle.kernel_model.specs.Calls.{restart};
 ghost use Rattle.kernel_model.specs.Turn.{arguments, made};
 ghost use Rattle.kernel_model.specs.Parts.{unknown_call};
+ghost use Rattle.board_drivers.specs.Residents.{IsResident, id_of, resident};
 ghost use Rattle.board_turns.specs.Guards.{IsSetFor};
-ghost use Rattle.board_drivers.specs.Residents.{id_of, resident};
-ghost use Rattle.board_turns.specs.Turning.{InTurn, InTurnOn, FinishesOn, IsMade, LeavesOn};
-ghost use Rattle.board_turns.specs.Turning.{KeepsRest, LeavesSlot, MayServeOn, MayTurn, MayTurnOn};
-ghost use Rattle.board_turns.specs.Turning.{ServesCallOn, Settles, TurnsOn, next_instruction};
-ghost use Rattle.board_turns.specs.Turning.{nothing_shown, told_in_emit, with_shown, MayTurnAt, ReplyStands};
-ghost use Rattle.board_turns.specs.Turning.{IsFreeAt, IsKnownEnd, IsKnownEndAt, TurnsAt};
+ghost use Rattle.board_turns.specs.Turning.{Finishes, HasProcess, InTurn, IsKnownEnd, IsMade};
+ghost use Rattle.board_turns.specs.Turning.{LeavesMachine, MayTurn, ReplyStands, ServesCall};
+ghost use Rattle.board_turns.specs.Turning.{Settles, StepsInSlot, Turns, next_instruction};
+ghost use Rattle.board_turns.specs.Turning.{machine_instructed, nothing_shown, told_in_emit, with_shown};
 
-use crate::guard::ActivePmp;
 use crate::machine::Machine;
-use board_drivers::{Moment, Order};
+use board_drivers::Order;
 use driver_model::commands_stay_in_place;
 use fault_policy::{Action, decide};
 use grant_enter::Home;
@@ -81,30 +79,6 @@ fn stop_at(home: &mut Home, process: &mut Process, slot: Slot, denial: Denial)
     home.end(slot);
 }
 
-/// A denial starts the process in a slot again, and it is protected as its layout is then.
-fn restart_at(
-    home: &mut Home,
-    process: &mut Process,
-    guard: &mut ActivePmp,
-    slot: Slot,
-    denial: Denial,
-    moment: &Moment,
-)
-    requires turn { InTurn moment.now slot home.old process.old }
-    requires guard { IsSetFor slot guard.old home.old }
-    ensures restarted { (beside : Beside) →
-        restart (record_in home.old.flash (after_fault process.old denial) (own_of home.old slot)
-        beside)
-        ≡ record_in home.old.flash process.new (own_of home.new slot) beside }
-    ensures leaves { LeavesSlot (moment.now.steps + 1) slot home.old home.new process.new }
-    ensures guard { IsSetFor slot guard.new home.new }
-{
-    process.denial = Some(denial);
-    let layout = home.layout(slot);
-    restart_process(home, process, slot);
-    guard.refresh(home, slot, &layout);
-}
-
 /// The call that the registers make is of an unknown class.
 fn unknown_class(process: &Process) -> Denial
     ensures { result ≡ unknown_call process.now }
@@ -116,48 +90,62 @@ fn unknown_class(process: &Process) -> Denial
     }
 }
 
-/// How the next instruction of the process in a slot ends, which counts as a turn. Where it is known
-/// that it does not go, and how it ends, it is not made: it leaves registers and memory as they are.
-#[inline(always)]
-fn end_instruction(
-    home: &mut Home,
-    process: &mut Process,
-    guard: &mut ActivePmp,
-    slot: Slot,
-    known: TurnEnd,
-    moment: &Moment,
-) -> TurnEnd
-    requires turn { MayTurn 1 moment.now slot home.old process.old guard.old }
-    requires runs { process.old.state ≡ Running }
-    requires known { IsKnownEnd known home.old.flash (resident home.old slot process.old) }
-    ensures end { result
-        ≡ (next_instruction home.old.flash (resident home.old slot process.old)).end }
-    ensures made { IsMade slot home.old home.new process.old process.new }
-    ensures turn { InTurn moment.now slot home.new process.new }
-    ensures rest { ChangesOnly slot home.old home.new }
-    ensures guard { IsSetFor slot guard.new home.new }
-{
-    stopped_turns_change_nothing();
-    writes_are_listed();
-    guard.bring_in(home, slot);
-    process.count_turn();
-    match known {
-        TurnEnd::Went => home.instruct(slot, &guard.pmp, &mut process.regs),
-        TurnEnd::Call | TurnEnd::Trap(_) => known,
-    }
-}
-
 impl Machine {
+    /// How the next instruction of the process in a slot ends, which counts as a turn. Where it is
+    /// known that it does not go, and how it ends, it is not made: it leaves registers and memory as
+    /// they are.
+    #[inline(always)]
+    fn end_instruction(&mut self, process: &mut Process, slot: Slot, known: TurnEnd) -> TurnEnd
+        requires turn { MayTurn 1 slot self.old (resident self.old.home slot process.old) }
+        requires runs { process.old.state ≡ Running }
+        requires known { IsKnownEnd known self.old.home.flash
+            (resident self.old.home slot process.old) }
+        ensures end { result
+            ≡ (next_instruction self.old.home.flash (resident self.old.home slot process.old)).end }
+        ensures made { IsMade self.old.home.flash (resident self.old.home slot process.old)
+            (resident self.new.home slot process.new) }
+        ensures turn { InTurn slot self.new (resident self.new.home slot process.new) }
+        ensures rest { self.new
+            ≡ machine_instructed slot self.old (own_of self.new.home slot) self.new.guard }
+    {
+        stopped_turns_change_nothing();
+        writes_are_listed();
+        self.guard.bring_in(&mut self.home, slot);
+        process.count_turn();
+        match known {
+            TurnEnd::Went => self.home.instruct(slot, &self.guard.pmp, &mut process.regs),
+            TurnEnd::Call | TurnEnd::Trap(_) => known,
+        }
+    }
+
+    /// A denial starts the process in a slot again, and it is protected as its layout is then.
+    fn restart_at(&mut self, process: &mut Process, slot: Slot, denial: Denial)
+        requires { InTurn slot self.old (resident self.old.home slot process.old) }
+        ensures restarted { (beside : Beside) → restart (record_in self.old.home.flash
+            (after_fault process.old denial) (own_of self.old.home slot) beside)
+            ≡ record_in self.old.home.flash process.new (own_of self.new.home slot) beside }
+        ensures leaves { LeavesMachine 1 slot self.old self.new
+            (resident self.new.home slot process.new) }
+        ensures set { IsSetFor slot self.new.guard self.new.home }
+        ensures drivers { self.new.drivers ≡ self.old.drivers }
+    {
+        process.denial = Some(denial);
+        let layout = self.home.layout(slot);
+        restart_process(&mut self.home, process, slot);
+        self.guard.refresh(&self.home, slot, &layout);
+    }
+
     /// A denial: the process in a slot faults, and has ended or starts again, as the policy
     /// decides. It is told in `emit`, where nothing was told before.
     fn fault_at(&mut self, process: &mut Process, slot: Slot, denial: Denial, emit: &mut Emit)
-        requires turn { InTurnOn slot self.old process.old }
+        requires turn { InTurn slot self.old (resident self.old.home slot process.old) }
         requires quiet { told_in_emit emit.old ≡ nothing_shown }
-        ensures settles { Settles self.old.moment.settings.policy self.old.home.flash process.old
-            (own_of self.old.home slot) denial (resident self.new.home slot process.new) }
+        ensures settles { Settles self.old.moment.settings.policy self.old.home.flash denial
+            (resident self.old.home slot process.old) (resident self.new.home slot process.new) }
         ensures gone { Drives (id_of slot (own_of self.old.home slot)) leaving_all
             self.old.drivers self.new.drivers }
-        ensures leaves { LeavesOn 1 slot self.old self.new process.new }
+        ensures leaves { LeavesMachine 1 slot self.old self.new
+            (resident self.new.home slot process.new) }
         ensures shown { told_in_emit emit.new ≡ record { call = None; denial = Some denial } }
         ensures emit { emit.new ≡ with_shown emit.old (told_in_emit emit.new) }
     {
@@ -167,14 +155,7 @@ impl Machine {
         self.drivers.gone(&id);
         match decide(self.moment.settings.policy, process.restarts) {
             Action::Stop => stop_at(&mut self.home, process, slot, denial),
-            Action::Restart => restart_at(
-                &mut self.home,
-                process,
-                &mut self.guard,
-                slot,
-                denial,
-                &self.moment,
-            ),
+            Action::Restart => self.restart_at(process, slot, denial),
         }
     }
 
@@ -182,16 +163,17 @@ impl Machine {
     /// or refuses it.
     #[inline(never)]
     fn command_driver(&mut self, process: &mut Process, slot: Slot, call: &Call) -> Outcome
-        requires turn { InTurn self.old.moment slot self.old.home process.old }
-        requires may { MayServeOn slot self.old }
+        requires turn { InTurn slot self.old (resident self.old.home slot process.old) }
+        requires may { MayServe self.old.moment self.old.drivers slot (own_of self.old.home slot) }
         requires left { is_for_driver self.old.moment.settings.strict
             (object_in self.old.home.flash process.old.object) (form_of call.now) ≡ true }
-        ensures serves { FinishesOn slot self.old self.new process.old process.new
-            (form_of call.now) result }
-        ensures leaves { LeavesSlot (self.old.moment.steps + 1) slot self.old.home self.new.home
-            process.new }
-        ensures guard { self.new.guard ≡ self.old.guard }
-        ensures rest { KeepsRest self.old self.new }
+        ensures serves { Finishes slot self.old self.new (form_of call.now) result
+            (resident self.old.home slot process.old) (resident self.new.home slot process.new) }
+        ensures seated { IsResident self.old.home.flash (self.old.moment.steps + 1)
+            (resident self.new.home slot process.new) }
+        ensures only { ChangesOnly slot self.old.home self.new.home }
+        ensures rest { self.new
+            ≡ record self.old { home = self.new.home; drivers = self.new.drivers } }
     {
         commands_stay_in_place();
         let Call::Command {
@@ -219,11 +201,12 @@ impl Machine {
 
     /// Serves a system call, and protects the process as its layout is afterwards.
     fn serve(&mut self, process: &mut Process, slot: Slot, call: &Call) -> Outcome
-        requires turn { InTurnOn slot self.old process.old }
-        requires may { MayServeOn slot self.old }
-        ensures serves { FinishesOn slot self.old self.new process.old process.new
-            (form_of call.now) result }
-        ensures leaves { LeavesOn 1 slot self.old self.new process.new }
+        requires turn { InTurn slot self.old (resident self.old.home slot process.old) }
+        requires may { MayServe self.old.moment self.old.drivers slot (own_of self.old.home slot) }
+        ensures serves { Finishes slot self.old self.new (form_of call.now) result
+            (resident self.old.home slot process.old) (resident self.new.home slot process.new) }
+        ensures leaves { LeavesMachine 1 slot self.old self.new
+            (resident self.new.home slot process.new) }
     {
         let layout = self.home.layout(slot);
         let life = process.restarts;
@@ -244,12 +227,13 @@ impl Machine {
     /// Serves the system call that the registers make. It is told in `emit`, where nothing was told
     /// before.
     fn serve_call(&mut self, process: &mut Process, slot: Slot, emit: &mut Emit)
-        requires turn { InTurnOn slot self.old process.old }
-        requires may { MayServeOn slot self.old }
+        requires turn { InTurn slot self.old (resident self.old.home slot process.old) }
+        requires may { MayServe self.old.moment self.old.drivers slot (own_of self.old.home slot) }
         requires quiet { told_in_emit emit.old ≡ nothing_shown }
-        ensures serves { ServesCallOn slot self.old self.new process.old process.new
-            (told_in_emit emit.new) }
-        ensures leaves { LeavesOn 1 slot self.old self.new process.new }
+        ensures serves { ServesCall slot self.old self.new (told_in_emit emit.new)
+            (resident self.old.home slot process.old) (resident self.new.home slot process.new) }
+        ensures leaves { LeavesMachine 1 slot self.old self.new
+            (resident self.new.home slot process.new) }
         ensures emit { emit.new ≡ with_shown emit.old (told_in_emit emit.new) }
     {
         let before = process.regs;
@@ -265,26 +249,20 @@ impl Machine {
     /// asks for. What it shows is told in `emit`, where nothing was told before: most turns show
     /// nothing, and write nothing there.
     fn run_on(&mut self, process: &mut Process, slot: Slot, known: TurnEnd, emit: &mut Emit)
-        requires turn { MayTurnOn 1 slot self.old process.old }
+        requires turn { MayTurn 1 slot self.old (resident self.old.home slot process.old) }
         requires free { process.old.held ≡ false }
         requires runs { process.old.state ≡ Running }
         requires known { IsKnownEnd known self.old.home.flash
             (resident self.old.home slot process.old) }
-        requires may { MayServeOn slot self.old }
+        requires may { MayServe self.old.moment self.old.drivers slot (own_of self.old.home slot) }
         requires quiet { told_in_emit emit.old ≡ nothing_shown }
-        ensures turns { TurnsOn slot self.old self.new process.old process.new
-            (told_in_emit emit.new) }
-        ensures leaves { LeavesOn 1 slot self.old self.new process.new }
+        ensures turns { Turns slot self.old self.new (told_in_emit emit.new)
+            (resident self.old.home slot process.old) (resident self.new.home slot process.new) }
+        ensures leaves { LeavesMachine 1 slot self.old self.new
+            (resident self.new.home slot process.new) }
         ensures emit { emit.new ≡ with_shown emit.old (told_in_emit emit.new) }
     {
-        let end = end_instruction(
-            &mut self.home,
-            process,
-            &mut self.guard,
-            slot,
-            known,
-            &self.moment,
-        );
+        let end = self.end_instruction(process, slot, known);
         match end {
             TurnEnd::Went => {}
             TurnEnd::Call => self.serve_call(process, slot, emit),
@@ -295,11 +273,13 @@ impl Machine {
     /// The turn of a process that has yielded: what is due to it is delivered, if anything is. The
     /// registers are set for it, since it is the next to run. It shows nothing.
     fn wake(&mut self, process: &mut Process, slot: Slot)
-        requires turn { MayTurnOn 1 slot self.old process.old }
+        requires turn { MayTurn 1 slot self.old (resident self.old.home slot process.old) }
         requires free { process.old.held ≡ false }
         requires waits { process.old.state ≡ Yielded }
-        ensures turns { TurnsOn slot self.old self.new process.old process.new nothing_shown }
-        ensures leaves { LeavesOn 1 slot self.old self.new process.new }
+        ensures turns { Turns slot self.old self.new nothing_shown
+            (resident self.old.home slot process.old) (resident self.new.home slot process.new) }
+        ensures leaves { LeavesMachine 1 slot self.old self.new
+            (resident self.new.home slot process.new) }
     {
         self.guard.bring_in(&mut self.home, slot);
         if self.home.is_due(slot) {
@@ -318,13 +298,12 @@ impl Machine {
         known: TurnEnd,
         emit: &mut Emit,
     )
-        requires turn { MayTurnAt 1 slot self.old processes.old.items }
-        requires free { IsFreeAt slot processes.old.items }
-        requires known { IsKnownEndAt slot known self.old.home processes.old.items }
-        requires may { MayServeOn slot self.old }
+        requires turn { HasProcess slot self.old.home processes.old.items (λ r. MayTurn 1 slot self.old r
+            × (r.0.held ≡ false) × IsKnownEnd known self.old.home.flash r) }
+        requires may { MayServe self.old.moment self.old.drivers slot (own_of self.old.home slot) }
         requires quiet { told_in_emit emit.old ≡ nothing_shown }
-        ensures turn { TurnsAt slot self.old self.new processes.old.items processes.new.items
-            (told_in_emit emit.new) }
+        ensures turn { StepsInSlot 1 slot self.old self.new processes.old.items processes.new.items
+            (Turns slot self.old self.new (told_in_emit emit.new)) }
         ensures emit { emit.new ≡ with_shown emit.old (told_in_emit emit.new) }
     {
         let process = &mut processes[slot.index()];

@@ -1,1 +1,3 @@
 mod Receiving
+mod Portions
+mod Transmitting

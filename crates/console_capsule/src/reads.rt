@@ -69,6 +69,17 @@ struct Filled {
     status: u32,
 }
 
+/// How a process is told of a read into a buffer: 0, or the code for a size where it has no bytes.
+fn status_for(buffer: &[u8]) -> u32
+    ensures { result ≡ (if length buffer.now == 0 then code_of ErrorCode.SIZE else 0) }
+{
+    if buffer.is_empty() {
+        ErrorCode::SIZE.code()
+    } else {
+        0
+    }
+}
+
 /// Moves the oldest bytes that came in to the start of a buffer, as many as a read asks for, and no
 /// more than the buffer has.
 fn fill(buffer: &mut [u8], uart: &mut Uart, read: &WaitingRead) -> Filled
@@ -81,11 +92,7 @@ fn fill(buffer: &mut [u8], uart: &mut Uart, read: &WaitingRead) -> Filled
     ensures long { length buffer.new ≡ length buffer.old }
     ensures uart { uart.new ≡ record uart.old { ring = drop result.count uart.old.ring } }
 {
-    let status = if buffer.is_empty() {
-        ErrorCode::SIZE.code()
-    } else {
-        0
-    };
+    let status = status_for(buffer);
     let count = (read.length as usize).min(buffer.len()).min(uart.held());
     let (front, _) = buffer.split_at_mut(count);
     uart.take(front);

@@ -28,7 +28,7 @@ use Rattle.grant_enter.specs.Seats.{AreSettled, IsHome, IsSeated, IsKept, Holds,
 use Rattle.grant_enter.specs.Seats.{TellsPermissions, layouts_of, owned, app_in, kernel_in, own_in, owns_seated}
 use Rattle.grant_enter.specs.Seats.{homes_of}
 use Rattle.std.proofs.lemmas.Grind.{same_number_lists}
-use Rattle.grant_enter.proofs.Living.{lives_so, stale_is}
+use Rattle.grant_enter.proofs.Living.{lives_so, placed_there, stale_is}
 use Rattle.grant_enter.proofs.Windows.{windows_same, over_outside, over_window, short, zeros, length_zeros}
 use Rattle.grant_enter.proofs.Tables.{any_default, one_changed, read_at, own_at, settled_at, apart_at, layouts_set}
 use Rattle.grant_enter.proofs.Tables.{all_changed}
@@ -84,6 +84,18 @@ reads_seat h old slot home shown there =
       is = refl;
       read = any_default h.seats.items slot _ _ (omega (arith, length-map h.seats.items (own_in h.memory.ram), low));
     }
+
+-- the seat of a process that is there was read
+pub reads_there : (h : Inside) (old : Homes) (slot index life : ℕ) (seat : Seat) → IsHome h → homes_of h ≡ old
+    → is_life life (slice_get old.owns slot) ≡ true → index ≡ slot → seat ≡ slice_index_or h.seats.items index seat
+    → Reads h old slot index seat
+reads_there h old slot index life seat home shown present is read = record {
+  home = home;
+  shown = shown;
+  there = placed_there old.owns slot life present;
+  is = is;
+  read = read;
+}
 
 -- a home in which memory, and the seat at a place, are others
 abbrev pub with_seat : Inside → MemoryBytes → ℕ → Seat → Inside

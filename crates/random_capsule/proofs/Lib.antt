@@ -1,1 +1,2 @@
 mod Advancing
+mod Serving

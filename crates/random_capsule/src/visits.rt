@@ -1,8 +1,8 @@
 //! What the source does with the value that a process keeps for it.
 ghost use Rattle.std.specs.Prelude.{◌≡◌, ◌+◌, ◌-◌, ◌<◌, ◌≤◌, ◌^◌};
-ghost use Rattle.grant_enter.specs.Seen.{Framed, IsLent, own_entered, seen};
+ghost use Rattle.grant_enter.specs.Seen.{Framed, IsLent, own_entered};
 ghost use Rattle.driver_model.specs.Random.{completing, drawing, progress, random, wanted};
-ghost use Rattle.random_capsule.specs.Steps.{Progresses};
+ghost use Rattle.random_capsule.specs.Steps.{MayBeServed, Progresses};
 
 use driver_requests::VisitRequest;
 use grant_enter::{Entered, Grant, a_buffer_is_written, buffers_are_whole, frames_join};
@@ -72,9 +72,7 @@ impl VisitRequest<RandomRequest> for Advance {
 
 /// How many bytes a request gets.
 fn wanted(entered: &mut Entered<'_>, request: &RandomRequest) -> u32
-    requires lent { IsLent entered.old }
-    requires driver { (seen entered.old).driver ≡ random }
-    requires buffer { 0 < (seen entered.old).counts.rw }
+    requires { MayBeServed entered.old }
     ensures count { result ≡ wanted request.now (own_entered entered.old) }
     ensures own { own_entered entered.new ≡ own_entered entered.old }
     // what a visitor owes
@@ -89,10 +87,7 @@ fn wanted(entered: &mut Entered<'_>, request: &RandomRequest) -> u32
 
 /// A request completes.
 fn complete(entered: &mut Entered<'_>, drawn: Option<u32>, outcome: u32, bytes: u32) -> Step
-    requires lent { IsLent entered.old }
-    requires driver { (seen entered.old).driver ≡ random }
-    requires upcall { 0 < (seen entered.old).counts.upcalls }
-    requires dropped { (own_entered entered.old).inbox.dropped + 1 < 2 ^ 32 }
+    requires { MayBeServed entered.old }
     ensures step { Progresses (completing drawn outcome bytes (own_entered entered.old))
         result (own_entered entered.new) }
     // what a visitor owes
@@ -105,11 +100,7 @@ fn complete(entered: &mut Entered<'_>, drawn: Option<u32>, outcome: u32, bytes: 
 
 /// A word is drawn for a request that wants so many bytes more.
 fn draw(entered: &mut Entered<'_>, request: &RandomRequest, left: u32, word: u32) -> Step
-    requires lent { IsLent entered.old }
-    requires driver { (seen entered.old).driver ≡ random }
-    requires upcall { 0 < (seen entered.old).counts.upcalls }
-    requires buffer { 0 < (seen entered.old).counts.rw }
-    requires dropped { (own_entered entered.old).inbox.dropped + 1 < 2 ^ 32 }
+    requires may { MayBeServed entered.old }
     requires left { request.now.written + left < 2 ^ 32 }
     ensures step { Progresses (drawing left request.now (own_entered entered.old) (Some word))
         result (own_entered entered.new) }
@@ -135,11 +126,7 @@ fn draw(entered: &mut Entered<'_>, request: &RandomRequest, left: u32, word: u32
 
 /// One step of a request, with the next word, where one is left.
 fn take_step(entered: &mut Entered<'_>, request: &RandomRequest, word: Option<u32>) -> Step
-    requires lent { IsLent entered.old }
-    requires driver { (seen entered.old).driver ≡ random }
-    requires upcall { 0 < (seen entered.old).counts.upcalls }
-    requires buffer { 0 < (seen entered.old).counts.rw }
-    requires dropped { (own_entered entered.old).inbox.dropped + 1 < 2 ^ 32 }
+    requires { MayBeServed entered.old }
     ensures step { Progresses (progress word request.now (own_entered entered.old))
         result (own_entered entered.new) }
     // what a visitor owes

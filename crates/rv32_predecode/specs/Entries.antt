@@ -1,5 +1,6 @@
 -- What an entry tells: the instruction that was decoded, and its length in bytes.
-use Rattle.std.specs.Prelude.{◌≡◌, ℕ, ◌+◌, ◌%◌, Bool, true, false, if◌then◌else◌, Option, None, Some, IfSome}
+use Rattle.std.specs.Prelude.{◌≡◌, ℕ, ◌+◌, ◌%◌, Bool, true, false, if◌then◌else◌, Option, None, Some}
+use Rattle.std.specs.Prelude.{is_some, IfSome}
 use Rattle.tk_base.specs.declared.access.Width.TheVariants as widths
 use Rattle.rv32_model.specs.declared.instr.Op.TheVariants as ops
 use Rattle.rv32_model.specs.declared.instr.BranchTest.TheVariants as tests
@@ -192,3 +193,10 @@ HopsByParcels instr = distance instr % 2 ≡ 0
 pub record IsEntryOf (length : ℕ) (instr : Option Instr) (entry : Entry) : Type 0 where
   pub tells : IfSome (entry_instr entry)
       (λ told. (instr ≡ Some told) × (entry_length entry ≡ length) × HopsByParcels told)
+
+-- what handing an instruction over comes to: there is none, and the handler is as it was; or it was handled by one that
+-- knows the length
+abbrev pub HandsOver : {H Answer : Type 0} → Option Instr → (H → Option Instr → Answer → H → Type 0) → H
+    → Option Answer → H → H → Type 0
+HandsOver instr handles sized None before after = (instr ≡ None) × (after ≡ before)
+HandsOver instr handles sized (Some answer) before after = (is_some instr ≡ true) × handles sized instr answer after

@@ -1,8 +1,8 @@
 //! What is done with an instruction that was decoded before.
-ghost use Rattle.std.specs.Prelude.{◌≡◌, Some, is_some, IfSome, IfNone};
+ghost use Rattle.std.specs.Prelude.{◌≡◌, Some};
 ghost use Rattle.rv32_predecode.specs.Registers.{index_of};
 ghost use Rattle.rv32_model.specs.declared.instr.Instr.TheVariants as instrs;
-ghost use Rattle.rv32_predecode.specs.Entries.{entry_instr, entry_length, entry_reach};
+ghost use Rattle.rv32_predecode.specs.Entries.{entry_instr, entry_length, entry_reach, HandsOver};
 
 use crate::decoded::Entry;
 use crate::register::Register;
@@ -22,27 +22,30 @@ pub trait SizedVisitor: InstrVisitor {
 }
 
 #[inline(always)]
-fn lui<H: SizedVisitor>(handler: &mut H, length: u8, rd: Register, imm: u32) -> H::Answer
-    ensures { H.handles (H.sized handler.old length) (Some (instrs.Lui (index_of rd) imm)) result handler.new }
+fn lui<H: SizedVisitor>(handler: &mut H, length: u8, rd: Register, imm: u32) -> Option<H::Answer>
+    ensures { HandsOver (Some (instrs.Lui (index_of rd) imm))
+        H.handles (H.sized handler.old length) result handler.old handler.new }
 {
     handler.begin(length);
-    handler.lui(rd.number(), imm)
+    Some(handler.lui(rd.number(), imm))
 }
 
 #[inline(always)]
-fn auipc<H: SizedVisitor>(handler: &mut H, length: u8, rd: Register, imm: u32) -> H::Answer
-    ensures { H.handles (H.sized handler.old length) (Some (instrs.Auipc (index_of rd) imm)) result handler.new }
+fn auipc<H: SizedVisitor>(handler: &mut H, length: u8, rd: Register, imm: u32) -> Option<H::Answer>
+    ensures { HandsOver (Some (instrs.Auipc (index_of rd) imm))
+        H.handles (H.sized handler.old length) result handler.old handler.new }
 {
     handler.begin(length);
-    handler.auipc(rd.number(), imm)
+    Some(handler.auipc(rd.number(), imm))
 }
 
 #[inline(always)]
-fn jal<H: SizedVisitor>(handler: &mut H, length: u8, rd: Register, offset: u32) -> H::Answer
-    ensures { H.handles (H.sized handler.old length) (Some (instrs.Jal (index_of rd) offset)) result handler.new }
+fn jal<H: SizedVisitor>(handler: &mut H, length: u8, rd: Register, offset: u32) -> Option<H::Answer>
+    ensures { HandsOver (Some (instrs.Jal (index_of rd) offset))
+        H.handles (H.sized handler.old length) result handler.old handler.new }
 {
     handler.begin(length);
-    handler.jal(rd.number(), offset)
+    Some(handler.jal(rd.number(), offset))
 }
 
 #[inline(always)]
@@ -52,12 +55,12 @@ fn jalr<H: SizedVisitor>(
     rd: Register,
     rs1: Register,
     offset: u32,
-) -> H::Answer
-    ensures { H.handles (H.sized handler.old length)
-        (Some (instrs.Jalr (index_of rd) (index_of rs1) offset)) result handler.new }
+) -> Option<H::Answer>
+    ensures { HandsOver (Some (instrs.Jalr (index_of rd) (index_of rs1) offset))
+        H.handles (H.sized handler.old length) result handler.old handler.new }
 {
     handler.begin(length);
-    handler.jalr(rd.number(), rs1.number(), offset)
+    Some(handler.jalr(rd.number(), rs1.number(), offset))
 }
 
 #[inline(always)]
@@ -68,12 +71,12 @@ fn branch<H: SizedVisitor>(
     rs1: Register,
     rs2: Register,
     offset: u32,
-) -> H::Answer
-    ensures { H.handles (H.sized handler.old length)
-        (Some (instrs.Branch test (index_of rs1) (index_of rs2) offset)) result handler.new }
+) -> Option<H::Answer>
+    ensures { HandsOver (Some (instrs.Branch test (index_of rs1) (index_of rs2) offset))
+        H.handles (H.sized handler.old length) result handler.old handler.new }
 {
     handler.begin(length);
-    handler.branch(test, rs1.number(), rs2.number(), offset)
+    Some(handler.branch(test, rs1.number(), rs2.number(), offset))
 }
 
 #[inline(always)]
@@ -84,12 +87,12 @@ fn load<H: SizedVisitor>(
     rd: Register,
     rs1: Register,
     offset: u32,
-) -> H::Answer
-    ensures { H.handles (H.sized handler.old length)
-        (Some (instrs.Load kind (index_of rd) (index_of rs1) offset)) result handler.new }
+) -> Option<H::Answer>
+    ensures { HandsOver (Some (instrs.Load kind (index_of rd) (index_of rs1) offset))
+        H.handles (H.sized handler.old length) result handler.old handler.new }
 {
     handler.begin(length);
-    handler.load(kind, rd.number(), rs1.number(), offset)
+    Some(handler.load(kind, rd.number(), rs1.number(), offset))
 }
 
 #[inline(always)]
@@ -100,12 +103,12 @@ fn store<H: SizedVisitor>(
     rs1: Register,
     rs2: Register,
     offset: u32,
-) -> H::Answer
-    ensures { H.handles (H.sized handler.old length)
-        (Some (instrs.Store width (index_of rs1) (index_of rs2) offset)) result handler.new }
+) -> Option<H::Answer>
+    ensures { HandsOver (Some (instrs.Store width (index_of rs1) (index_of rs2) offset))
+        H.handles (H.sized handler.old length) result handler.old handler.new }
 {
     handler.begin(length);
-    handler.store(width, rs1.number(), rs2.number(), offset)
+    Some(handler.store(width, rs1.number(), rs2.number(), offset))
 }
 
 #[inline(always)]
@@ -116,12 +119,12 @@ fn op_imm<H: SizedVisitor>(
     rd: Register,
     rs1: Register,
     imm: u32,
-) -> H::Answer
-    ensures { H.handles (H.sized handler.old length)
-        (Some (instrs.OpImm op (index_of rd) (index_of rs1) imm)) result handler.new }
+) -> Option<H::Answer>
+    ensures { HandsOver (Some (instrs.OpImm op (index_of rd) (index_of rs1) imm))
+        H.handles (H.sized handler.old length) result handler.old handler.new }
 {
     handler.begin(length);
-    handler.op_imm(op, rd.number(), rs1.number(), imm)
+    Some(handler.op_imm(op, rd.number(), rs1.number(), imm))
 }
 
 #[inline(always)]
@@ -132,28 +135,30 @@ fn op<H: SizedVisitor>(
     rd: Register,
     rs1: Register,
     rs2: Register,
-) -> H::Answer
-    ensures { H.handles (H.sized handler.old length)
-        (Some (instrs.Op op (index_of rd) (index_of rs1) (index_of rs2))) result handler.new }
+) -> Option<H::Answer>
+    ensures { HandsOver (Some (instrs.Op op (index_of rd) (index_of rs1) (index_of rs2)))
+        H.handles (H.sized handler.old length) result handler.old handler.new }
 {
     handler.begin(length);
-    handler.op(op, rd.number(), rs1.number(), rs2.number())
+    Some(handler.op(op, rd.number(), rs1.number(), rs2.number()))
 }
 
 #[inline(always)]
-fn fence<H: SizedVisitor>(handler: &mut H, length: u8) -> H::Answer
-    ensures { H.handles (H.sized handler.old length) (Some instrs.Fence) result handler.new }
+fn fence<H: SizedVisitor>(handler: &mut H, length: u8) -> Option<H::Answer>
+    ensures { HandsOver (Some instrs.Fence)
+        H.handles (H.sized handler.old length) result handler.old handler.new }
 {
     handler.begin(length);
-    handler.fence()
+    Some(handler.fence())
 }
 
 #[inline(always)]
-fn ecall<H: SizedVisitor>(handler: &mut H, length: u8) -> H::Answer
-    ensures { H.handles (H.sized handler.old length) (Some instrs.Ecall) result handler.new }
+fn ecall<H: SizedVisitor>(handler: &mut H, length: u8) -> Option<H::Answer>
+    ensures { HandsOver (Some instrs.Ecall)
+        H.handles (H.sized handler.old length) result handler.old handler.new }
 {
     handler.begin(length);
-    handler.ecall()
+    Some(handler.ecall())
 }
 
 impl Entry {
@@ -183,133 +188,74 @@ impl Entry {
 /// was.
 #[inline(always)]
 pub fn handle_entry<H: SizedVisitor>(entry: Entry, handler: &mut H) -> Option<H::Answer>
-    ensures known { is_some result ≡ is_some (entry_instr entry) }
-    ensures handles { IfSome result (λ answer.
-        H.handles (H.sized handler.old (entry_length entry)) (entry_instr entry) answer
-        handler.new) }
-    ensures cold { IfNone result (handler.new ≡ handler.old) }
+    ensures { HandsOver (entry_instr entry) H.handles (H.sized handler.old (entry_length entry)) result
+        handler.old handler.new }
 {
     match entry {
         Entry::Cold => None,
-        Entry::Lui { rd, imm } => Some(lui(handler, 4, rd, imm)),
-        Entry::Auipc { rd, imm } => Some(auipc(handler, 4, rd, imm)),
-        Entry::Jal { rd, offset } => Some(jal(handler, 4, rd, offset)),
-        Entry::Jalr { rd, rs1, offset } => Some(jalr(handler, 4, rd, rs1, offset)),
-        Entry::Beq { rs1, rs2, offset } => Some(branch(
-            handler,
-            4,
-            BranchTest::Beq,
-            rs1,
-            rs2,
-            offset,
-        )),
-        Entry::Bne { rs1, rs2, offset } => Some(branch(
-            handler,
-            4,
-            BranchTest::Bne,
-            rs1,
-            rs2,
-            offset,
-        )),
-        Entry::Blt { rs1, rs2, offset } => Some(branch(
-            handler,
-            4,
-            BranchTest::Blt,
-            rs1,
-            rs2,
-            offset,
-        )),
-        Entry::Bge { rs1, rs2, offset } => Some(branch(
-            handler,
-            4,
-            BranchTest::Bge,
-            rs1,
-            rs2,
-            offset,
-        )),
-        Entry::Bltu { rs1, rs2, offset } => Some(branch(
-            handler,
-            4,
-            BranchTest::Bltu,
-            rs1,
-            rs2,
-            offset,
-        )),
-        Entry::Bgeu { rs1, rs2, offset } => Some(branch(
-            handler,
-            4,
-            BranchTest::Bgeu,
-            rs1,
-            rs2,
-            offset,
-        )),
-        Entry::Lb { rd, rs1, offset } => Some(load(handler, 4, LoadKind::Lb, rd, rs1, offset)),
-        Entry::Lh { rd, rs1, offset } => Some(load(handler, 4, LoadKind::Lh, rd, rs1, offset)),
-        Entry::Lw { rd, rs1, offset } => Some(load(handler, 4, LoadKind::Lw, rd, rs1, offset)),
-        Entry::Lbu { rd, rs1, offset } => Some(load(handler, 4, LoadKind::Lbu, rd, rs1, offset)),
-        Entry::Lhu { rd, rs1, offset } => Some(load(handler, 4, LoadKind::Lhu, rd, rs1, offset)),
-        Entry::Sb { rs1, rs2, offset } => Some(store(handler, 4, Width::Byte, rs1, rs2, offset)),
-        Entry::Sh { rs1, rs2, offset } => Some(store(handler, 4, Width::Half, rs1, rs2, offset)),
-        Entry::Sw { rs1, rs2, offset } => Some(store(handler, 4, Width::Word, rs1, rs2, offset)),
-        Entry::Addi { rd, rs1, imm } => Some(op_imm(handler, 4, Op::Add, rd, rs1, imm)),
-        Entry::Slti { rd, rs1, imm } => Some(op_imm(handler, 4, Op::Slt, rd, rs1, imm)),
-        Entry::Sltiu { rd, rs1, imm } => Some(op_imm(handler, 4, Op::Sltu, rd, rs1, imm)),
-        Entry::Xori { rd, rs1, imm } => Some(op_imm(handler, 4, Op::Xor, rd, rs1, imm)),
-        Entry::Ori { rd, rs1, imm } => Some(op_imm(handler, 4, Op::Or, rd, rs1, imm)),
-        Entry::Andi { rd, rs1, imm } => Some(op_imm(handler, 4, Op::And, rd, rs1, imm)),
-        Entry::Slli { rd, rs1, imm } => Some(op_imm(handler, 4, Op::Sll, rd, rs1, imm)),
-        Entry::Srli { rd, rs1, imm } => Some(op_imm(handler, 4, Op::Srl, rd, rs1, imm)),
-        Entry::Srai { rd, rs1, imm } => Some(op_imm(handler, 4, Op::Sra, rd, rs1, imm)),
-        Entry::Add { rd, rs1, rs2 } => Some(op(handler, 4, Op::Add, rd, rs1, rs2)),
-        Entry::Sub { rd, rs1, rs2 } => Some(op(handler, 4, Op::Sub, rd, rs1, rs2)),
-        Entry::Sll { rd, rs1, rs2 } => Some(op(handler, 4, Op::Sll, rd, rs1, rs2)),
-        Entry::Slt { rd, rs1, rs2 } => Some(op(handler, 4, Op::Slt, rd, rs1, rs2)),
-        Entry::Sltu { rd, rs1, rs2 } => Some(op(handler, 4, Op::Sltu, rd, rs1, rs2)),
-        Entry::Xor { rd, rs1, rs2 } => Some(op(handler, 4, Op::Xor, rd, rs1, rs2)),
-        Entry::Srl { rd, rs1, rs2 } => Some(op(handler, 4, Op::Srl, rd, rs1, rs2)),
-        Entry::Sra { rd, rs1, rs2 } => Some(op(handler, 4, Op::Sra, rd, rs1, rs2)),
-        Entry::Or { rd, rs1, rs2 } => Some(op(handler, 4, Op::Or, rd, rs1, rs2)),
-        Entry::And { rd, rs1, rs2 } => Some(op(handler, 4, Op::And, rd, rs1, rs2)),
-        Entry::Mul { rd, rs1, rs2 } => Some(op(handler, 4, Op::Mul, rd, rs1, rs2)),
-        Entry::Mulh { rd, rs1, rs2 } => Some(op(handler, 4, Op::Mulh, rd, rs1, rs2)),
-        Entry::Mulhsu { rd, rs1, rs2 } => Some(op(handler, 4, Op::Mulhsu, rd, rs1, rs2)),
-        Entry::Mulhu { rd, rs1, rs2 } => Some(op(handler, 4, Op::Mulhu, rd, rs1, rs2)),
-        Entry::Div { rd, rs1, rs2 } => Some(op(handler, 4, Op::Div, rd, rs1, rs2)),
-        Entry::Divu { rd, rs1, rs2 } => Some(op(handler, 4, Op::Divu, rd, rs1, rs2)),
-        Entry::Rem { rd, rs1, rs2 } => Some(op(handler, 4, Op::Rem, rd, rs1, rs2)),
-        Entry::Remu { rd, rs1, rs2 } => Some(op(handler, 4, Op::Remu, rd, rs1, rs2)),
-        Entry::Fence => Some(fence(handler, 4)),
-        Entry::Ecall => Some(ecall(handler, 4)),
-        Entry::CLui { rd, imm } => Some(lui(handler, 2, rd, imm)),
-        Entry::CJal { rd, offset } => Some(jal(handler, 2, rd, offset)),
-        Entry::CJalr { rd, rs1, offset } => Some(jalr(handler, 2, rd, rs1, offset)),
-        Entry::CBeq { rs1, rs2, offset } => Some(branch(
-            handler,
-            2,
-            BranchTest::Beq,
-            rs1,
-            rs2,
-            offset,
-        )),
-        Entry::CBne { rs1, rs2, offset } => Some(branch(
-            handler,
-            2,
-            BranchTest::Bne,
-            rs1,
-            rs2,
-            offset,
-        )),
-        Entry::CLw { rd, rs1, offset } => Some(load(handler, 2, LoadKind::Lw, rd, rs1, offset)),
-        Entry::CSw { rs1, rs2, offset } => Some(store(handler, 2, Width::Word, rs1, rs2, offset)),
-        Entry::CAddi { rd, rs1, imm } => Some(op_imm(handler, 2, Op::Add, rd, rs1, imm)),
-        Entry::CAndi { rd, rs1, imm } => Some(op_imm(handler, 2, Op::And, rd, rs1, imm)),
-        Entry::CSlli { rd, rs1, imm } => Some(op_imm(handler, 2, Op::Sll, rd, rs1, imm)),
-        Entry::CSrli { rd, rs1, imm } => Some(op_imm(handler, 2, Op::Srl, rd, rs1, imm)),
-        Entry::CSrai { rd, rs1, imm } => Some(op_imm(handler, 2, Op::Sra, rd, rs1, imm)),
-        Entry::CAdd { rd, rs1, rs2 } => Some(op(handler, 2, Op::Add, rd, rs1, rs2)),
-        Entry::CSub { rd, rs1, rs2 } => Some(op(handler, 2, Op::Sub, rd, rs1, rs2)),
-        Entry::CXor { rd, rs1, rs2 } => Some(op(handler, 2, Op::Xor, rd, rs1, rs2)),
-        Entry::COr { rd, rs1, rs2 } => Some(op(handler, 2, Op::Or, rd, rs1, rs2)),
-        Entry::CAnd { rd, rs1, rs2 } => Some(op(handler, 2, Op::And, rd, rs1, rs2)),
+        Entry::Lui { rd, imm } => lui(handler, 4, rd, imm),
+        Entry::Auipc { rd, imm } => auipc(handler, 4, rd, imm),
+        Entry::Jal { rd, offset } => jal(handler, 4, rd, offset),
+        Entry::Jalr { rd, rs1, offset } => jalr(handler, 4, rd, rs1, offset),
+        Entry::Beq { rs1, rs2, offset } => branch(handler, 4, BranchTest::Beq, rs1, rs2, offset),
+        Entry::Bne { rs1, rs2, offset } => branch(handler, 4, BranchTest::Bne, rs1, rs2, offset),
+        Entry::Blt { rs1, rs2, offset } => branch(handler, 4, BranchTest::Blt, rs1, rs2, offset),
+        Entry::Bge { rs1, rs2, offset } => branch(handler, 4, BranchTest::Bge, rs1, rs2, offset),
+        Entry::Bltu { rs1, rs2, offset } => branch(handler, 4, BranchTest::Bltu, rs1, rs2, offset),
+        Entry::Bgeu { rs1, rs2, offset } => branch(handler, 4, BranchTest::Bgeu, rs1, rs2, offset),
+        Entry::Lb { rd, rs1, offset } => load(handler, 4, LoadKind::Lb, rd, rs1, offset),
+        Entry::Lh { rd, rs1, offset } => load(handler, 4, LoadKind::Lh, rd, rs1, offset),
+        Entry::Lw { rd, rs1, offset } => load(handler, 4, LoadKind::Lw, rd, rs1, offset),
+        Entry::Lbu { rd, rs1, offset } => load(handler, 4, LoadKind::Lbu, rd, rs1, offset),
+        Entry::Lhu { rd, rs1, offset } => load(handler, 4, LoadKind::Lhu, rd, rs1, offset),
+        Entry::Sb { rs1, rs2, offset } => store(handler, 4, Width::Byte, rs1, rs2, offset),
+        Entry::Sh { rs1, rs2, offset } => store(handler, 4, Width::Half, rs1, rs2, offset),
+        Entry::Sw { rs1, rs2, offset } => store(handler, 4, Width::Word, rs1, rs2, offset),
+        Entry::Addi { rd, rs1, imm } => op_imm(handler, 4, Op::Add, rd, rs1, imm),
+        Entry::Slti { rd, rs1, imm } => op_imm(handler, 4, Op::Slt, rd, rs1, imm),
+        Entry::Sltiu { rd, rs1, imm } => op_imm(handler, 4, Op::Sltu, rd, rs1, imm),
+        Entry::Xori { rd, rs1, imm } => op_imm(handler, 4, Op::Xor, rd, rs1, imm),
+        Entry::Ori { rd, rs1, imm } => op_imm(handler, 4, Op::Or, rd, rs1, imm),
+        Entry::Andi { rd, rs1, imm } => op_imm(handler, 4, Op::And, rd, rs1, imm),
+        Entry::Slli { rd, rs1, imm } => op_imm(handler, 4, Op::Sll, rd, rs1, imm),
+        Entry::Srli { rd, rs1, imm } => op_imm(handler, 4, Op::Srl, rd, rs1, imm),
+        Entry::Srai { rd, rs1, imm } => op_imm(handler, 4, Op::Sra, rd, rs1, imm),
+        Entry::Add { rd, rs1, rs2 } => op(handler, 4, Op::Add, rd, rs1, rs2),
+        Entry::Sub { rd, rs1, rs2 } => op(handler, 4, Op::Sub, rd, rs1, rs2),
+        Entry::Sll { rd, rs1, rs2 } => op(handler, 4, Op::Sll, rd, rs1, rs2),
+        Entry::Slt { rd, rs1, rs2 } => op(handler, 4, Op::Slt, rd, rs1, rs2),
+        Entry::Sltu { rd, rs1, rs2 } => op(handler, 4, Op::Sltu, rd, rs1, rs2),
+        Entry::Xor { rd, rs1, rs2 } => op(handler, 4, Op::Xor, rd, rs1, rs2),
+        Entry::Srl { rd, rs1, rs2 } => op(handler, 4, Op::Srl, rd, rs1, rs2),
+        Entry::Sra { rd, rs1, rs2 } => op(handler, 4, Op::Sra, rd, rs1, rs2),
+        Entry::Or { rd, rs1, rs2 } => op(handler, 4, Op::Or, rd, rs1, rs2),
+        Entry::And { rd, rs1, rs2 } => op(handler, 4, Op::And, rd, rs1, rs2),
+        Entry::Mul { rd, rs1, rs2 } => op(handler, 4, Op::Mul, rd, rs1, rs2),
+        Entry::Mulh { rd, rs1, rs2 } => op(handler, 4, Op::Mulh, rd, rs1, rs2),
+        Entry::Mulhsu { rd, rs1, rs2 } => op(handler, 4, Op::Mulhsu, rd, rs1, rs2),
+        Entry::Mulhu { rd, rs1, rs2 } => op(handler, 4, Op::Mulhu, rd, rs1, rs2),
+        Entry::Div { rd, rs1, rs2 } => op(handler, 4, Op::Div, rd, rs1, rs2),
+        Entry::Divu { rd, rs1, rs2 } => op(handler, 4, Op::Divu, rd, rs1, rs2),
+        Entry::Rem { rd, rs1, rs2 } => op(handler, 4, Op::Rem, rd, rs1, rs2),
+        Entry::Remu { rd, rs1, rs2 } => op(handler, 4, Op::Remu, rd, rs1, rs2),
+        Entry::Fence => fence(handler, 4),
+        Entry::Ecall => ecall(handler, 4),
+        Entry::CLui { rd, imm } => lui(handler, 2, rd, imm),
+        Entry::CJal { rd, offset } => jal(handler, 2, rd, offset),
+        Entry::CJalr { rd, rs1, offset } => jalr(handler, 2, rd, rs1, offset),
+        Entry::CBeq { rs1, rs2, offset } => branch(handler, 2, BranchTest::Beq, rs1, rs2, offset),
+        Entry::CBne { rs1, rs2, offset } => branch(handler, 2, BranchTest::Bne, rs1, rs2, offset),
+        Entry::CLw { rd, rs1, offset } => load(handler, 2, LoadKind::Lw, rd, rs1, offset),
+        Entry::CSw { rs1, rs2, offset } => store(handler, 2, Width::Word, rs1, rs2, offset),
+        Entry::CAddi { rd, rs1, imm } => op_imm(handler, 2, Op::Add, rd, rs1, imm),
+        Entry::CAndi { rd, rs1, imm } => op_imm(handler, 2, Op::And, rd, rs1, imm),
+        Entry::CSlli { rd, rs1, imm } => op_imm(handler, 2, Op::Sll, rd, rs1, imm),
+        Entry::CSrli { rd, rs1, imm } => op_imm(handler, 2, Op::Srl, rd, rs1, imm),
+        Entry::CSrai { rd, rs1, imm } => op_imm(handler, 2, Op::Sra, rd, rs1, imm),
+        Entry::CAdd { rd, rs1, rs2 } => op(handler, 2, Op::Add, rd, rs1, rs2),
+        Entry::CSub { rd, rs1, rs2 } => op(handler, 2, Op::Sub, rd, rs1, rs2),
+        Entry::CXor { rd, rs1, rs2 } => op(handler, 2, Op::Xor, rd, rs1, rs2),
+        Entry::COr { rd, rs1, rs2 } => op(handler, 2, Op::Or, rd, rs1, rs2),
+        Entry::CAnd { rd, rs1, rs2 } => op(handler, 2, Op::And, rd, rs1, rs2),
     }
 }

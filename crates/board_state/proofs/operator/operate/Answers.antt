@@ -9,13 +9,12 @@ use Rattle.board_drivers.specs.Driven.{AreFreeSoon}
 use Rattle.script_text.specs.Settings.{ScriptEvent}
 use Rattle.board_turns.specs.declared.machine.Machine.{Machine}
 use Rattle.board_turns.specs.Machines.{IsCalmUntil, KeepsAlarms, KeepsOtherAlarms}
-use Rattle.board_turns.specs.Operating.{OperatesAt}
-use Rattle.board_turns.specs.Turning.{MayTurnAt}
-use Rattle.board_turns.proofs.Turns.{as_left}
+use Rattle.board_turns.specs.Turning.{HasProcess, MayTurn}
 use Rattle.board_state.specs.Shows.{IsBoard, world_of}
 use Rattle.board_state.proofs.Changes.{a_step_later, others_stay_ready, owns_after}
 use Rattle.board_state.proofs.Devices.{below_shown, made_so, may_act}
-use Rattle.board_state.proofs.Operating.{ActComes, act_within, comes_shown, let_in, lets_in, may_operate, named_within}
+use Rattle.board_state.proofs.Boards.{may_turn_on}
+use Rattle.board_state.proofs.Operating.{ActComes, OperatesOnce, act_within, comes_shown, let_in, lets_in, named_within}
 use Rattle.board_state.proofs.Operating.{operated_board, operated_driven}
 use Rattle.board_state.proofs.Operating.{operated_shown, operates_in, others_unmoved, world_operated}
 use Rattle.board_turns.specs.ReadySlots.{OtherTurnsTell, TurnsTell}
@@ -33,12 +32,12 @@ pub operate_at-requires : goal.operate_at-requires
 operate_at-requires c =
     let b = c.args.state.now in
     let comes = comes_shown b (world_of c.args.state.now) c.args.slot c.args.verb refl c.requires.meant in
-    subst (λ (m : Machine). MayTurnAt 1 c.args.slot m b.processes.items)
+    subst (λ (m : Machine). HasProcess c.args.slot m.home b.processes.items (MayTurn 1 c.args.slot m))
     (sym (lets_in b.machine (world_of b).records c.args.slot c.args.verb comes c.arrive.new.home c.arrive.new.self
     c.arrive.ensures))
-    (may_operate b c.args.slot comes.rest c.requires.board
+    (may_turn_on 1 b (let_in b.machine comes.rest).drivers c.args.slot c.requires.board
     (act_within b c.args.slot c.args.verb c.requires.board comes)
-    (below_shown b (world_of c.args.state.now) refl c.requires.limit))
+    (omega (arith, below_shown b (world_of c.args.state.now) refl c.requires.limit)))
 
 -- the act that comes in
 abbrev comes : (c : After-operate_at)
@@ -46,16 +45,15 @@ abbrev comes : (c : After-operate_at)
 comes c = comes_shown c.args.state.now (world_of c.args.state.now) c.args.slot c.args.verb refl c.requires.meant
 
 -- it is one on the machine once it is let in
-operates : (c : After-operate_at) → OperatesAt c.args.verb c.args.slot
-    (let_in c.args.state.now.machine (comes c).rest) c.operate_at.new.self c.args.state.now.processes.items
-    c.operate_at.new.processes.items
+operates : (c : After-operate_at) → OperatesOnce c.args.state.now c.args.slot c.args.verb (comes c).rest
+    c.operate_at.new.self c.operate_at.new.processes.items
 operates c = operates_in c.args.state.now c.args.slot c.args.verb (comes c) c.arrive.new.home c.arrive.new.self
     c.arrive.ensures c.operate_at.new.self c.operate_at.new.processes.items c.operate_at.ensures
 
 -- the machine once the process is looked at again: it is that of the act, and the rest is the board's
 looked : (c : After-look_at) (rest : List ScriptEvent)
-    → OperatesAt c.args.verb c.args.slot (let_in c.args.state.now.machine rest) c.operate_at.new.self
-    c.args.state.now.processes.items c.operate_at.new.processes.items
+    → OperatesOnce c.args.state.now c.args.slot c.args.verb rest c.operate_at.new.self
+    c.operate_at.new.processes.items
     → c.look_at.new.self ≡ record c.args.state.now.machine {
       home = c.operate_at.new.self.home;
       guard = c.operate_at.new.self.guard;
@@ -64,8 +62,7 @@ looked : (c : After-look_at) (rest : List ScriptEvent)
     }
 looked c rest t =
     c.look_at.ensures.rest
-    ∙ ap (λ (m : Machine). record m { ready = c.look_at.new.self.ready })
-    (as_left (let_in c.args.state.now.machine rest) c.operate_at.new.self t.rest)
+    ∙ ap (λ (m : Machine). record m { ready = c.look_at.new.self.ready }) t.leaves.rest
 
 -- and once its alarm is
 noted : (c : After-note_alarm) → c.look_at.new.self ≡ record c.args.state.now.machine {
@@ -99,7 +96,8 @@ look_at-requires-clause-others c =
     let processes = c.operate_at.new.processes.items in
     let t = operates (goal.at.look_at-requires-clause-others c).After-operate_at in
     subst (λ (ps : List Process). OtherTurnsTell c.args.slot x.ready (zip ps x.home.owns)) (sym c.deref.ensures.value)
-    (subst (λ (ready : List Bool). OtherTurnsTell c.args.slot ready (zip processes x.home.owns)) (sym t.rest.ready)
+    (subst (λ (ready : List Bool). OtherTurnsTell c.args.slot ready (zip processes x.home.owns))
+    (sym (ap (λ (m : Machine). m.ready) t.leaves.rest))
     (others_stay_ready c.args.slot b.machine.home x.home b.processes.items processes t.at b.machine.ready
     c.requires.board.ready))
 

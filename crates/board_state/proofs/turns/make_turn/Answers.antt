@@ -12,7 +12,6 @@ use Rattle.board_drivers.proofs.Lanes.{later_free, same_free}
 use Rattle.board_turns.specs.Turning.{told_in_emit, with_shown}
 use Rattle.board_turns.specs.declared.machine.Machine.{Machine}
 use Rattle.board_turns.specs.Machines.{IsCalmUntil, KeepsAlarms, KeepsOtherAlarms}
-use Rattle.board_turns.proofs.Turns.{as_left}
 use Rattle.board_state.specs.Shows.{IsBoard, world_of}
 use Rattle.board_state.proofs.Boards.{below_limit, ready_within}
 use Rattle.driver_model.specs.Alarm.{ticks_left_in}
@@ -51,23 +50,24 @@ within c = ready_within c.args.state.now c.args.slot c.requires.board (can_run_i
 
 pub turn_at-requires-clause-turn : goal.turn_at-requires-clause-turn
 turn_at-requires-clause-turn c =
-    let w = within (goal.at.turn_at-requires-clause-turn c).After-clear in
-    may_turn_on 1 c.args.state.now c.args.slot c.requires.board w.1 (omega (arith, w.0))
-
-pub turn_at-requires-clause-free : goal.turn_at-requires-clause-free
-turn_at-requires-clause-free c =
-    free_there c.args.state.now c.requires.board c.args.slot
-    (can_run_is (goal.at.turn_at-requires-clause-free c).After-clear)
+    let a = (goal.at.turn_at-requires-clause-turn c).After-clear in
+    let b = c.args.state.now in
+    let w = within a in
+    let may = may_turn_on 1 b b.machine.drivers c.args.slot c.requires.board w.1 (omega (arith, w.0)) in
+    record {
+      within = may.within;
+      owns = may.owns;
+      holds = λ p is. (
+        may.holds p is,
+        free_there b c.requires.board c.args.slot (can_run_is a) p is,
+        known_at b c.args.slot c.args.end c.requires.board c.requires.known p is,
+      );
+    }
 
 pub turn_at-requires-clause-may : goal.turn_at-requires-clause-may
 turn_at-requires-clause-may c =
     may_serve c.args.state.now c.args.slot c.requires.board
     (omega (arith, (within (goal.at.turn_at-requires-clause-may c).After-clear).1, c.requires.board.owns))
-
-pub turn_at-requires-clause-known : goal.turn_at-requires-clause-known
-turn_at-requires-clause-known c =
-    known_at c.args.state.now c.args.slot c.args.end c.requires.board
-    c.requires.known
 
 -- the machine once the process is looked at again: it is that of the turn, and the rest is the board's
 looked : (c : After-look_at) → c.look_at.new.self ≡ record c.args.state.now.machine {
@@ -79,7 +79,7 @@ looked : (c : After-look_at) → c.look_at.new.self ≡ record c.args.state.now.
 looked c =
     c.look_at.ensures.rest
     ∙ ap (λ (m : Machine). record m { ready = c.look_at.new.self.ready })
-    (as_left c.args.state.now.machine c.turn_at.new.self c.turn_at.ensures.turn.rest)
+    c.turn_at.ensures.turn.leaves.rest
 
 -- and once it is looked at again when its alarm is due, and up to when no device step is ready
 noted : (c : After-note_turn) → c.look_at.new.self ≡ record c.args.state.now.machine {
@@ -114,7 +114,7 @@ look_at-requires-clause-others c =
     let t = c.turn_at.ensures.turn in
     subst (λ (ps : List Process). OtherTurnsTell c.args.slot x.ready (zip ps x.home.owns)) (sym c.deref.ensures.value)
     (subst (λ (ready : List Bool). OtherTurnsTell c.args.slot ready (zip c.turn_at.new.processes.items x.home.owns))
-    (sym t.rest.ready)
+    (sym (ap (λ (m : Machine). m.ready) t.leaves.rest))
     (others_stay_ready c.args.slot b.machine.home x.home b.processes.items c.turn_at.new.processes.items t.at
     b.machine.ready c.requires.board.ready))
 

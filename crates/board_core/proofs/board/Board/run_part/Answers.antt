@@ -12,9 +12,7 @@ use Rattle.board_drivers.proofs.Lanes.{few_still}
 use Rattle.board_drivers.specs.Driven.{AreDriven}
 use Rattle.board_drivers.specs.Residents.{HasLost, IsResident}
 use Rattle.board_drivers.specs.declared.drivers.Drivers.{Drivers}
-use Rattle.board_drivers.specs.declared.moment.Moment.{Moment}
 use Rattle.board_turns.specs.declared.machine.Machine.{Machine}
-use Rattle.board_turns.proofs.Turns.{as_left}
 use Rattle.board_state.specs.declared.state.BoardState.{BoardState}
 use Rattle.board_state.specs.Shows.{IsBoard, world_of}
 use Rattle.board_state.specs.KnownEnds.{IsKnownOfChoice}
@@ -46,7 +44,7 @@ looking_ahead b calm = record b { machine = record b.machine { calm = calm } }
 pub turns_at-stretch-requires : goal.turns_at-stretch-requires
 turns_at-stretch-requires c =
     may_turn_on c.turns_left-left.result (looking_ahead c.self.inside.state c.calm_ahead-self-inside.result)
-    c.in-Some.slot
+    c.self.inside.state.machine.drivers c.in-Some.slot
     (looked_ahead c.self.inside.state c.calm_ahead-self-inside.result c.self.invariant
     c.calm_ahead-self-inside.ensures.calm)
     (runs_within c.self.inside.state.processes.items c.in-Some.slot
@@ -73,7 +71,7 @@ same_machine : (c : After-is_over) → c.turns_at-stretch.new.self
 same_machine c =
     let old = record c.self.inside.state.machine { calm = c.calm_ahead-self-inside.result } in
     let new = c.turns_at-stretch.new.self in
-    as_left old new c.turns_at-stretch.ensures.quiet.rest
+    c.turns_at-stretch.ensures.quiet.leaves.rest
     ∙ ap (λ (d : Drivers). record old { home = new.home; guard = new.guard; drivers = d })
     c.turns_at-stretch.ensures.drivers
 
@@ -108,7 +106,7 @@ board_then c =
     subst (λ (y : Machine). IsBoard (turned c y)) (sym (same_machine c)) (record {
       machine = record {
         lost = subst (λ (n : ℕ). All (HasLost (b.machine.moment.steps + n)) x.home.owns) (sym ticks) holds.lost;
-        guard = c.turns_at-stretch.ensures.quiet.guard;
+        guard = c.turns_at-stretch.ensures.quiet.leaves.guard;
         driven = subst (λ (n : ℕ). AreDriven b.machine.moment.settings (b.machine.moment.time + n) x.home.owns
             b.machine.drivers) (sym ticks) holds.driven;
         lanes = board.machine.lanes;
@@ -144,10 +142,11 @@ calm_then c fewer =
     let b = turned c c.turns_at-stretch.new.self in
     let board = board_then c in
     let until = c.turns_left-left.ensures.until in
-    let rest = c.turns_at-stretch.ensures.quiet.rest in
-    let same = ap (λ (m : Moment). m.time) rest.moment in
+    let rest = c.turns_at-stretch.ensures.quiet.leaves.rest in
+    let same = ap (λ (m : Machine). m.moment.time) rest in
+    let calm = ap (λ (m : Machine). m.calm) rest in
     calm_shown b board (board.machine.calm.none b.machine.moment.time (omega arith)
-    (omega (arith, until, fewer, same, rest.calm, c.from-ticks.ensures)))
+    (omega (arith, until, fewer, same, calm, c.from-ticks.ensures)))
 
 pub returns-clause-stretch : goal.returns-clause-stretch
 returns-clause-stretch c =

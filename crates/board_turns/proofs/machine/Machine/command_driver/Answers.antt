@@ -8,6 +8,7 @@ use Rattle.process_model.specs.Flash.{object_in}
 use Rattle.kernel_calls.specs.Outcomes.{is_taken}
 use Rattle.board_drivers.specs.declared.drivers.Order.{Order}
 use Rattle.board_drivers.specs.Residents.{id_of}
+use Rattle.board_turns.specs.declared.machine.Machine.{Machine}
 use Rattle.board_turns.proofs.Commands.{Came, came, came_in_place, finishes, living_id, some_of, stays_seated, taken_of}
 use Rattle.board_turns.proofs.machine.Machine.command_driver.Goals as goal
 use Rattle.board_turns.proofs.machine.Machine.command_driver.Goals.{After-give_reply}
@@ -33,40 +34,36 @@ taker c = some_of (handler_of c.in-Command.driver)
 known : (c : After-give_reply) → c.in-Some.id ≡ id_of c.args.slot (own_of c.args.self.now.home c.args.slot)
 known c = living_id c.args.slot c.args.slot c.args.self.now.home.owns c.in-Some.id (sym c.id.ensures ∙ c.in-Some.is)
 
--- what its driver answered
+-- the machine once its driver answered
+abbrev left : After-give_reply → Machine
+left c = record c.args.self.now { home = c.command-reply.new.home; drivers = c.command-reply.new.self }
+
+-- what it answered
 answered : (c : After-give_reply)
-    → Came c.args.self.now.moment c.args.slot c.args.self.now.home c.command-reply.new.home (order c)
-    c.command-reply.result
-    c.args.self.now.drivers c.command-reply.new.self (taker c).0
+    → Came c.args.slot c.args.self.now (left c) (order c) c.command-reply.result (taker c).0
 answered c =
-    came c.args.self.now.moment c.args.slot c.args.self.now.home c.command-reply.new.home (order c)
-    c.command-reply.result
-    c.args.self.now.drivers c.command-reply.new.self c.in-Some.id c.tick-tick.result (taker c).0 (taker c).1
-    (known c) c.tick-tick.ensures c.requires.may c.command-reply.ensures.comes
+    came c.args.slot c.args.self.now (left c) (order c) c.command-reply.result (taker c).0 (taker c).1 c.in-Some.id
+    c.tick-tick.result (known c) c.tick-tick.ensures c.requires.may c.command-reply.ensures.comes
 
 pub returns-clause-serves : goal.returns-clause-serves
 returns-clause-serves c =
     let a = (goal.at.returns-clause-serves c).After-give_reply in
-    finishes c.args.self.now.moment c.args.slot c.args.self.now.home c.command-reply.new.home (order a)
-    c.command-reply.result
-    c.args.self.now.drivers c.command-reply.new.self c.args.process.now c.give_reply.new.process
-    (form_of c.args.call.now)
-    c.give_reply.result (taker a).0 (taker a).1
+    finishes c.args.slot c.args.self.now (left a) (order a) c.command-reply.result (taker a).0 (taker a).1
+    c.args.process.now c.give_reply.new.process (form_of c.args.call.now) c.give_reply.result
     (ap form_of c.in-Command.is) c.requires.left (answered a)
     (ap (λ (p : Process). p.object) c.give_reply.ensures.stays)
     (ap (λ (h : Homes). h.flash) c.command-reply.ensures.rest) c.give_reply.ensures.gives
 
-pub returns-clause-leaves : goal.returns-clause-leaves
-returns-clause-leaves c =
-    let a = (goal.at.returns-clause-leaves c).After-give_reply in
-    let home = c.args.self.now.home in
-    record {
-      seated = stays_seated home.flash (c.args.self.now.moment.steps + 1) c.args.process.now c.give_reply.new.process
-          (own_of home c.args.slot) (own_of c.command-reply.new.home c.args.slot)
-          (came_in_place c.args.self.now.moment c.args.slot home c.command-reply.new.home (order a)
-          c.command-reply.result
-          c.args.self.now.drivers c.command-reply.new.self (taker a).0 (taker a).1 c.commands_stay_in_place.ensures
-          (answered a)) c.give_reply.ensures.stays c.requires.turn.seated;
-      rest = subst (λ (id : ProcessId). ChangesOnly id.slot home c.command-reply.new.home) (known a)
-          c.command-reply.ensures.rest;
-    }
+pub returns-clause-seated : goal.returns-clause-seated
+returns-clause-seated c =
+    let a = (goal.at.returns-clause-seated c).After-give_reply in
+    let x = c.args.self.now in
+    stays_seated x.home.flash (x.moment.steps + 1) c.args.process.now c.give_reply.new.process
+    (own_of x.home c.args.slot) (own_of c.command-reply.new.home c.args.slot)
+    (came_in_place c.args.slot x (left a) (order a) c.command-reply.result (taker a).0 (taker a).1
+    c.commands_stay_in_place.ensures (answered a)) c.give_reply.ensures.stays c.requires.turn.seated
+
+pub returns-clause-only : goal.returns-clause-only
+returns-clause-only c =
+    subst (λ (id : ProcessId). ChangesOnly id.slot c.args.self.now.home c.command-reply.new.home)
+    (known (goal.at.returns-clause-only c).After-give_reply) c.command-reply.ensures.rest

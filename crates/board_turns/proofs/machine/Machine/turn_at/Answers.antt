@@ -1,57 +1,65 @@
-use Rattle.std.proofs.Common.{slice_set, sym, subst}
+use Rattle.std.proofs.Common.{◌≡◌, false, slice_set, refl, sym, subst}
 use Rattle.board_turns.specs.declared.turn.Shown.{Shown}
 use Rattle.board_drivers.specs.Residents.{resident}
-use Rattle.board_turns.specs.Turning.{TurnsAt, nothing_shown}
-use Rattle.board_turns.proofs.Tables.{free_at, known_at, may_turn, rested_at, turned_at}
-use Rattle.board_turns.proofs.Turns.{rests}
+use Rattle.board_turns.specs.Turning.{IsKnownEnd, MayTurn, StepsInSlot, Turns}
+use Rattle.board_turns.proofs.Stopped.{same_home}
+use Rattle.board_turns.proofs.Tables.{holds_here, steps_there}
+use Rattle.board_turns.proofs.Turns.{rests, rests_seated}
 use Rattle.board_turns.proofs.machine.Machine.turn_at.Goals as goal
+use Rattle.board_turns.proofs.machine.Machine.turn_at.Goals.{After-index_mut-process}
+
+-- the process there may have its turn
+may : (c : After-index_mut-process)
+    → (let r = resident c.args.self.now.home c.args.slot c.index_mut-process.result.now in
+    MayTurn 1 c.args.slot c.args.self.now r × (r.0.held ≡ false)
+    × IsKnownEnd c.args.known c.args.self.now.home.flash r)
+may c = holds_here c.args.slot c.index.result c.args.self.now c.args.processes.now.items c.index_mut-process.result.now
+    c.index.ensures.value c.index_mut-process.ensures.value c.requires.turn
 
 pub run_on-requires-clause-turn : goal.run_on-requires-clause-turn
-run_on-requires-clause-turn c =
-    may_turn 1 c.args.slot c.index.result c.args.self.now c.args.processes.now.items c.index_mut-process.result.now
-    c.index.ensures.value c.index_mut-process.ensures.value c.requires.turn
+run_on-requires-clause-turn c = (may (goal.at.run_on-requires-clause-turn c).After-index_mut-process).0
 
 pub run_on-requires-clause-free : goal.run_on-requires-clause-free
-run_on-requires-clause-free c =
-    free_at 1 c.args.slot c.index.result c.args.self.now c.args.processes.now.items c.index_mut-process.result.now
-    c.index.ensures.value c.index_mut-process.ensures.value c.requires.turn c.requires.free
+run_on-requires-clause-free c = (may (goal.at.run_on-requires-clause-free c).After-index_mut-process).1
 
 pub run_on-requires-clause-known : goal.run_on-requires-clause-known
-run_on-requires-clause-known c =
-    known_at 1 c.args.slot c.index.result c.args.self.now c.args.processes.now.items c.index_mut-process.result.now
-    c.index.ensures.value c.index_mut-process.ensures.value c.requires.turn c.args.known c.requires.known
+run_on-requires-clause-known c = (may (goal.at.run_on-requires-clause-known c).After-index_mut-process).2
 
 pub wake-requires-clause-turn : goal.wake-requires-clause-turn
-wake-requires-clause-turn c =
-    may_turn 1 c.args.slot c.index.result c.args.self.now c.args.processes.now.items c.index_mut-process.result.now
-    c.index.ensures.value c.index_mut-process.ensures.value c.requires.turn
+wake-requires-clause-turn c = (may (goal.at.wake-requires-clause-turn c).After-index_mut-process).0
 
 pub wake-requires-clause-free : goal.wake-requires-clause-free
-wake-requires-clause-free c =
-    free_at 1 c.args.slot c.index.result c.args.self.now c.args.processes.now.items c.index_mut-process.result.now
-    c.index.ensures.value c.index_mut-process.ensures.value c.requires.turn c.requires.free
+wake-requires-clause-free c = (may (goal.at.wake-requires-clause-free c).After-index_mut-process).1
 
 pub returns-in-Running-clause-turn : goal.returns-in-Running-clause-turn
 returns-in-Running-clause-turn c =
-    turned_at 1 c.args.slot c.index.result c.args.self.now c.args.processes.now.items c.index_mut-process.result.now
-    c.index.ensures.value c.index_mut-process.ensures.value c.requires.turn c.run_on.new.self c.run_on.new.process _
+    steps_there c.args.slot c.index.result c.args.self.now c.args.processes.now.items c.index_mut-process.result.now
+    c.index.ensures.value c.index_mut-process.ensures.value c.requires.turn 1 c.run_on.new.self c.run_on.new.process
     c.run_on.ensures.leaves c.run_on.ensures.turns
 
 pub returns-in-Yielded-clause-turn : goal.returns-in-Yielded-clause-turn
 returns-in-Yielded-clause-turn c =
     let w = c.wake in
-    subst (λ (s : Shown). TurnsAt c.args.slot c.args.self.now w.new.self c.args.processes.now.items
-    (slice_set c.args.processes.now.items c.index.result w.new.process) s) (sym c.requires.quiet)
-    (turned_at 1 c.args.slot c.index.result c.args.self.now c.args.processes.now.items c.index_mut-process.result.now
-    c.index.ensures.value c.index_mut-process.ensures.value c.requires.turn w.new.self w.new.process nothing_shown
-    w.ensures.leaves w.ensures.turns)
+    subst (λ (s : Shown). StepsInSlot 1 c.args.slot c.args.self.now w.new.self c.args.processes.now.items
+    (slice_set c.args.processes.now.items c.index.result w.new.process)
+    (Turns c.args.slot c.args.self.now w.new.self s)) (sym c.requires.quiet)
+    (steps_there c.args.slot c.index.result c.args.self.now c.args.processes.now.items c.index_mut-process.result.now
+    c.index.ensures.value c.index_mut-process.ensures.value c.requires.turn 1 w.new.self w.new.process w.ensures.leaves
+    w.ensures.turns)
 
+-- one that has ended is left as it is
 pub returns-in-Faulted-clause-turn : goal.returns-in-Faulted-clause-turn
 returns-in-Faulted-clause-turn c =
     let x = c.args.self.now in
     let process = c.index_mut-process.result.now in
-    subst (λ (s : Shown). TurnsAt c.args.slot x x c.args.processes.now.items
-    (slice_set c.args.processes.now.items c.index.result process) s) (sym c.requires.quiet)
-    (rested_at 1 c.args.slot c.index.result x c.args.processes.now.items process c.index.ensures.value
-    c.index_mut-process.ensures.value c.requires.turn nothing_shown
-    (rests x.moment c.args.slot x.home.flash (resident x.home c.args.slot process) x.drivers c.in-Faulted.is))
+    let r = resident x.home c.args.slot process in
+    let may = may (goal.at.returns-in-Faulted-clause-turn c).After-index_mut-process in
+    subst (λ (s : Shown). StepsInSlot 1 c.args.slot x x c.args.processes.now.items
+    (slice_set c.args.processes.now.items c.index.result process) (Turns c.args.slot x x s)) (sym c.requires.quiet)
+    (steps_there c.args.slot c.index.result x c.args.processes.now.items process c.index.ensures.value
+    c.index_mut-process.ensures.value c.requires.turn 1 x process (record {
+      seated = rests_seated x.home.flash x.moment.steps r may.0.seated;
+      only = same_home c.args.slot x.home;
+      guard = may.0.guard;
+      rest = refl;
+    }) (rests c.args.slot x r may.1 c.in-Faulted.is))

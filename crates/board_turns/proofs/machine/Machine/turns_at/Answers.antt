@@ -1,4 +1,4 @@
-use Rattle.std.proofs.Common.{◌+◌, arith, refl, sym, subst}
+use Rattle.std.proofs.Common.{arith, refl, sym, subst}
 use Rattle.process_model.specs.Own.{Own}
 use Rattle.process_record.specs.declared.process.Process.{Process}
 use Rattle.process_restart.specs.Own.{IsOwnObject}
@@ -7,9 +7,9 @@ use Rattle.grant_enter.specs.Homes.{ChangesOnly, Homes, MakesAll, own_of}
 use Rattle.board_drivers.specs.Residents.{resident}
 use Rattle.board_turns.specs.declared.machine.Machine.{Machine}
 use Rattle.board_turns.specs.Quiet.{Quietly}
-use Rattle.board_turns.specs.Turning.{LeavesOn, MayTurnOn}
+use Rattle.board_turns.specs.Turning.{LeavesMachine, MayTurn}
 use Rattle.board_turns.proofs.Quiet.{later_process, later_seated, left_own, quietly}
-use Rattle.board_turns.proofs.Tables.{may_turn, quiet_at}
+use Rattle.board_turns.proofs.Tables.{holds_here, steps_there}
 use Rattle.board_turns.proofs.Turns.{guards_only}
 use Rattle.board_turns.proofs.machine.Machine.turns_at.Goals as goal
 use Rattle.board_turns.proofs.machine.Machine.turns_at.Goals.{After-instruct_quietly-made}
@@ -18,8 +18,9 @@ use Rattle.board_turns.proofs.machine.Machine.turns_at.Goals.{After-instruct_qui
 abbrev before : After-instruct_quietly-made → Process
 before c = c.index_mut-process.result.now
 
-may : (c : After-instruct_quietly-made) → MayTurnOn c.args.most c.args.slot c.args.self.now (before c)
-may c = may_turn c.args.most c.args.slot c.index.result c.args.self.now c.args.processes.now.items (before c)
+may : (c : After-instruct_quietly-made)
+    → MayTurn c.args.most c.args.slot c.args.self.now (resident c.args.self.now.home c.args.slot (before c))
+may c = holds_here c.args.slot c.index.result c.args.self.now c.args.processes.now.items (before c)
     c.index.ensures.value c.index_mut-process.ensures.value c.requires
 
 -- the process after them, and the machine
@@ -61,7 +62,8 @@ made_quietly c =
     c.instruct_quietly-made.new.regs (object c) e.made e.stops e.most e.all)
 
 leaves : (c : After-instruct_quietly-made)
-    → LeavesOn c.instruct_quietly-made.result.went c.args.slot c.args.self.now (left c) (after c)
+    → LeavesMachine c.instruct_quietly-made.result.went c.args.slot c.args.self.now (left c)
+    (resident c.instruct_quietly-made.new.self c.args.slot (after c))
 leaves c =
     let x = c.args.self.now in
     let own = own_of x.home c.args.slot in
@@ -70,19 +72,22 @@ leaves c =
     let later = c.instruct_quietly-made.new.regs in
     let same = left_own k x.home.flash (before c) own own_after later (may c).seated.own.object (made_all c) in
     record {
-      left = record {
-        seated = later_seated x.home.flash x.moment.steps k (before c) own own_after later same (may c).seated;
-        rest = subst (λ (h : Homes). ChangesOnly c.args.slot h c.instruct_quietly-made.new.self) c.bring_in.ensures.home
-            c.instruct_quietly-made.ensures.rest;
-      };
+      seated = later_seated x.home.flash x.moment.steps k (before c) own own_after later same (may c).seated;
+      only = subst (λ (h : Homes). ChangesOnly c.args.slot h c.instruct_quietly-made.new.self) c.bring_in.ensures.home
+          c.instruct_quietly-made.ensures.rest;
       guard = guards_only c.args.slot c.bring_in.new.self c.instruct_quietly-made.new.self (record {
         slot_is = c.bring_in.ensures.set.slot_is;
         protects = subst (λ (o : Own). Protect c.bring_in.new.self.pmp o.layout) (sym same)
             (subst (λ (h : Homes). Protect c.bring_in.new.self.pmp (own_of h c.args.slot).layout)
             c.bring_in.ensures.home c.bring_in.ensures.set.protects);
       });
-      rest = record { moment = refl; alarms = refl; calm = refl; ready = refl };
+      rest = refl;
     }
+
+pub bring_in-requires-clause-guards : goal.bring_in-requires-clause-guards
+bring_in-requires-clause-guards c =
+    (holds_here c.args.slot c.index.result c.args.self.now c.args.processes.now.items c.index_mut-process.result.now
+    c.index.ensures.value c.index_mut-process.ensures.value c.requires).guard
 
 pub overflow_add-process : goal.overflow_add-process
 overflow_add-process c =
@@ -92,6 +97,6 @@ overflow_add-process c =
 pub returns-clause-quiet : goal.returns-clause-quiet
 returns-clause-quiet c =
     let a = (goal.at.returns-clause-quiet c).After-instruct_quietly-made in
-    quiet_at c.args.most c.args.slot c.index.result c.args.self.now c.args.processes.now.items (before a)
-    c.index.ensures.value c.index_mut-process.ensures.value c.requires c.instruct_quietly-made.result.went
-    c.instruct_quietly-made.result.end (left a) (after a) (leaves a) (made_quietly a)
+    steps_there c.args.slot c.index.result c.args.self.now c.args.processes.now.items (before a) c.index.ensures.value
+    c.index_mut-process.ensures.value c.requires c.instruct_quietly-made.result.went (left a) (after a) (leaves a)
+    (made_quietly a)

@@ -1,6 +1,6 @@
 use Rattle.std.proofs.Common.{not, sym, ap, ◌∙◌}
-use Rattle.grant_enter.proofs.Living.{placed_there, stale_is}
-use Rattle.grant_enter.proofs.Moves.{Reads, seat_there, sits_before}
+use Rattle.grant_enter.proofs.Living.{stale_is}
+use Rattle.grant_enter.proofs.Moves.{Reads, reads_there, seat_there, sits_before}
 use Rattle.grant_enter.proofs.grant.Grant.peek.Goals as goal
 use Rattle.grant_enter.proofs.grant.Grant.peek.Given.{Over}
 use Rattle.grant_enter.proofs.grant.Grant.peek.Goals.{After-index-seat}
@@ -14,15 +14,10 @@ returns-then-not-is_there g c =
 -- the seat of the slot
 reads : (g : Over) (c : After-index-seat g)
     → Reads c.home.inside c.args.home.now c.args.id.slot c.index.result c.index-seat.result.now
-reads g c = record {
-  home = c.home.invariant;
-  shown = c.home.view_is;
-  there =
-      placed_there c.args.home.now.owns c.args.id.slot c.args.id.life
-      (sym c.is_there.ensures ∙ c.if-not-is_there.false);
-  is = c.index.ensures.value;
-  read = c.index-seat.ensures;
-}
+reads g c =
+    reads_there c.home.inside c.args.home.now c.args.id.slot c.index.result c.args.id.life c.index-seat.result.now
+    c.home.invariant c.home.view_is (sym c.is_there.ensures ∙ c.if-not-is_there.false) c.index.ensures.value
+    c.index-seat.ensures
 
 pub peek_seat-requires-clause-sits : goal.peek_seat-requires-clause-sits
 peek_seat-requires-clause-sits g c =

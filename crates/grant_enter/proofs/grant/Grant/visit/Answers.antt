@@ -5,8 +5,9 @@ use Rattle.process_model.specs.Own.{Own}
 use Rattle.grant_enter.specs.Homes.{own_of}
 use Rattle.grant_enter.specs.Seats.{homes_of, own_in}
 use Rattle.grant_enter.specs.Visits.{Visits, grants_of}
-use Rattle.grant_enter.proofs.Living.{placed_there, stale_is}
-use Rattle.grant_enter.proofs.Moves.{Reads, reseated, reseated_only, reseated_shows, seat_there, sits_before, with_seat}
+use Rattle.grant_enter.proofs.Living.{stale_is}
+use Rattle.grant_enter.proofs.Moves.{Reads, reads_there, reseated, reseated_only, reseated_shows}
+use Rattle.grant_enter.proofs.Moves.{seat_there, sits_before, with_seat}
 use Rattle.grant_enter.proofs.grant.Grant.visit.Goals as goal
 use Rattle.grant_enter.proofs.grant.Grant.visit.Given.{Over}
 use Rattle.grant_enter.proofs.grant.Grant.visit.Goals.{After-index_mut-visited}
@@ -23,16 +24,10 @@ returns-then-not-is_there-clause-visits g c = (
 -- the seat of the slot
 reads : (g : Over) (c : After-index_mut-visited g)
     → Reads c.home.inside c.args.home.now c.args.id.slot c.index.result c.index_mut-visited.result.now
-reads g c = record {
-  home = c.home.invariant;
-  shown = c.home.view_is;
-  there =
-      placed_there c.args.home.now.owns c.args.id.slot c.args.id.life
-      (sym c.is_there.ensures ∙ c.if-not-is_there.false);
-  is = c.index.ensures.value;
-  read =
-      c.index_mut-visited.ensures.value;
-}
+reads g c =
+    reads_there c.home.inside c.args.home.now c.args.id.slot c.index.result c.args.id.life
+    c.index_mut-visited.result.now c.home.invariant c.home.view_is
+    (sym c.is_there.ensures ∙ c.if-not-is_there.false) c.index.ensures.value c.index_mut-visited.ensures.value
 
 -- its process lives there, in the life of the id
 there : (g : Over) (c : After-index_mut-visited g)

@@ -1,7 +1,9 @@
-use Rattle.std.proofs.Common.{◌≡◌}
-use Rattle.process_model.specs.Handed.{handing}
-use Rattle.grant_enter.proofs.Moves.{Reads, on_err, on_ok, reseated, reseated_only, reseated_same, reseated_shows}
-use Rattle.grant_enter.proofs.Moves.{sits_before}
+use Rattle.std.proofs.Common.{◌≡◌, IsTrue, IfOk, sym, ap, subst, ◌∙◌}
+use Rattle.process_model.specs.Handed.{handing, has_place, held, may_share}
+use Rattle.process_layout.specs.Bounds.{Bounds}
+use Rattle.process_model.specs.Own.{Own}
+use Rattle.grant_enter.proofs.Moves.{Reads, layout_before, on_err, on_ok, own_before, reseated}
+use Rattle.grant_enter.proofs.Moves.{reseated_only, reseated_same, reseated_shows, sits_before}
 use Rattle.grant_enter.proofs.home.Home.hand.Goals as goal
 use Rattle.grant_enter.proofs.home.Home.hand.Goals.{After-index_mut-seat}
 
@@ -19,6 +21,24 @@ reads c = record {
 
 pub hand_at-requires-clause-sits : goal.hand_at-requires-clause-sits
 hand_at-requires-clause-sits c = sits_before (reads (goal.at.hand_at-requires-clause-sits c).After-index_mut-seat)
+
+pub hand_at-requires-clause-may : goal.hand_at-requires-clause-may
+hand_at-requires-clause-may c =
+    let a = (goal.at.hand_at-requires-clause-may c).After-index_mut-seat in
+    subst (λ (e : Bounds). IsTrue (may_share c.args.handover.kind e c.args.handover.pair)) (layout_before (reads a))
+    c.requires.may
+
+pub returns-clause-room : goal.returns-clause-room
+returns-clause-room c =
+    let a = (goal.at.returns-clause-room c).After-index_mut-seat in
+    c.hand_at.ensures.room ∙ ap (has_place c.args.handover.driver) (sym (own_before (reads a)))
+
+pub returns-clause-former : goal.returns-clause-former
+returns-clause-former c =
+    let a = (goal.at.returns-clause-former c).After-index_mut-seat in
+    subst (λ (own : Own). IfOk c.hand_at.result (λ former. former
+    ≡ held c.args.handover.kind c.args.handover.driver c.args.handover.number own)) (sym (own_before (reads a)))
+    c.hand_at.ensures.former
 
 pub invariant_of-self : goal.invariant_of-self
 invariant_of-self c =
