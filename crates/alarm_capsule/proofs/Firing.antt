@@ -10,10 +10,10 @@ use Rattle.process_model.specs.Own.{Own}
 use Rattle.process_model.specs.Served.{kept, own_scheduled, with_kept}
 use Rattle.process_model.proofs.Scheduling.{keeping_commutes}
 use Rattle.driver_model.specs.Steps.{own_after}
-use Rattle.grant_enter.specs.declared.visit.Unvisited.{Unvisited}
-use Rattle.grant_enter.specs.declared.visit.Unvisited.TheVariants.{Gone, NotEntered}
-use Rattle.grant_enter.specs.Seen.{Seen}
-use Rattle.grant_enter.specs.Visits.{Visits, grants_of, is_stale}
+use Rattle.process_seat.specs.declared.visit.Unvisited.{Unvisited}
+use Rattle.process_seat.specs.declared.visit.Unvisited.TheVariants.{Gone, NotEntered}
+use Rattle.process_seat.specs.Seen.{Seen}
+use Rattle.process_seat.specs.Visits.{Visits, grants_of, is_stale}
 use Rattle.driver_model.specs.Alarm.{alarm_driver, alarm_in, answered, armed_in, due_alarm, expiration, fired, if_due}
 use Rattle.driver_model.specs.Parts.{fired_if}
 use Rattle.driver_model.specs.Alarm.{showing, with_alarm}

@@ -11,9 +11,9 @@ use Rattle.grant_values.specs.declared.alarm.Armed.{Armed}
 use Rattle.grant_values.specs.Values.{AlarmValue}
 use Rattle.process_model.specs.Own.{Own}
 use Rattle.process_model.specs.Served.{kept}
-use Rattle.grant_enter.specs.declared.visit.Stale.{Stale}
+use Rattle.process_seat.specs.declared.visit.Stale.{Stale}
 use Rattle.grant_enter.specs.Homes.{Homes, living, nobody, own_of}
-use Rattle.grant_enter.specs.Visits.{Peeks, grants_of, is_stale}
+use Rattle.process_seat.specs.Visits.{Peeks, grants_of, is_stale}
 use Rattle.driver_requests.specs.Asking.{IsPresent}
 use Rattle.driver_model.specs.Alarm.{alarm_driver, alarm_in, armed_in, due_alarm, has_due, if_due, ticks_left}
 use Rattle.driver_model.specs.Alarm.{ticks_left_of}

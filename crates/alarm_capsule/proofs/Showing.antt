@@ -12,10 +12,10 @@ use Rattle.grant_values.specs.Values.{AlarmValue}
 use Rattle.grant_model.specs.Grants.{Grant, grant_of, pair_of}
 use Rattle.process_model.specs.Own.{Own}
 use Rattle.process_model.specs.Served.{kept, own_written, with_kept}
-use Rattle.grant_enter.specs.declared.visit.Unvisited.{Unvisited}
-use Rattle.grant_enter.specs.declared.visit.Unvisited.TheVariants.{Gone, NotEntered}
-use Rattle.grant_enter.specs.Seen.{Seen}
-use Rattle.grant_enter.specs.Visits.{Visits, grants_of, is_stale}
+use Rattle.process_seat.specs.declared.visit.Unvisited.{Unvisited}
+use Rattle.process_seat.specs.declared.visit.Unvisited.TheVariants.{Gone, NotEntered}
+use Rattle.process_seat.specs.Seen.{Seen}
+use Rattle.process_seat.specs.Visits.{Visits, grants_of, is_stale}
 use Rattle.driver_model.specs.Alarm.{alarm_driver, showing}
 use Rattle.driver_requests.proofs.Keeping.{kept_still}
 use Rattle.alarm_capsule.proofs.Firing.{not_stale}

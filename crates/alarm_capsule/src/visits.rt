@@ -1,7 +1,7 @@
 //! What the alarm does with the value that a process keeps for it.
 ghost use Rattle.std.specs.Prelude.{◌≡◌, ◌<◌};
 ghost use Rattle.driver_model.specs.Alarm.{alarm_driver, showing};
-ghost use Rattle.grant_enter.specs.Seen.{Framed, IsLent, own_entered, seen};
+ghost use Rattle.process_seat.specs.Seen.{Framed, IsLent, own_entered, seen};
 
 use grant_enter::{
     Entered, Grant, Visit, a_buffer_is_written, buffers_are_whole, frames_join, put_from,

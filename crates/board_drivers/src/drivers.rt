@@ -4,7 +4,7 @@ ghost use Rattle.std.specs.Prelude.{All, IfOk, IfSome, None, replicate};
 ghost use Rattle.driver_model.specs.Alarm.{alarm_in};
 ghost use Rattle.driver_model.specs.Commands.{leaving_all};
 ghost use Rattle.grant_enter.specs.Homes.{own_of, ChangesOnly};
-ghost use Rattle.grant_enter.specs.Visits.{is_stale};
+ghost use Rattle.process_seat.specs.Visits.{is_stale};
 ghost use Rattle.kernel_model.specs.World.{lane_count, sending_time};
 ghost use Rattle.board_drivers.specs.Calm.{AlarmsTell};
 ghost use Rattle.board_drivers.specs.Residents.{HasLost};

@@ -42,7 +42,8 @@ use Rattle.process_record.specs.declared.process.Process.{Process}
 use Rattle.process_record.specs.Summary.{Unplaced}
 use Rattle.process_record.specs.Process.{started}
 use Rattle.script_text.specs.Settings.{ScriptSettings as Script}
-use Rattle.grant_enter.specs.Homes.{Homes, CanMoveIn, FitsMemory, EndsBefore, FootprintBefore as StandsBefore}
+use Rattle.grant_enter.specs.Homes.{Homes, CanMoveIn, EndsBefore, FootprintBefore as StandsBefore}
+use Rattle.process_seat.specs.Places.{FitsMemory}
 use Rattle.process_model.specs.Flash.{object_in}
 use Rattle.process_restart.specs.Own.{CanStart, HasStart, IsApplication}
 use Rattle.process_record.specs.Process.{is_alive}

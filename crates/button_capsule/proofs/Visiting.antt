@@ -14,10 +14,10 @@ use Rattle.driver_model.specs.Steps.{own_after, scheduling, silently}
 use Rattle.driver_model.specs.Commands.{Commanded, refusing}
 use Rattle.driver_model.specs.Buttons.{buttons, edged, enabled, enabled_in, of_button, set_enabled}
 use Rattle.driver_model.specs.Parts.{with_enabled}
-use Rattle.grant_enter.specs.declared.visit.Unvisited.{Unvisited}
-use Rattle.grant_enter.specs.declared.visit.Unvisited.TheVariants.{Gone, NotEntered}
-use Rattle.grant_enter.specs.Seen.{Seen}
-use Rattle.grant_enter.specs.Visits.{Visits, grants_of, is_stale}
+use Rattle.process_seat.specs.declared.visit.Unvisited.{Unvisited}
+use Rattle.process_seat.specs.declared.visit.Unvisited.TheVariants.{Gone, NotEntered}
+use Rattle.process_seat.specs.Seen.{Seen}
+use Rattle.process_seat.specs.Visits.{Visits, grants_of, is_stale}
 use Rattle.driver_requests.specs.Asking.{in_life}
 use Rattle.driver_requests.proofs.Keeping.{kept_still}
 use Rattle.button_capsule.proofs.Masks.{no_bit, none_put}

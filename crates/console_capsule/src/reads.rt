@@ -3,7 +3,7 @@ ghost use Rattle.std.specs.Prelude.{◌≡◌, ◌==◌, ◌+◌, ◌-◌, ◌<�
 ghost use Rattle.std.specs.Prelude.{length, take};
 ghost use Rattle.tk_base.specs.Call.{code_of};
 ghost use Rattle.grant_enter.specs.Homes.{own_of, ChangesOnly};
-ghost use Rattle.grant_enter.specs.Seen.{Framed, IsLent, own_entered, seen};
+ghost use Rattle.process_seat.specs.Seen.{Framed, IsLent, own_entered, seen};
 ghost use Rattle.tk_base.specs.Bytes.{over};
 ghost use Rattle.driver_model.specs.Console.{console, read_status, received};
 ghost use Rattle.driver_model.specs.Parts.{bytes_moving};

@@ -18,8 +18,8 @@ use Rattle.driver_model.specs.Requests.{RequestKind, asking, request_in}
 use Rattle.driver_model.specs.Parts.{asking_beside}
 use Rattle.driver_model.specs.Steps.{own_after}
 use Rattle.grant_enter.specs.Homes.{ChangesOnly, Homes, IsInPlace, own_of}
-use Rattle.grant_enter.specs.Seen.{Seen}
-use Rattle.grant_enter.specs.Visits.{Visited, grants_of}
+use Rattle.process_seat.specs.Seen.{Seen}
+use Rattle.process_seat.specs.Visits.{Visited, grants_of}
 use Rattle.driver_requests.specs.Asking.{Obeys}
 use Rattle.driver_requests.specs.Begins.{Begins}
 use Rattle.driver_requests.specs.Waiting.{queue_after}

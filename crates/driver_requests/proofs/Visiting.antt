@@ -8,8 +8,8 @@ use Rattle.process_model.specs.Served.{kept, with_kept}
 use Rattle.driver_model.specs.Requests.{RequestKind, request_in, with_request}
 use Rattle.driver_model.specs.Steps.{DriverStep}
 use Rattle.driver_model.proofs.Requesting.{requesting_commutes}
-use Rattle.grant_enter.specs.Seen.{Seen, seen_of}
-use Rattle.grant_enter.specs.Visits.{Visited, grants_of, is_stale}
+use Rattle.process_seat.specs.Seen.{Seen, seen_of}
+use Rattle.process_seat.specs.Visits.{Visited, grants_of, is_stale}
 use Rattle.driver_requests.specs.Asking.{waiting_of}
 use Rattle.driver_requests.specs.Visits.{ServesWaiting, VisitsRequest}
 use Rattle.driver_requests.proofs.Keeping.{kept_still}

@@ -9,7 +9,7 @@ use Rattle.driver_model.specs.Commands.{Commanded, QueueName}
 use Rattle.syscall_abi.specs.Reply.{reply_of}
 use Rattle.driver_model.specs.Requests.{RequestKind, request_in, waiting_in}
 use Rattle.grant_enter.specs.Homes.{Homes, own_of, ChangesOnly}
-use Rattle.grant_enter.specs.Visits.{is_stale}
+use Rattle.process_seat.specs.Visits.{is_stale}
 use Rattle.driver_requests.specs.Waiting.{queue_after, waits as waits_in}
 
 -- what comes of a process in one of its lives; something else where it is not in that life

@@ -6,7 +6,7 @@ use Rattle.grant_values.specs.Values.{KeptValue}
 use Rattle.process_model.specs.Own.{Own}
 use Rattle.driver_model.specs.Requests.{RequestKind, keeping_request}
 use Rattle.driver_model.specs.Steps.{DriverStep, own_after}
-use Rattle.grant_enter.specs.Seen.{Seen}
+use Rattle.process_seat.specs.Seen.{Seen}
 
 -- What a visit to the value that is kept leaves, by the request that waits in it: it is served, and what waits of it
 -- still is kept; where none waits, nothing changes, and the visitor is handed back.

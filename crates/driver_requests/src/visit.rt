@@ -3,7 +3,7 @@ ghost use Rattle.std.specs.Prelude.{◌≡◌, Some};
 ghost use Rattle.grant_values.specs.Drivers.{counting};
 ghost use Rattle.driver_model.specs.Requests.{request_in};
 ghost use Rattle.grant_enter.specs.Homes.{own_of, ChangesOnly};
-ghost use Rattle.grant_enter.specs.Seen.{seen_of};
+ghost use Rattle.process_seat.specs.Seen.{seen_of};
 ghost use Rattle.driver_requests.specs.Asking.{waiting_of};
 ghost use Rattle.driver_requests.specs.Visits.{VisitsRequest};
 
@@ -17,7 +17,7 @@ use tk_base::ProcessId;
 pub trait VisitRequest<R: Request> {
     ghost use Rattle.std.specs.Prelude.{◌≡◌, Option};
     ghost use Rattle.driver_model.specs.Steps.{DriverStep, own_after};
-    ghost use Rattle.grant_enter.specs.Seen.{Framed, IsLent, Seen, own_entered, seen};
+    ghost use Rattle.process_seat.specs.Seen.{Framed, IsLent, Seen, own_entered, seen};
 
     /// What it answers.
     type Answer;

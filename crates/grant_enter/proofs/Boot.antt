@@ -14,14 +14,15 @@ use Rattle.grant_model.specs.Laws.{IsReadBack}
 use Rattle.upcall_queue.specs.Pending.{empty}
 use Rattle.process_model.specs.declared.place.Footprint.{Footprint}
 use Rattle.process_model.specs.Own.{Own, opened}
-use Rattle.grant_enter.specs.declared.seat.Seat.{Seat}
+use Rattle.process_seat.specs.declared.seat.Seat.{Seat}
 use Rattle.grant_enter.specs.declared.home.Home.TheInside.{Inside}
-use Rattle.grant_enter.specs.Homes.{FitsMemory, CanMoveIn, EndsBefore, FootprintBefore, nobody}
+use Rattle.process_seat.specs.Places.{FitsMemory}
+use Rattle.grant_enter.specs.Homes.{CanMoveIn, EndsBefore, FootprintBefore, nobody}
 use Rattle.tk_base.specs.declared.limits.TheConstants.{FLASH_LIMIT}
-use Rattle.grant_enter.specs.Seats.{AreSettled, IsHome, IsKept, IsSeated, first_seat, layouts_of, own_in, owns_seated}
-use Rattle.grant_enter.specs.Seats.{TellsPermissions, homes_of}
-use Rattle.grant_enter.proofs.Windows.{zeros, length_zeros, zero_window}
-use Rattle.grant_enter.proofs.Moves.{no_bytes, none_back, none_kept}
+use Rattle.grant_enter.specs.Housed.{AreSettled, IsHome, layouts_of, owns_seated, homes_of}
+use Rattle.process_seat.specs.Seats.{IsKept, IsSeated, first_seat, own_in, TellsPermissions}
+use Rattle.process_seat.proofs.Windows.{zeros, length_zeros, zero_window}
+use Rattle.process_seat.proofs.Restarted.{no_bytes, none_back, none_kept}
 
 -- one more seat
 pub seats_more : (flash : List ℕ) (fs : List Footprint) (k : ℕ) (f : Footprint) (seats more : List Seat) (seat : Seat)

@@ -21,17 +21,17 @@ use Rattle.board_memory.specs.Memory.{MemoryBytes}
 use Rattle.board_memory.specs.Bytes.{memory_byte_at, StoresLieIn}
 use Rattle.board_memory.specs.Registers.{Protect}
 use Rattle.process_model.specs.Instruction.{instruction_of, ram_after, with_write}
-use Rattle.grant_enter.specs.declared.seat.Seat.{Seat}
+use Rattle.process_seat.specs.declared.seat.Seat.{Seat}
 use Rattle.grant_enter.specs.declared.home.Home.TheInside.{Inside}
 use Rattle.grant_enter.specs.Homes.{Homes, IsInPlace, own_of, MakesInstruction}
-use Rattle.grant_enter.specs.Reach.{turn_under}
-use Rattle.grant_enter.specs.Seats.{IsKept, Reseats, SitsIn, owned, kernel_in, own_in, homes_of}
-use Rattle.grant_enter.proofs.Windows.{length_window, windows_same, put_outside, put_window, widened}
+use Rattle.process_seat.specs.Reach.{turn_under}
+use Rattle.process_seat.specs.Seats.{IsKept, Reseats, SitsIn, owned, kernel_in, own_in}
+use Rattle.grant_enter.specs.Housed.{homes_of}
+use Rattle.process_seat.proofs.Windows.{length_window, windows_same, put_outside, put_window, widened}
 use Rattle.grant_enter.proofs.Sight.{same_turn, store_lies, stores_in_ram}
-use Rattle.grant_enter.proofs.Blocks.{break_is}
-use Rattle.grant_enter.proofs.Moves.{Reads, layout_before, own_layout, own_before, ram_reseats, same_memory}
-use Rattle.grant_enter.proofs.Moves.{sits_before}
-use Rattle.grant_enter.proofs.Moves.{still_shows}
+use Rattle.process_seat.proofs.Blocks.{break_is}
+use Rattle.grant_enter.proofs.Moves.{Reads, layout_before, own_before, sits_before, still_shows}
+use Rattle.process_seat.proofs.Reseated.{own_layout, ram_reseats, same_memory}
 
 -- as much RAM as before
 pub length_after : AStoreIsPut → (pmp : List Entry) (ram : List ℕ) (w : Option Write) → StoresLieIn (length ram) pmp

@@ -1,15 +1,16 @@
 -- Whether the process of an id is there: it lives in its slot, in that life.
-use Rattle.std.proofs.Common.{◌≡◌, ℕ, zero, suc, ◌<◌, ◌==◌, ◌&&◌, not, Bool, true, false, List, [], ◌∷◌, length}
-use Rattle.std.proofs.Common.{refl, ap, sym, ◌∙◌, arith, eqb-true, eq-eqb, get_or}
+use Rattle.std.proofs.Common.{◌≡◌, ℕ, zero, suc, ◌<◌, ◌==◌, ◌&&◌, not, true, false, List, [], ◌∷◌, length, refl, ap}
+use Rattle.std.proofs.Common.{sym, ◌∙◌, arith, get_or}
 use Rattle.std.specs.Prelude.{slice_index_or, slice_get, option_map, Some, None, ◌≤◌, nat_lt}
 use Rattle.std.proofs.lemmas.Option.{slice_get-map}
 use borrow.Author.Tests.{ltb-true}
 use Rattle.process_model.specs.Own.{Own}
-use Rattle.grant_enter.specs.declared.seat.Seat.{Seat}
+use Rattle.process_seat.specs.declared.seat.Seat.{Seat}
 use Rattle.grant_enter.specs.declared.home.Home.TheInside.{Inside}
 use Rattle.grant_enter.specs.Homes.{Homes, is_life, nobody}
-use Rattle.grant_enter.specs.Seats.{homes_of, own_in}
-use Rattle.grant_enter.specs.Visits.{is_stale}
+use Rattle.grant_enter.specs.Housed.{homes_of}
+use Rattle.process_seat.specs.Seats.{own_in}
+use Rattle.process_seat.specs.Visits.{is_stale}
 
 -- where it is there, a process was placed in the slot
 pub placed_there : (owns : List Own) (slot life : ℕ) → is_life life (slice_get owns slot) ≡ true → slot < length owns
@@ -23,21 +24,6 @@ pub stale_is : (owns : List Own) (slot life : ℕ)
 stale_is [] slot life = refl
 stale_is (own ∷ owns) zero life = refl
 stale_is (own ∷ owns) (suc slot) life = stale_is owns slot life
-
-both : (a b : Bool) → not (a && b) ≡ false → (a ≡ true) × (b ≡ true)
-both true true e = (refl, refl)
-both true false e = cc
-both false b e = cc
-
--- one that is not stale lives, in that life
-pub lives_so : (own : Own) (life : ℕ) → is_stale life own ≡ false → (own.lives ≡ true) × (own.life ≡ life)
-lives_so own life fresh =
-    let t = both own.lives (own.life == life) fresh in (t.0, eqb-true own.life life t.1)
-
--- one that lives is not stale in its present life
-pub lives_on : (own : Own) → own.lives ≡ true → is_stale own.life own ≡ false
-lives_on own lives =
-    ap (λ (b : Bool). not (b && own.life == own.life)) lives ∙ ap not (eq-eqb own.life own.life refl)
 
 got : (seats : List Seat) (index : ℕ) (seat : Seat) → index < length seats → seat ≡ get_or seats index seat
     → slice_get seats index ≡ Some seat

@@ -23,11 +23,11 @@ use Rattle.pmp_regions.specs.declared.Entry.{Entry}
 use Rattle.pmp_regions.specs.Check.{denied_by_registers}
 use Rattle.board_memory.specs.Bytes.{memory_byte_at, StoresLieIn}
 use Rattle.board_memory.specs.Registers.{Protect}
-use Rattle.grant_enter.specs.declared.seat.Seat.{Seat}
-use Rattle.grant_enter.specs.Homes.{FitsMemory}
-use Rattle.grant_enter.specs.Reach.{turn_under}
-use Rattle.grant_enter.specs.Seats.{own_in}
-use Rattle.grant_enter.proofs.Windows.{window_at}
+use Rattle.process_seat.specs.declared.seat.Seat.{Seat}
+use Rattle.process_seat.specs.Places.{FitsMemory}
+use Rattle.process_seat.specs.Reach.{turn_under}
+use Rattle.process_seat.specs.Seats.{own_in}
+use Rattle.process_seat.proofs.Windows.{window_at}
 
 one_of : (f g : Bool) (x y : Option Rule) → cond f x (cond g y (Some NoRegion)) ≡ None → (f ≡ true) ⊎ (g ≡ true)
 one_of true g x y e = inl refl

@@ -15,13 +15,15 @@ use Rattle.board_memory.specs.Registers.{Protect}
 use Rattle.process_model.specs.Own.{Own}
 use Rattle.process_model.specs.Instruction.{Sees, instruction_of, ram_after, with_write}
 use Rattle.grant_enter.specs.declared.home.Home.TheInside.{Inside}
-use Rattle.grant_enter.specs.declared.seat.Seat.{Seat}
+use Rattle.process_seat.specs.declared.seat.Seat.{Seat}
 use Rattle.grant_enter.specs.Homes.{Homes, IsStopped, MakesAll, own_of}
-use Rattle.grant_enter.specs.Reach.{InstructionLaws, GoesUnder, StopsUnder, turn_under}
-use Rattle.grant_enter.specs.Seats.{Reseats, SitsIn, homes_of, own_in}
+use Rattle.process_seat.specs.Reach.{InstructionLaws, GoesUnder, StopsUnder, turn_under}
+use Rattle.process_seat.specs.Seats.{Reseats, SitsIn, own_in}
+use Rattle.grant_enter.specs.Housed.{homes_of}
 use Rattle.grant_enter.proofs.Instructions.{Writes, own_in_place, protects, writes_own}
-use Rattle.grant_enter.proofs.Left.{written_is}
-use Rattle.grant_enter.proofs.Moves.{Reads, reseats_on, same_memory, sits_before, still_shows}
+use Rattle.process_seat.proofs.Left.{written_is}
+use Rattle.grant_enter.proofs.Moves.{Reads, sits_before, still_shows}
+use Rattle.process_seat.proofs.Reseated.{reseats_on, same_memory}
 use Rattle.grant_enter.proofs.Sight.{same_turn, stores_in_ram}
 
 -- instructions lead from memory with a seat to RAM that is left, and make of the process's own bytes what they are then

@@ -5,9 +5,11 @@ use Rattle.std.specs.Prelude.{slice_index_or, slice_set, All}
 use Rattle.std.proofs.lemmas.List.{get_or-map, map-set, length-map, length-set}
 use Rattle.std.proofs.lemmas.List.Elements.{All-set}
 use Rattle.process_layout.specs.LayoutView.{LayoutView}
-use Rattle.grant_enter.specs.declared.seat.Seat.{Seat}
-use Rattle.grant_enter.specs.Homes.{FitsMemory, EndsBefore, nobody}
-use Rattle.grant_enter.specs.Seats.{AreSettled, layouts_of, own_in, owns_seated}
+use Rattle.process_seat.specs.declared.seat.Seat.{Seat}
+use Rattle.process_seat.specs.Places.{FitsMemory}
+use Rattle.grant_enter.specs.Homes.{EndsBefore, nobody}
+use Rattle.grant_enter.specs.Housed.{AreSettled, layouts_of, owns_seated}
+use Rattle.process_seat.specs.Seats.{own_in}
 
 -- one element is given another image, and each other has the same under both functions
 pub one_changed : {X Y : Type 0} (f g : X → Y) (xs : List X) (i : ℕ) (x : X) (y : Y) → f x ≡ y

@@ -1,9 +1,8 @@
 -- What contracts see of the memory of all processes: flash, and by slot what is a process's own. A process has its
 -- block and its grants as in Levy et al., SOSP 2017, section 4.
-use Rattle.std.specs.Prelude.{◌≡◌, ◌≢◌, ◌≤◌, ◌<◌, ℕ, zero, suc, ◌+◌, ◌-◌, ◌%◌, ◌^◌, ◌==◌, ◌&&◌, if◌then◌else◌, false}
-use Rattle.std.specs.Prelude.{List, [], length, slice_index_or, slice_set, Bool, Option, None, Some, is_some}
+use Rattle.std.specs.Prelude.{◌≡◌, ◌≢◌, ◌≤◌, ℕ, zero, suc, ◌-◌, ◌==◌, ◌&&◌, if◌then◌else◌, false, List, [], length}
+use Rattle.std.specs.Prelude.{slice_index_or, slice_set, Bool, Option, None, Some}
 use Rattle.std.specs.List.{AllByRecursion}
-use Rattle.tk_base.specs.declared.access.TheConstants.{FLASH_START, RAM_START}
 use Rattle.tk_base.specs.declared.process.ProcessId.{ProcessId}
 use Rattle.tk_base.specs.Regs.{Registers}
 use Rattle.rv32_model.specs.declared.turn_end.TurnEnd.{TurnEnd}
@@ -13,12 +12,11 @@ use Rattle.process_layout.specs.LayoutView.{LayoutView}
 use Rattle.process_layout.specs.Bounds.{bounds_of}
 use Rattle.process_layout.specs.Ordered.{IsOrdered}
 use Rattle.grant_model.specs.Encoding.{encode_grants, IsSound}
-use Rattle.tbf_headers.specs.Meaning.{header_reading, permissions_by}
 use Rattle.process_model.specs.declared.place.Footprint.{Footprint}
-use Rattle.process_model.specs.declared.place.Object.{Object}
 use Rattle.process_model.specs.Own.{Own, kernel_break_of, layout_of}
-use Rattle.process_model.specs.Flash.{HasObject, object_in}
+use Rattle.process_model.specs.Flash.{HasObject}
 use Rattle.process_model.specs.Instruction.{Sees, instruction_of, with_write}
+use Rattle.process_seat.specs.Places.{FitsMemory}
 
 -- the bytes of flash, and what is a process's own in each slot, slot 0 first
 pub record Homes : Type 0 where
@@ -36,10 +34,6 @@ nobody = record {
   life = 0;
   lives = false;
 }
-
--- whether the header of an object in flash has a Permissions TLV (Tock Binary Format, "Permissions")
-abbrev pub has_permissions : List ℕ → Object → Bool
-has_permissions flash object = is_some (permissions_by (header_reading (object_in flash object)))
 
 -- what is the own of the process in a slot
 abbrev pub own_of : Homes → ℕ → Own
@@ -62,19 +56,6 @@ is_life life (Some own) = own.lives && own.life == life
 -- nothing but what is in one slot may differ
 abbrev pub ChangesOnly : ℕ → Homes → Homes → Type 0
 ChangesOnly slot old new = new ≡ with_own old slot (own_of new slot)
-
--- Where a process's memory may lie in so many bytes of flash and of RAM: the accessible flash in flash, in whole words
--- and below RAM, the block in RAM.
-pub record FitsMemory (flash ram : ℕ) (e : LayoutView) : Type 0 where
-  pub ordered : IsOrdered e
-  pub flash_from : FLASH_START ≤ e.flash_start
-  pub flash_to : e.flash_end ≤ FLASH_START + flash
-  pub flash_start_aligned : e.flash_start % 4 ≡ 0
-  pub flash_end_aligned : e.flash_end % 4 ≡ 0
-  pub below : e.flash_end ≤ RAM_START
-  pub from : RAM_START ≤ e.start
-  pub to : e.end ≤ RAM_START + ram
-  pub fits : e.end < 2 ^ 32
 
 -- where a process may begin its first life: it lies in flash and RAM, and has no grants yet
 pub record CanMoveIn (flash ram : ℕ) (f : Footprint) : Type 0 where

@@ -1,7 +1,2 @@
 pub mod Homes
-pub mod Reach
-pub mod Windows
-pub mod Seats
-pub mod Seen
-pub mod Visits
-pub mod Buffers
+pub mod Housed

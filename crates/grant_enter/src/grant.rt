@@ -3,11 +3,11 @@ ghost use Rattle.std.specs.Prelude.{◌≡◌, Some};
 ghost use Rattle.grant_values.specs.Drivers.{counting, counts_of, driver_of};
 ghost use Rattle.process_model.specs.Handed.{own_entering};
 ghost use Rattle.grant_enter.specs.Homes.{ChangesOnly, own_of};
-ghost use Rattle.grant_enter.specs.Visits.{Asks, Enters, IsCounted, Peeks, Visits, grants_of};
+ghost use Rattle.process_seat.specs.Visits.{Asks, Enters, IsCounted, Peeks, Visits, grants_of};
 
 use crate::home::Home;
-use crate::visit::{EnterError, Stale, Unvisited, Visit, enter_seat, peek_seat, visit_seat};
 use grant_values::GrantValue;
+use process_seat::{EnterError, Stale, Unvisited, Visit, enter_seat, peek_seat, visit_seat};
 use std::marker::PhantomData;
 use tk_base::{Counts, ProcessId};
 

@@ -1,6 +1,6 @@
 //! The memory of all processes.
 ghost use Rattle.std.specs.Prelude.{◌≡◌, ◌≤◌, ◌<◌, ◌+◌, ◌%◌, ◌^◌, ℕ, nat_lt, slice_get};
-ghost use Rattle.std.specs.Prelude.{All, AllPairs, IsTrue, length, map, option_map, is_ok, IfOk};
+ghost use Rattle.std.specs.Prelude.{All, AllPairs, IsTrue, length, map, is_ok, IfOk};
 ghost use Rattle.std.specs.Prelude.{OnOk, OnErr, OnSome, IfNone, is_some, vec_len};
 ghost use Rattle.std.specs.Bool.{OnTrue, OnFalse};
 ghost use Rattle.tk_base.specs.declared.limits.TheConstants.{FLASH_LIMIT};
@@ -13,25 +13,23 @@ ghost use Rattle.tk_base.specs.declared.upcall.Wait.TheVariants.{For};
 ghost use Rattle.rv32_model.specs.declared.turn_end.TurnEnd.TheVariants.{Went};
 ghost use Rattle.upcall_queue.specs.Pending.{due, left_after, place_of, taken_at};
 ghost use Rattle.process_model.specs.Flag.{with_flag};
-ghost use Rattle.process_model.specs.Handed.{HoldsInPlace, own_entering, handing, has_place, held};
+ghost use Rattle.process_model.specs.Handed.{HoldsInPlace, handing, has_place, held};
 ghost use Rattle.process_model.specs.Handed.{may_share};
-ghost use Rattle.process_model.specs.Served.{kept};
 ghost use Rattle.swap_tables.specs.Swaps.{CanHand};
-ghost use Rattle.grant_enter.specs.Homes.{own_of, is_life, living, has_permissions, ChangesOnly, IsInPlace};
-ghost use Rattle.grant_enter.specs.Homes.{IsStopped};
-ghost use Rattle.grant_enter.specs.Homes.{CanMoveIn, FootprintBefore, MakesInstruction, MakesAll};
+ghost use Rattle.grant_enter.specs.Homes.{own_of, is_life, living, ChangesOnly, IsInPlace};
+ghost use Rattle.grant_enter.specs.Homes.{IsStopped, CanMoveIn, FootprintBefore, MakesInstruction};
+ghost use Rattle.grant_enter.specs.Homes.{MakesAll};
+ghost use Rattle.process_seat.specs.Places.{has_permissions};
 
-use crate::flag::put_flag_at;
-use crate::handing::hand_at;
-use crate::instruction::{instruction_laws, turn_in, turns_in};
-use crate::seat::Seat;
-use crate::visit::block_at;
 use board_memory::{Memory, set_process};
 use grant_model::what_is_laid_is_read_back;
 use grant_region::NoRoom;
 use pmp_regions::Pmp;
 use process_layout::Layout;
 use process_model::Footprint;
+use process_seat::{
+    Seat, block_at, hand_at, instruction_laws, put_flag_at, restart_at, turn_in, turns_in,
+};
 use rv32_model::{TurnEnd, sees_only_permitted, writes_are_permitted};
 use rv32_step::Stretch;
 use std::alloc::Global;
@@ -58,7 +56,7 @@ impl Model for Home {
 
     ghost Value = { Homes };
 
-    ghost use Rattle.grant_enter.specs.Seats.{homes_of, IsHome};
+    ghost use Rattle.grant_enter.specs.Housed.{homes_of, IsHome};
 
     ghost view = { homes_of };
 
@@ -201,13 +199,8 @@ impl Home {
         ensures own { own_of self.new slot ≡ own_restarted brk (own_of self.old slot) }
         ensures rest { ChangesOnly slot self.old self.new }
     {
-        what_is_laid_is_read_back();
         let seat = &mut self.seats[slot.index()];
-        seat.layout.restart(brk);
-        seat.inbox.clear();
-        seat.life += 1;
-        seat.lives = true;
-        self.memory.clear_block(&seat.layout);
+        restart_at(&mut self.memory, seat, brk);
     }
 
     /// Ends the process in a slot: it lives no more, and nothing is scheduled for it. Its memory

@@ -1,8 +1,8 @@
 -- A process that may be served may be so after a step that leaves it as it was, but for its bytes.
 use Rattle.std.proofs.Common.{◌≡◌, ◌<◌, ℕ, ◌+◌, ◌^◌, sym, subst, ◌∙◌}
 use Rattle.tk_base.specs.declared.upcall.Counts.{Counts}
-use Rattle.grant_enter.specs.declared.entered.Entered.{Entered}
-use Rattle.grant_enter.specs.Seen.{Framed, IsLent, own_entered}
+use Rattle.process_seat.specs.declared.entered.Entered.{Entered}
+use Rattle.process_seat.specs.Seen.{Framed, IsLent, own_entered}
 use Rattle.random_capsule.specs.Steps.{MayBeServed}
 
 pub served_still : (old new : Entered) → MayBeServed old → IsLent new → Framed old new

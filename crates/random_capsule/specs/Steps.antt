@@ -1,8 +1,8 @@
 -- One step of a request for random bytes.
 use Rattle.std.specs.Prelude.{◌≡◌, ◌+◌, ◌<◌, ◌^◌}
 use Rattle.process_model.specs.Own.{Own}
-use Rattle.grant_enter.specs.declared.entered.Entered.{Entered}
-use Rattle.grant_enter.specs.Seen.{IsLent, own_entered, seen}
+use Rattle.process_seat.specs.declared.entered.Entered.{Entered}
+use Rattle.process_seat.specs.Seen.{IsLent, own_entered, seen}
 use Rattle.driver_model.specs.Random.{Progress, random}
 use Rattle.driver_model.specs.Steps.{own_after}
 use Rattle.random_capsule.specs.declared.visits.Step.{Step}

@@ -1,6 +1,6 @@
 //! What the source does with the value that a process keeps for it.
 ghost use Rattle.std.specs.Prelude.{◌≡◌, ◌+◌, ◌-◌, ◌<◌, ◌≤◌, ◌^◌};
-ghost use Rattle.grant_enter.specs.Seen.{Framed, IsLent, own_entered};
+ghost use Rattle.process_seat.specs.Seen.{Framed, IsLent, own_entered};
 ghost use Rattle.driver_model.specs.Random.{completing, drawing, progress, random, wanted};
 ghost use Rattle.random_capsule.specs.Steps.{MayBeServed, Progresses};
 

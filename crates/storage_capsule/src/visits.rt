@@ -5,7 +5,7 @@ ghost use Rattle.process_model.specs.Handed.{held};
 ghost use Rattle.board_devices.specs.Storage.{bytes_from, slot_bytes};
 ghost use Rattle.process_model.specs.Flash.{flash_byte};
 ghost use Rattle.process_model.specs.Served.{ram_at, with_written};
-ghost use Rattle.grant_enter.specs.Seen.{Framed, IsLent, own_entered, seen};
+ghost use Rattle.process_seat.specs.Seen.{Framed, IsLent, own_entered, seen};
 ghost use Rattle.driver_model.specs.Storage.{completing, moving, storage_served, storage};
 ghost use Rattle.driver_model.specs.Steps.{own_after};
 ghost use Rattle.storage_capsule.specs.Serving.{storage_after};

@@ -5,7 +5,7 @@ use Rattle.tk_base.specs.Bytes.{over}
 use Rattle.tk_base.specs.declared.kinds.PairKind.TheVariants.{Readable}
 use Rattle.process_model.specs.Handed.{held}
 use Rattle.process_model.specs.Served.{ram_at, with_written}
-use Rattle.grant_enter.specs.Seen.{own_entered}
+use Rattle.process_seat.specs.Seen.{own_entered}
 use Rattle.alarm_capsule.proofs.Showing.{front_is_written}
 use Rattle.alarm_capsule.proofs.visits.show_clock.Goals as goal
 

@@ -4,7 +4,7 @@ use Rattle.tk_base.specs.declared.kinds.PairKind.TheVariants.{ReadWrite}
 use Rattle.process_model.specs.Handed.{held}
 use Rattle.process_model.specs.Served.{ram_at, with_written}
 use Rattle.tk_base.specs.Bytes.{over}
-use Rattle.grant_enter.specs.Seen.{own_entered}
+use Rattle.process_seat.specs.Seen.{own_entered}
 use Rattle.console_capsule.proofs.reads.fill_buffer.Goals as goal
 
 fits : (most : ℕ) (xs ring : List ℕ) → length (take (min most (length xs)) ring) ≤ length xs

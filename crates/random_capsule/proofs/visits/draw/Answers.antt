@@ -2,7 +2,7 @@ use Rattle.std.proofs.Common.{ℕ, List, ap, ap₂, take, ◌∙◌}
 use Rattle.tk_base.specs.declared.kinds.PairKind.TheVariants.{ReadWrite}
 use Rattle.process_model.specs.Own.{Own}
 use Rattle.process_model.specs.Served.{with_written}
-use Rattle.grant_enter.specs.Seen.{own_entered}
+use Rattle.process_seat.specs.Seen.{own_entered}
 use Rattle.random_capsule.proofs.Advancing.{drawn_all, drawn_on}
 use Rattle.random_capsule.proofs.Serving.{served_still}
 use Rattle.random_capsule.proofs.visits.draw.Goals as goal

@@ -2,7 +2,7 @@ use Rattle.std.proofs.Common.{length, refl, ap, ◌∙◌}
 use Rattle.tk_base.specs.declared.kinds.PairKind.TheVariants.{ReadWrite}
 use Rattle.process_model.specs.Handed.{held}
 use Rattle.process_model.specs.Served.{with_written}
-use Rattle.grant_enter.specs.Seen.{own_entered}
+use Rattle.process_seat.specs.Seen.{own_entered}
 use Rattle.random_capsule.proofs.visits.wanted.Goals as goal
 
 pub returns-clause-own : goal.returns-clause-own

@@ -4,7 +4,7 @@ use Rattle.board_devices.specs.Storage.{bytes_from}
 use Rattle.process_model.specs.Handed.{held}
 use Rattle.process_model.specs.Served.{with_written}
 use Rattle.tk_base.specs.Bytes.{over}
-use Rattle.grant_enter.specs.Seen.{own_entered}
+use Rattle.process_seat.specs.Seen.{own_entered}
 use Rattle.storage_capsule.proofs.visits.read.Goals as goal
 
 pub returns-clause-own : goal.returns-clause-own

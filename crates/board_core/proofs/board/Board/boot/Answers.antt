@@ -11,7 +11,8 @@ use Rattle.process_model.specs.Own.{opened}
 use Rattle.app_placement.specs.declared.placed.Placed.{Placed}
 use Rattle.board_devices.specs.Storage.{StoredSlots}
 use Rattle.app_placement.specs.Placement.{is_placed, LiesInFlash}
-use Rattle.grant_enter.specs.Homes.{Homes, CanMoveIn, EndsBefore, FitsMemory}
+use Rattle.grant_enter.specs.Homes.{Homes, CanMoveIn, EndsBefore}
+use Rattle.process_seat.specs.Places.{FitsMemory}
 use Rattle.script_text.specs.Settings.{ScriptSettings as Script}
 use Rattle.kernel_model.specs.declared.settings.Settings.{Settings}
 use Rattle.board_drivers.specs.Driven.{AreDriven, AreFreeSoon, AreFresh, HasLanes, devices_of}

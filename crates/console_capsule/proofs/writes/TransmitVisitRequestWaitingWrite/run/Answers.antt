@@ -1,6 +1,6 @@
 use Rattle.std.proofs.Common.{refl, sym, ◌∙◌}
 use Rattle.process_model.specs.Flash.{flash_byte}
-use Rattle.grant_enter.specs.Seen.{own_entered}
+use Rattle.process_seat.specs.Seen.{own_entered}
 use Rattle.console_capsule.proofs.Transmitting.{PutsNext, ends, goes_on, next_are, tells, tells_nothing}
 use Rattle.console_capsule.proofs.writes.TransmitVisitRequestWaitingWrite.run.Goals as goal
 use Rattle.console_capsule.proofs.writes.TransmitVisitRequestWaitingWrite.run.Goals.{After-put_next}

@@ -3,8 +3,9 @@ use Rattle.tk_base.specs.declared.upcall.Counts.{Counts}
 use Rattle.grant_values.specs.Drivers.{counting}
 use Rattle.process_model.specs.Own.{Own}
 use Rattle.grant_enter.specs.Homes.{own_of}
-use Rattle.grant_enter.specs.Seats.{homes_of, own_in}
-use Rattle.grant_enter.specs.Visits.{Enters, grants_of}
+use Rattle.grant_enter.specs.Housed.{homes_of}
+use Rattle.process_seat.specs.Seats.{own_in}
+use Rattle.process_seat.specs.Visits.{Enters, grants_of}
 use Rattle.grant_enter.proofs.Living.{stale_is}
 use Rattle.grant_enter.proofs.Moves.{Reads, reads_there, reseated, reseated_only, reseated_shows}
 use Rattle.grant_enter.proofs.Moves.{seat_there, sits_before, with_seat}

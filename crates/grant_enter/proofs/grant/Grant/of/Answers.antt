@@ -1,6 +1,6 @@
 use Rattle.std.proofs.Common.{arith}
 use Rattle.grant_values.specs.Drivers.{counting}
-use Rattle.grant_enter.proofs.Values.{few_pairs}
+use Rattle.process_seat.proofs.Values.{few_pairs}
 use Rattle.grant_enter.proofs.grant.Grant.of.Goals as goal
 
 pub overflow_cast-result : goal.overflow_cast-result

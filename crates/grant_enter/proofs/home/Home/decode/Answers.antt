@@ -1,10 +1,10 @@
 use Rattle.std.proofs.Common.{true, refl, ap}
 use Rattle.board_memory.specs.Memory.{MemoryBytes}
-use Rattle.grant_enter.specs.Seats.{Reseats, SitsIn, own_in}
-use Rattle.grant_enter.proofs.Moves.{Reads, known, reseated, reseated_same, same_memory}
-use Rattle.grant_enter.proofs.Moves.{sits_before}
-use Rattle.grant_enter.proofs.home.Home.decode.Goals as goal
+use Rattle.process_seat.specs.Seats.{Reseats, SitsIn, own_in}
+use Rattle.grant_enter.proofs.Moves.{Reads, reseated, reseated_same, sits_before}
+use Rattle.process_seat.proofs.Reseated.{known, same_memory}
 use Rattle.grant_enter.proofs.home.Home.decode.Goals.{After-decode, After-index_mut-seat}
+use Rattle.grant_enter.proofs.home.Home.decode.Goals as goal
 
 -- the seat of the slot
 reads : (c : After-index_mut-seat)

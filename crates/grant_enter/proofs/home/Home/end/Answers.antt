@@ -1,6 +1,7 @@
 use Rattle.std.proofs.Common.{◌≡◌, false, rules}
 use Rattle.process_model.specs.Own.{own_ended}
-use Rattle.grant_enter.proofs.Moves.{Reads, ended_own, placed, requeued, reseated, reseated_only, reseated_shows}
+use Rattle.grant_enter.proofs.Moves.{Reads, placed, reseated, reseated_only, reseated_shows}
+use Rattle.process_seat.proofs.Reseated.{ended_own, requeued}
 use Rattle.grant_enter.proofs.Moves.{sits_before}
 use Rattle.grant_enter.proofs.home.Home.end.Goals as goal
 use Rattle.grant_enter.proofs.home.Home.end.Goals.{After-clear}

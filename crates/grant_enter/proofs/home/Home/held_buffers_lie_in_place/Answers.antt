@@ -1,6 +1,6 @@
 use Rattle.std.proofs.Common.{sym, subst}
 use Rattle.process_model.specs.Handed.{HoldsInPlace}
-use Rattle.grant_enter.proofs.Buffers.{in_place}
+use Rattle.process_seat.proofs.Buffers.{in_place}
 use Rattle.grant_enter.proofs.Moves.{own_before, reads_seat, seat_of, sits_before}
 use Rattle.grant_enter.proofs.home.Home.held_buffers_lie_in_place.Goals as goal
 

@@ -1,4 +1,4 @@
-use Rattle.grant_enter.specs.Seats.{Reseats}
+use Rattle.process_seat.specs.Seats.{Reseats}
 use Rattle.grant_enter.proofs.Instructions.{changed, in_place, makes, stores}
 use Rattle.grant_enter.proofs.Moves.{Reads, reads_seat, seat_of, still_home, still_only}
 use Rattle.grant_enter.proofs.home.Home.instruct.Goals as goal

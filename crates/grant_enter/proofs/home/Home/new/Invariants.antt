@@ -1,5 +1,5 @@
 use Rattle.std.proofs.Common.{◌≡◌, map, take}
-use Rattle.grant_enter.specs.Seats.{first_seat}
+use Rattle.process_seat.specs.Seats.{first_seat}
 use Rattle.grant_enter.proofs.home.Home.new.Given as goal
 
 abbrev pub invariant-loop-footprint : goal.invariant-loop-footprint

@@ -1,5 +1,5 @@
 use Rattle.std.proofs.Common.{length, arith}
-use Rattle.grant_enter.specs.Homes.{FitsMemory}
+use Rattle.process_seat.specs.Places.{FitsMemory}
 use Rattle.grant_enter.proofs.Moves.{Reads, sits_before}
 use Rattle.grant_enter.proofs.home.Home.protect.Goals as goal
 use Rattle.grant_enter.proofs.home.Home.protect.Goals.{After-index-2}

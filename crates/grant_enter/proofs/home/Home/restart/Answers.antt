@@ -1,24 +1,13 @@
-use Rattle.std.proofs.Common.{◌≡◌, ◌+◌, true}
-use Rattle.process_model.specs.Own.{own_restarted}
-use Rattle.grant_enter.specs.declared.seat.Seat.{Seat}
-use Rattle.grant_enter.proofs.Moves.{Reads, Restarts, clears, reseated, reseated_only, reseated_shows, restarts}
+use Rattle.std.proofs.Common.{◌≡◌, ◌+◌, ◌^◌, ◌<◌, ◌≤◌, subst}
+use Rattle.process_layout.specs.Bounds.{Bounds}
+use Rattle.process_model.specs.Own.{Own, own_restarted}
+use Rattle.grant_enter.proofs.Moves.{Reads, layout_before, own_before, reseated, reseated_only, reseated_shows}
+use Rattle.grant_enter.proofs.Moves.{sits_before}
 use Rattle.grant_enter.proofs.home.Home.restart.Goals as goal
-use Rattle.grant_enter.proofs.home.Home.restart.Goals.{After-clear_block}
-
-pub clear_block-requires : goal.clear_block-requires
-clear_block-requires c =
-    clears (record {
-      home = c.self.invariant;
-      shown = c.self.view_is;
-      there = c.requires.slot;
-      is =
-          c.index.ensures.value;
-      read = c.index_mut-seat.ensures.value;
-    })
-    c.args.brk c.requires.from c.requires.to c.requires.aligned c.restart.new.self c.restart.ensures
+use Rattle.grant_enter.proofs.home.Home.restart.Goals.{After-index_mut-seat}
 
 -- the seat of the slot
-reads : (c : After-clear_block)
+reads : (c : After-index_mut-seat)
     → Reads c.self.inside c.args.self.now c.args.slot c.index.result c.index_mut-seat.result.now
 reads c = record {
   home = c.self.invariant;
@@ -29,32 +18,37 @@ reads c = record {
   read = c.index_mut-seat.ensures.value;
 }
 
--- the seat of the new life
-abbrev again : (c : After-clear_block) → Seat
-again c = record c.index_mut-seat.result.now {
-  layout = c.restart.new.self;
-  inbox = c.clear.new.self;
-  life =
-      c.index_mut-seat.result.now.life + 1;
-  lives = true;
-}
+pub restart_at-requires-clause-sits : goal.restart_at-requires-clause-sits
+restart_at-requires-clause-sits c =
+    sits_before (reads (goal.at.restart_at-requires-clause-sits c).After-index_mut-seat)
 
-made : (c : After-clear_block)
-    → Restarts c.self.inside.memory c.index_mut-seat.result.now c.args.brk c.clear_block.new.self (again c)
-made c =
-    restarts (reads c) c.args.brk c.requires.from c.requires.to c.requires.aligned c.what_is_laid_is_read_back.ensures
-    c.clear_block.new.self c.restart.new.self c.clear.new.self c.restart.ensures c.clear.ensures c.clear_block.ensures
+pub restart_at-requires-clause-from : goal.restart_at-requires-clause-from
+restart_at-requires-clause-from c =
+    let a = (goal.at.restart_at-requires-clause-from c).After-index_mut-seat in
+    subst (λ (e : Bounds). e.start ≤ c.args.brk) (layout_before (reads a)) c.requires.from
+
+pub restart_at-requires-clause-to : goal.restart_at-requires-clause-to
+restart_at-requires-clause-to c =
+    let a = (goal.at.restart_at-requires-clause-to c).After-index_mut-seat in
+    subst (λ (e : Bounds). c.args.brk ≤ e.end) (layout_before (reads a)) c.requires.to
+
+pub restart_at-requires-clause-life : goal.restart_at-requires-clause-life
+restart_at-requires-clause-life c =
+    let a = (goal.at.restart_at-requires-clause-life c).After-index_mut-seat in
+    subst (λ (own : Own). own.life + 1 < 2 ^ 32) (own_before (reads a)) c.requires.life
 
 pub invariant_of-self : goal.invariant_of-self
-invariant_of-self c = let a = (goal.at.invariant_of-self c).After-clear_block in
-    reseated (reads a) c.clear_block.new.self _ (made a).reseats
+invariant_of-self c =
+    reseated (reads (goal.at.invariant_of-self c).After-index_mut-seat) c.restart_at.new.memory c.restart_at.new.seat
+    c.restart_at.ensures.reseats
 
 pub returns-clause-own : goal.returns-clause-own
 returns-clause-own c =
-    let a = (goal.at.returns-clause-own c).After-clear_block in
-    reseated_shows (reads a) c.clear_block.new.self _ (made a).reseats
-    (λ flash own own_after. own_after ≡ own_restarted c.args.brk own) (made a).own
+    let a = (goal.at.returns-clause-own c).After-index_mut-seat in
+    reseated_shows (reads a) c.restart_at.new.memory c.restart_at.new.seat c.restart_at.ensures.reseats
+    (λ flash own own_after. own_after ≡ own_restarted c.args.brk own) c.restart_at.ensures.own
 
 pub returns-clause-rest : goal.returns-clause-rest
-returns-clause-rest c = let a = (goal.at.returns-clause-rest c).After-clear_block in
-    reseated_only (reads a) c.clear_block.new.self _ (made a).reseats
+returns-clause-rest c =
+    reseated_only (reads (goal.at.returns-clause-rest c).After-index_mut-seat) c.restart_at.new.memory
+    c.restart_at.new.seat c.restart_at.ensures.reseats

@@ -2,8 +2,9 @@ use Rattle.std.proofs.Common.{◌≡◌, ap, sym, ◌∙◌}
 use Rattle.process_layout.specs.LayoutView.{LayoutView}
 use Rattle.process_layout.specs.Bounds.{bounds_of, permits_break}
 use Rattle.process_model.specs.Own.{with_moved_break}
-use Rattle.grant_enter.specs.Seats.{Reseats, own_in}
-use Rattle.grant_enter.proofs.Moves.{Reads, break_reseats, on_true, reseated, reseated_only, reseated_shows}
+use Rattle.process_seat.specs.Seats.{Reseats, own_in}
+use Rattle.grant_enter.proofs.Moves.{Reads, on_true, reseated, reseated_only, reseated_shows}
+use Rattle.process_seat.proofs.Breaks.{break_reseats}
 use Rattle.grant_enter.proofs.Moves.{sits_before, whole_layout}
 use Rattle.grant_enter.proofs.home.Home.set_break.Goals as goal
 use Rattle.grant_enter.proofs.home.Home.set_break.Goals.{After-set_break}

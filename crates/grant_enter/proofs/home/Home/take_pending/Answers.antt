@@ -3,8 +3,9 @@ use Rattle.std.specs.Prelude.{slice_get}
 use Rattle.tk_base.specs.declared.upcall.Upcall.{Upcall}
 use Rattle.upcall_queue.specs.Pending.{taken_at}
 use Rattle.process_model.specs.Own.{Own, with_inbox}
-use Rattle.grant_enter.specs.Seats.{Reseats, own_in}
-use Rattle.grant_enter.proofs.Moves.{Reads, own_before, requeued, reseated, reseated_only, reseated_shows, sits_before}
+use Rattle.process_seat.specs.Seats.{Reseats, own_in}
+use Rattle.grant_enter.proofs.Moves.{Reads, own_before, reseated, reseated_only, reseated_shows, sits_before}
+use Rattle.process_seat.proofs.Reseated.{requeued}
 use Rattle.grant_enter.proofs.home.Home.take_pending.Goals as goal
 use Rattle.grant_enter.proofs.home.Home.take_pending.Goals.{After-pop}
 

@@ -4,8 +4,9 @@ use Rattle.tk_base.specs.declared.upcall.Upcall.{Upcall}
 use Rattle.upcall_queue.specs.declared.inbox.Inbox.{Inbox}
 use Rattle.upcall_queue.specs.Pending.{place_of, taken_at}
 use Rattle.process_model.specs.Own.{Own, with_inbox}
-use Rattle.grant_enter.specs.Seats.{Reseats, own_in}
-use Rattle.grant_enter.proofs.Moves.{Reads, own_before, requeued, reseated, reseated_only, reseated_shows, sits_before}
+use Rattle.process_seat.specs.Seats.{Reseats, own_in}
+use Rattle.grant_enter.proofs.Moves.{Reads, own_before, reseated, reseated_only, reseated_shows, sits_before}
+use Rattle.process_seat.proofs.Reseated.{requeued}
 use Rattle.grant_enter.proofs.home.Home.wait_for.Goals as goal
 use Rattle.grant_enter.proofs.home.Home.wait_for.Goals.{After-wait_for}
 

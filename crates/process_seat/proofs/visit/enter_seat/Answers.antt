@@ -1,0 +1,75 @@
+use Rattle.std.proofs.Common.{◌≡◌, ℕ, List, sym, ap₂, subst, ◌∙◌}
+use Rattle.process_layout.specs.LayoutView.{LayoutView}
+use Rattle.board_memory.specs.Memory.{MemoryBytes}
+use Rattle.process_model.specs.Own.{Own}
+use Rattle.process_model.specs.Handed.{own_entering}
+use Rattle.process_seat.specs.Seats.{Reseats, own_in}
+use Rattle.process_seat.specs.Visits.{Asks, Visited, grants_of}
+use Rattle.process_seat.proofs.Entering.{entered_own, entered_reseats, same_room}
+use Rattle.process_seat.proofs.Alive.{lives_on}
+use Rattle.process_seat.proofs.Reseated.{reseats_on}
+use Rattle.process_seat.proofs.visit.enter_seat.Goals as goal
+use Rattle.process_seat.proofs.visit.enter_seat.Given.{Over}
+use Rattle.process_seat.proofs.visit.enter_seat.Goals.{In-Ok}
+
+-- the seat once the driver was entered
+roomed_seat : (g : Over) (c : In-Ok g)
+    → Reseats c.args.memory.now c.args.seat.now c.make_room_in.new.memory
+    (record c.args.seat.now { layout = c.make_room_in.new.layout })
+roomed_seat g c =
+    entered_reseats c.args.driver c.args.memory.now c.args.seat.now c.make_room_in.new.memory c.make_room_in.new.layout
+    c.in-Ok.ensures.made c.pairs_stand_by_kind.ensures c.requires.sits
+
+pub visit_at-requires-clause-sits : goal.visit_at-requires-clause-sits
+visit_at-requires-clause-sits g c = (roomed_seat g (goal.at.visit_at-requires-clause-sits g c).In-Ok).sits
+
+pub returns-clause-reseats : goal.returns-clause-reseats
+returns-clause-reseats g c =
+    reseats_on c.args.memory.now c.args.seat.now c.make_room_in.new.memory
+    (record c.args.seat.now { layout = c.make_room_in.new.layout }) c.visit_at.new.memory c.visit_at.new.seat
+    (roomed_seat g (goal.at.returns-clause-reseats g c).In-Ok) c.visit_at.ensures.reseats
+
+-- what is its process's own then
+entered : (g : Over) (c : In-Ok g)
+    → own_in c.make_room_in.new.memory.ram (record c.args.seat.now { layout = c.make_room_in.new.layout })
+    ≡ own_entering c.args.driver (own_in c.args.memory.now.ram c.args.seat.now)
+entered g c =
+    entered_own c.args.driver c.args.memory.now c.args.seat.now c.make_room_in.new.memory c.make_room_in.new.layout
+    c.in-Ok.ensures.made c.requires.sits
+
+pub visit_at-requires-clause-asks : goal.visit_at-requires-clause-asks
+visit_at-requires-clause-asks g c =
+    let at = (goal.at.visit_at-requires-clause-asks g c).In-Ok in
+    let grants = grants_of c.args.driver c.args.counts g.T.GrantValue.kept in
+    subst (Asks grants (g.V.Visit.asks c.args.visitor) c.make_room_in.new.memory.flash) (sym (entered g at))
+    (subst (λ (flash : List ℕ). Asks grants (g.V.Visit.asks c.args.visitor) flash
+    (own_entering c.args.driver (own_in c.args.memory.now.ram c.args.seat.now)))
+    (sym c.in-Ok.ensures.made.grants.flash) c.requires.asks)
+
+pub returns-clause-enters : goal.returns-clause-enters
+returns-clause-enters g c =
+    let at = (goal.at.returns-clause-enters g c).In-Ok in
+    let grants = grants_of c.args.driver c.args.counts g.T.GrantValue.kept in
+    let leaves = g.V.Visit.leaves c.args.visitor in
+    let after = own_in c.visit_at.new.memory.ram c.visit_at.new.seat in
+    let room = c.in-Ok.ensures.room ∙ same_room c.args.driver c.args.memory.now c.args.seat.now c.requires.sits in (
+      lives_on (own_in c.args.memory.now.ram c.args.seat.now) c.requires.lives,
+      sym room,
+      subst (λ (flash : List ℕ). Visited grants leaves flash
+          (own_entering c.args.driver (own_in c.args.memory.now.ram c.args.seat.now)) c.visit_at.result after)
+          c.in-Ok.ensures.made.grants.flash
+          (subst (λ (own : Own). Visited grants leaves c.make_room_in.new.memory.flash own c.visit_at.result
+          after)
+          (entered g at) c.visit_at.ensures.visited),
+    )
+
+pub returns-in_default-clause-enters : goal.returns-in_default-clause-enters
+returns-in_default-clause-enters g c =
+    let room = c.in_default.ensures.room
+    ∙ same_room c.args.driver c.args.memory.now c.args.seat.now c.requires.sits in
+    let refused = c.in_default.ensures.refused in (
+      lives_on (own_in c.args.memory.now.ram c.args.seat.now) c.requires.lives,
+      sym room,
+      ap₂ (λ (m : MemoryBytes) (e : LayoutView). own_in m.ram (record c.args.seat.now { layout = e })) refused.0
+          refused.1,
+    )

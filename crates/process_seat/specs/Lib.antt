@@ -1,0 +1,7 @@
+pub mod Places
+pub mod Reach
+pub mod Windows
+pub mod Seats
+pub mod Seen
+pub mod Visits
+pub mod Buffers
