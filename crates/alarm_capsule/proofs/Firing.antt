@@ -1,7 +1,6 @@
 -- What a visit that fires, or stops, an alarm leaves of a process.
 use Rattle.std.proofs.Common.{◌≡◌, ℕ, ◌==◌, Bool, true, false, cond, List, [], ◌∷◌, Option, None, Some, Result, Ok, Err}
 use Rattle.std.proofs.Common.{ap, option_map, refl, sym, ◌∙◌, subst}
-use Rattle.tk_base.specs.declared.upcall.Counts.{Counts}
 use Rattle.grant_values.specs.declared.alarm.Alarm.{Alarm}
 use Rattle.grant_values.specs.declared.alarm.Armed.{Armed}
 use Rattle.grant_values.specs.Values.{KeptValue, AlarmValue}
@@ -13,7 +12,7 @@ use Rattle.driver_model.specs.Steps.{own_after}
 use Rattle.process_seat.specs.declared.visit.Unvisited.{Unvisited}
 use Rattle.process_seat.specs.declared.visit.Unvisited.TheVariants.{Gone, NotEntered}
 use Rattle.process_seat.specs.Seen.{Seen}
-use Rattle.process_seat.specs.Visits.{Visits, grants_of, is_stale}
+use Rattle.process_seat.specs.Visits.{GrantsOf, Visits, is_stale}
 use Rattle.driver_model.specs.Alarm.{alarm_driver, alarm_in, answered, armed_in, due_alarm, expiration, fired, if_due}
 use Rattle.driver_model.specs.Parts.{fired_if}
 use Rattle.driver_model.specs.Alarm.{showing, with_alarm}
@@ -38,14 +37,14 @@ none_kept now own alarm none due =
     nothing_due own.lives alarm (subst (λ (o : Option KeptValue). cond own.lives (if_due now (armed_in o)) None
     ≡ Some alarm) none due)
 
-pub fires : {A V : Type 0} (now expires driver life : ℕ) (counts : Counts) (flash : List ℕ) (alarm : Armed)
+pub fires : {A V : Type 0} (now expires : ℕ) (grants : GrantsOf) (life : ℕ) (flash : List ℕ) (alarm : Armed)
     (old new : Own) (visitor : V) (leaves : Alarm → Seen → A → Alarm → Own → Type 0) (r : Result A (Unvisited V))
-    → Fires now expires leaves → driver ≡ 0 → expires ≡ expiration alarm → is_stale life old ≡ false
+    → Fires now expires leaves → grants.driver ≡ 0 → expires ≡ expiration alarm → is_stale life old ≡ false
     → due_alarm now old ≡ Some alarm
-    → Visits (grants_of driver counts (λ (a : Alarm). AlarmValue a.armed)) visitor leaves life flash old r new
+    → Visits grants (λ (a : Alarm). AlarmValue a.armed) visitor leaves life flash old r new
     → new ≡ own_after (answered now old)
 unfolding answered
-fires now expires driver life counts flash alarm old new visitor leaves (Ok answer) says zero expires_is present due
+fires now expires grants life flash alarm old new visitor leaves (Ok answer) says zero expires_is present due
     visits =
     let v = visits.1 in
     let left = says _ _ _ _ _ v.left in
@@ -57,10 +56,10 @@ fires now expires driver life counts flash alarm old new visitor leaves (Ok answ
     ∙ keeping_commutes alarm_driver (AlarmValue None) (fired now alarm old).schedules
     (showing now old)
     ∙ ap (λ (o : Option Armed). own_after (fired_if now old o)) (sym due)
-fires now expires driver life counts flash alarm old new visitor leaves (Err (NotEntered back)) says zero expires_is
+fires now expires grants life flash alarm old new visitor leaves (Err (NotEntered back)) says zero expires_is
     present due visits =
     absurd (none_kept now old alarm (subst (λ (d : ℕ). kept d old ≡ None) zero visits.1) due)
-fires now expires driver life counts flash alarm old new visitor leaves (Err (Gone back)) says zero expires_is present
+fires now expires grants life flash alarm old new visitor leaves (Err (Gone back)) says zero expires_is present
     due visits =
     absurd (not_stale (is_stale life old) visits.0 present)
 

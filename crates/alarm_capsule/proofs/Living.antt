@@ -5,7 +5,6 @@ use Rattle.std.proofs.Common.{Option, None, Some, Result, Ok, Err}
 use Rattle.std.proofs.Common.{refl, sym, ap, ap₂, subst, ◌∙◌, arith, eq-eqb}
 use Rattle.std.specs.Prelude.{is_some, not, ◌&&◌}
 use Rattle.tk_base.specs.declared.process.ProcessId.{ProcessId}
-use Rattle.tk_base.specs.declared.upcall.Counts.{Counts}
 use Rattle.grant_values.specs.declared.alarm.Alarm.{Alarm}
 use Rattle.grant_values.specs.declared.alarm.Armed.{Armed}
 use Rattle.grant_values.specs.Values.{AlarmValue}
@@ -13,7 +12,7 @@ use Rattle.process_model.specs.Own.{Own}
 use Rattle.process_model.specs.Served.{kept}
 use Rattle.process_seat.specs.declared.visit.Stale.{Stale}
 use Rattle.grant_enter.specs.Homes.{Homes, living, nobody, own_of}
-use Rattle.process_seat.specs.Visits.{Peeks, grants_of, is_stale}
+use Rattle.process_seat.specs.Visits.{GrantsOf, Peeks, is_stale}
 use Rattle.driver_requests.specs.Asking.{IsPresent}
 use Rattle.driver_model.specs.Alarm.{alarm_driver, alarm_in, armed_in, due_alarm, has_due, if_due, ticks_left}
 use Rattle.driver_model.specs.Alarm.{ticks_left_of}
@@ -141,12 +140,12 @@ abbrev pub armed_there : Result (Option Alarm) Stale → Option Armed
 armed_there (Ok (Some value)) = value.armed
 armed_there other = None
 
-pub peeked : (driver life : ℕ) (counts : Counts) (own : Own) (found : Result (Option Alarm) Stale)
-    → driver ≡ alarm_driver → is_stale life own ≡ false
-    → Peeks (grants_of driver counts (λ (a : Alarm). AlarmValue a.armed)) life own found
+pub peeked : (grants : GrantsOf) (life : ℕ) (own : Own) (found : Result (Option Alarm) Stale)
+    → grants.driver ≡ alarm_driver → is_stale life own ≡ false
+    → Peeks grants (λ (a : Alarm). AlarmValue a.armed) life own found
     → armed_there found ≡ alarm_in own
-peeked driver life counts own (Ok (Some value)) is there says =
+peeked grants life own (Ok (Some value)) is there says =
     sym (ap (λ (d : ℕ). armed_in (kept d own)) (sym is) ∙ ap armed_in says.1)
-peeked driver life counts own (Ok None) is there says =
+peeked grants life own (Ok None) is there says =
     sym (ap (λ (d : ℕ). armed_in (kept d own)) (sym is) ∙ ap armed_in says.1)
-peeked driver life counts own (Err stale) is there says = cc
+peeked grants life own (Err stale) is there says = cc

@@ -6,7 +6,6 @@ use Rattle.std.specs.Int.{w32, to_le_bytes}
 use Rattle.std.proofs.lemmas.List.{take-append-drop}
 use Rattle.tk_base.specs.Bytes.{over}
 use Rattle.tk_base.specs.declared.kinds.PairKind.TheVariants.{Readable}
-use Rattle.tk_base.specs.declared.upcall.Counts.{Counts}
 use Rattle.grant_values.specs.declared.alarm.Alarm.{Alarm}
 use Rattle.grant_values.specs.Values.{AlarmValue}
 use Rattle.grant_model.specs.Grants.{Grant, grant_of, pair_of}
@@ -15,7 +14,7 @@ use Rattle.process_model.specs.Served.{kept, own_written, with_kept}
 use Rattle.process_seat.specs.declared.visit.Unvisited.{Unvisited}
 use Rattle.process_seat.specs.declared.visit.Unvisited.TheVariants.{Gone, NotEntered}
 use Rattle.process_seat.specs.Seen.{Seen}
-use Rattle.process_seat.specs.Visits.{Visits, grants_of, is_stale}
+use Rattle.process_seat.specs.Visits.{GrantsOf, Visits, is_stale}
 use Rattle.driver_model.specs.Alarm.{alarm_driver, showing}
 use Rattle.driver_requests.proofs.Keeping.{kept_still}
 use Rattle.alarm_capsule.proofs.Firing.{not_stale}
@@ -48,19 +47,20 @@ abbrev Shows : {A : Type 0} → ℕ → (Alarm → Seen → A → Alarm → Own 
 Shows now leaves = (value : Alarm) (seen : Seen) (answer : _) (value' : Alarm) (own : Own)
     → leaves value seen answer value' own → (value' ≡ value) × (own ≡ showing now seen.own)
 
-pub shown : {A V : Type 0} (now driver life : ℕ) (counts : Counts) (flash : List ℕ) (old new : Own) (visitor : V)
-    (leaves : Alarm → Seen → A → Alarm → Own → Type 0) (r : Result A (Unvisited V)) → Shows now leaves → driver ≡ 0
-    → is_stale life old ≡ false
-    → Visits (grants_of driver counts (λ (a : Alarm). AlarmValue a.armed)) visitor leaves life flash old r new
+pub shown : {A V : Type 0} (now : ℕ) (grants : GrantsOf) (life : ℕ) (flash : List ℕ) (old new : Own) (visitor : V)
+    (leaves : Alarm → Seen → A → Alarm → Own → Type 0) (r : Result A (Unvisited V)) → Shows now leaves
+    → grants.driver ≡ 0 → is_stale life old ≡ false
+    → Visits grants (λ (a : Alarm). AlarmValue a.armed) visitor leaves life flash old r new
     → new ≡ showing now old
-shown now driver life counts flash old new visitor leaves (Ok answer) says is present visits =
+shown now grants life flash old new visitor leaves (Ok answer) says is present visits =
     let v = visits.1 in
     let left = says _ _ _ _ _ v.left in
     v.after
-    ∙ ap (λ (a : Alarm). with_kept driver (AlarmValue a.armed) v.own) left.0
-    ∙ ap (λ (o : Own). with_kept driver (AlarmValue v.was.armed) o) left.1
-    ∙ ap (λ gs. record (showing now old) { grants = gs }) (kept_still driver (AlarmValue v.was.armed) old.grants v.kept)
-shown now driver life counts flash old new visitor leaves (Err (NotEntered back)) says is present visits =
+    ∙ ap (λ (a : Alarm). with_kept grants.driver (AlarmValue a.armed) v.own) left.0
+    ∙ ap (λ (o : Own). with_kept grants.driver (AlarmValue v.was.armed) o) left.1
+    ∙ ap (λ gs. record (showing now old) { grants = gs })
+    (kept_still grants.driver (AlarmValue v.was.armed) old.grants v.kept)
+shown now grants life flash old new visitor leaves (Err (NotEntered back)) says is present visits =
     visits.3 ∙ none_shown now old (subst (λ (d : ℕ). kept d old ≡ None) is visits.1)
-shown now driver life counts flash old new visitor leaves (Err (Gone back)) says is present visits =
+shown now grants life flash old new visitor leaves (Err (Gone back)) says is present visits =
     absurd (not_stale (is_stale life old) visits.0 present)

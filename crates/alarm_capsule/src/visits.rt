@@ -1,5 +1,7 @@
 //! What the alarm does with the value that a process keeps for it.
 ghost use Rattle.std.specs.Prelude.{◌≡◌, ◌<◌};
+ghost use Rattle.grant_values.specs.declared.drivers.Driver.TheVariants.{Alarm as AlarmDriver};
+ghost use Rattle.grant_values.specs.Drivers.{counts_by};
 ghost use Rattle.driver_model.specs.Alarm.{alarm_driver, showing};
 ghost use Rattle.process_seat.specs.Seen.{Framed, IsLent, own_entered, seen};
 
@@ -14,7 +16,8 @@ pub(crate) type Alarms = Grant<Alarm, 1, 0, 0, 1>;
 /// Those that there are.
 #[tactic(auto, unfolding(grant_values::specs::Drivers::counts_of, grant_values::specs::Drivers::drivers))]
 pub(crate) fn alarms() -> Alarms
-    ensures { result.driver ≡ alarm_driver }
+    ensures driver { result.driver ≡ alarm_driver }
+    ensures counts { result.counts ≡ counts_by AlarmDriver }
 {
     Alarms::of(Driver::Alarm.number())
 }

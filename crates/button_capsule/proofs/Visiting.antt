@@ -4,7 +4,6 @@ use Rattle.std.proofs.Common.{Result, Ok, Err, refl, ap, sym, ◌∙◌}
 use Rattle.std.proofs.lemmas.Bool.{lt-ltb}
 use Rattle.tk_base.specs.Bits.{bit_of, has_bit, with_bit}
 use Rattle.tk_base.specs.declared.call.CallRule.TheVariants.{Range}
-use Rattle.tk_base.specs.declared.upcall.Counts.{Counts}
 use Rattle.upcall_queue.specs.Pending.{is_taken}
 use Rattle.grant_values.specs.declared.buttons.Buttons.{Buttons}
 use Rattle.grant_values.specs.Values.{KeptValue, ButtonsValue}
@@ -17,7 +16,7 @@ use Rattle.driver_model.specs.Parts.{with_enabled}
 use Rattle.process_seat.specs.declared.visit.Unvisited.{Unvisited}
 use Rattle.process_seat.specs.declared.visit.Unvisited.TheVariants.{Gone, NotEntered}
 use Rattle.process_seat.specs.Seen.{Seen}
-use Rattle.process_seat.specs.Visits.{Visits, grants_of, is_stale}
+use Rattle.process_seat.specs.Visits.{GrantsOf, Visits, is_stale}
 use Rattle.driver_requests.specs.Asking.{in_life}
 use Rattle.driver_requests.proofs.Keeping.{kept_still}
 use Rattle.button_capsule.proofs.Masks.{no_bit, none_put}
@@ -69,13 +68,13 @@ not_there true false on args own e = refl
 not_there false true on args own e = refl
 not_there false false on args own e = refl
 
-pub tells : {V : Type 0} (button : ℕ) (state : Bool) (driver life : ℕ) (counts : Counts) (flash : List ℕ)
+pub tells : {V : Type 0} (button : ℕ) (state : Bool) (grants : GrantsOf) (life : ℕ) (flash : List ℕ)
     (old new : Own) (visitor : V) (leaves : Buttons → Seen → Bool → Buttons → Own → Type 0)
-    (r : Result Bool (Unvisited V)) → Tells button state leaves → driver ≡ buttons
-    → Visits (grants_of driver counts (λ (b : Buttons). ButtonsValue b.enabled)) visitor leaves life flash old r new
+    (r : Result Bool (Unvisited V)) → Tells button state leaves → grants.driver ≡ buttons
+    → Visits grants (λ (b : Buttons). ButtonsValue b.enabled) visitor leaves life flash old r new
     → new ≡ in_life life old (own_after (edged button state old)) old
 unfolding edged
-tells button state driver life counts flash old new visitor leaves (Ok answer) says is visits =
+tells button state grants life flash old new visitor leaves (Ok answer) says is visits =
     let v = visits.1 in
     let left = says _ _ _ _ _ v.left in
     let args = args_of button state in
@@ -88,26 +87,26 @@ tells button state driver life counts flash old new visitor leaves (Ok answer) s
     ∙ keeps (has_bit v.was.enabled button) args old (ButtonsValue v.was.enabled) was
     ∙ ap (λ (o : Option KeptValue). told_if (has_bit (enabled_in o) button) buttons args old) (sym was)
     ∙ there old.lives (old.life == life) (has_bit (enabled old) button) args old visits.0
-tells button state driver life counts flash old new visitor leaves (Err (NotEntered back)) says is visits =
+tells button state grants life flash old new visitor leaves (Err (NotEntered back)) says is visits =
     let args = args_of button state in
     let none : kept buttons old ≡ None = ap (λ (d : ℕ). kept d old) (sym is) ∙ visits.1 in
     visits.3
     ∙ ap (λ (b : Bool). told_if b buttons args old) (sym (no_bit button))
     ∙ ap (λ (o : Option KeptValue). told_if (has_bit (enabled_in o) button) buttons args old) (sym none)
     ∙ there old.lives (old.life == life) (has_bit (enabled old) button) args old visits.0
-tells button state driver life counts flash old new visitor leaves (Err (Gone back)) says is visits =
+tells button state grants life flash old new visitor leaves (Err (Gone back)) says is visits =
     visits.2
     ∙ not_there old.lives (old.life == life) (has_bit (enabled old) button) (args_of button state) old visits.0
 
 not_stale : (b : Bool) → b ≡ true → b ≡ false → ⊥
 not_stale b e f = cc
 
-pub disables : {A V : Type 0} (button driver life : ℕ) (counts : Counts) (flash : List ℕ) (old new : Own) (visitor : V)
+pub disables : {A V : Type 0} (button : ℕ) (grants : GrantsOf) (life : ℕ) (flash : List ℕ) (old new : Own) (visitor : V)
     (leaves : Buttons → Seen → A → Buttons → Own → Type 0) (r : Result A (Unvisited V))
-    → Disables button leaves → driver ≡ buttons → is_stale life old ≡ false
-    → Visits (grants_of driver counts (λ (b : Buttons). ButtonsValue b.enabled)) visitor leaves life flash old r new
+    → Disables button leaves → grants.driver ≡ buttons → is_stale life old ≡ false
+    → Visits grants (λ (b : Buttons). ButtonsValue b.enabled) visitor leaves life flash old r new
     → new ≡ set_enabled button false old
-disables button driver life counts flash old new visitor leaves (Ok answer) says is present visits =
+disables button grants life flash old new visitor leaves (Ok answer) says is present visits =
     let v = visits.1 in
     let left = says _ _ _ _ _ v.left in
     let was : kept buttons old ≡ Some (ButtonsValue v.was.enabled) = ap (λ (d : ℕ). kept d old) (sym is) ∙ v.kept in
@@ -116,10 +115,10 @@ disables button driver life counts flash old new visitor leaves (Ok answer) says
     ∙ ap (λ (b : Buttons). with_kept buttons (ButtonsValue b.enabled) v.own) left.0
     ∙ ap (with_enabled (with_bit v.was.enabled button false)) left.1
     ∙ ap (λ (o : Option KeptValue). with_enabled (with_bit (enabled_in o) button false) old) (sym was)
-disables button driver life counts flash old new visitor leaves (Err (NotEntered back)) says is present visits =
+disables button grants life flash old new visitor leaves (Err (NotEntered back)) says is present visits =
     let none : kept buttons old ≡ None = ap (λ (d : ℕ). kept d old) (sym is) ∙ visits.1 in
     visits.3 ∙ ap (λ gs. record old { grants = gs }) (sym (none_put buttons _ old.grants none))
-disables button driver life counts flash old new visitor leaves (Err (Gone back)) says is present visits =
+disables button grants life flash old new visitor leaves (Err (Gone back)) says is present visits =
     absurd (not_stale (is_stale life old) visits.0 present)
 
 -- a command for a button that there is goes through

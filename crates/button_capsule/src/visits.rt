@@ -1,5 +1,7 @@
 //! What the buttons do with the value that a process keeps for them.
 ghost use Rattle.std.specs.Prelude.{◌≡◌};
+ghost use Rattle.grant_values.specs.declared.drivers.Driver.TheVariants.{Buttons as ButtonsDriver};
+ghost use Rattle.grant_values.specs.Drivers.{counts_by};
 ghost use Rattle.driver_model.specs.Buttons.{buttons};
 
 use grant_enter::{Entered, Grant, Visit, frames_join};
@@ -12,7 +14,8 @@ pub(crate) type ButtonGrants = Grant<Buttons, 1, 0, 0, 0>;
 /// Those that there are.
 #[tactic(auto, unfolding(grant_values::specs::Drivers::counts_of, grant_values::specs::Drivers::drivers))]
 pub(crate) fn button_grants() -> ButtonGrants
-    ensures { result.driver ≡ buttons }
+    ensures driver { result.driver ≡ buttons }
+    ensures counts { result.counts ≡ counts_by ButtonsDriver }
 {
     ButtonGrants::of(Driver::Buttons.number())
 }

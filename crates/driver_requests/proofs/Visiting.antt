@@ -1,15 +1,14 @@
 -- A visit to the request of a process.
 use Rattle.std.proofs.Common.{◌≡◌, ℕ, ◌==◌, Bool, true, false, cond, not, ◌&&◌, List, Option, None, Some, IfSome}
 use Rattle.std.proofs.Common.{option_and_then, unwrap_or, Result, refl, ap, sym, subst, ◌∙◌}
-use Rattle.tk_base.specs.declared.upcall.Counts.{Counts}
 use Rattle.grant_values.specs.Values.{KeptValue, NoValue}
 use Rattle.process_model.specs.Own.{Own}
 use Rattle.process_model.specs.Served.{kept, with_kept}
 use Rattle.driver_model.specs.Requests.{RequestKind, request_in, with_request}
 use Rattle.driver_model.specs.Steps.{DriverStep}
 use Rattle.driver_model.proofs.Requesting.{requesting_commutes}
-use Rattle.process_seat.specs.Seen.{Seen, seen_of}
-use Rattle.process_seat.specs.Visits.{Visited, grants_of, is_stale}
+use Rattle.process_seat.specs.Seen.{Seen}
+use Rattle.process_seat.specs.Visits.{GrantsOf, Visited, is_stale, seen_by}
 use Rattle.driver_requests.specs.Asking.{waiting_of}
 use Rattle.driver_requests.specs.Visits.{ServesWaiting, VisitsRequest}
 use Rattle.driver_requests.proofs.Keeping.{kept_still}
@@ -34,18 +33,18 @@ present true true request e = refl
 present true false request e = cc
 present false same request e = cc
 
-module _ {R T A V : Type 0} (request_kind : RequestKind R) (driver life : ℕ) (counts : Counts) (keeps : T → KeptValue)
+module _ {R T A V : Type 0} (request_kind : RequestKind R) (grants : GrantsOf) (life : ℕ) (keeps : T → KeptValue)
     (flash : List ℕ) (visitor : V) (step : R → Seen → DriverStep) (rest : R → Seen → Option R)
     (answers : R → Seen → A → Type 0)
     (leaves : T → Seen → Result A V → T → Own → Type 0) (old new : Own) (answer : Result A V)
-    (is : driver ≡ request_kind.driver)
-    (says : (value value' : T) (own : Own) → leaves value (seen_of driver counts flash old) answer value' own
-    → ServesWaiting request_kind visitor step rest answers (seen_of driver counts flash old)
+    (is : grants.driver ≡ request_kind.driver)
+    (says : (value value' : T) (own : Own) → leaves value (seen_by grants flash old) answer value' own
+    → ServesWaiting request_kind visitor step rest answers (seen_by grants flash old)
     (request_kind.told (keeps value)) (keeps value) answer (keeps value') own)
     (present_is : is_stale life old ≡ false)
-    (v : Visited (grants_of driver counts keeps) leaves flash old answer new) where
+    (v : Visited grants keeps leaves flash old answer new) where
   abbrev seen : Seen
-  seen = seen_of driver counts flash old
+  seen = seen_by grants flash old
 
   -- the value that was kept
   was : kept request_kind.driver old ≡ Some (keeps v.was)
@@ -56,15 +55,15 @@ module _ {R T A V : Type 0} (request_kind : RequestKind R) (driver life : ℕ) (
       → VisitsRequest request_kind visitor step rest answers seen waiting answer new
   serves None s = (
     s.0,
-    v.after ∙ ap (λ k. with_kept driver k v.own) s.1 ∙ ap (with_kept driver (keeps v.was)) s.2
-        ∙ ap (λ gs. record old { grants = gs }) (kept_still driver (keeps v.was) old.grants v.kept),
+    v.after ∙ ap (λ k. with_kept grants.driver k v.own) s.1 ∙ ap (with_kept grants.driver (keeps v.was)) s.2
+        ∙ ap (λ gs. record old { grants = gs }) (kept_still grants.driver (keeps v.was) old.grants v.kept),
   )
   serves (Some request) s =
       let kind = request_kind in
       let still = ap (kept kind.driver) v.serves.rest ∙ was in (
         s.0,
         s.1,
-        v.after ∙ ap (λ k. with_kept driver k v.own) s.2
+        v.after ∙ ap (λ k. with_kept grants.driver k v.own) s.2
             ∙ ap (λ d. with_kept d (kind.with_request (rest request seen) (keeps v.was)) v.own) is
             ∙ ap (λ k. with_kept kind.driver (kind.with_request (rest request seen) (unwrap_or k NoValue)) v.own)
             (sym still)

@@ -88,6 +88,7 @@ impl<R: Request + Drop> RequestQueue<R> {
             result self.new home.new }
     {
         home.owns_lie_in_place();
+        grants.are_counted();
         let last = id;
         let Ok(begins) = grants.enter(home, id, Begin { request }) else {
             return Err(CallRule::NoRoom);

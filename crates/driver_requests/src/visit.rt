@@ -1,9 +1,8 @@
 //! The visit to a request that waits.
 ghost use Rattle.std.specs.Prelude.{◌≡◌, Some};
-ghost use Rattle.grant_values.specs.Drivers.{counting};
 ghost use Rattle.driver_model.specs.Requests.{request_in};
 ghost use Rattle.grant_enter.specs.Homes.{own_of, ChangesOnly};
-ghost use Rattle.process_seat.specs.Seen.{seen_of};
+ghost use Rattle.process_seat.specs.Visits.{seen_by};
 ghost use Rattle.driver_requests.specs.Asking.{waiting_of};
 ghost use Rattle.driver_requests.specs.Visits.{VisitsRequest};
 
@@ -100,13 +99,12 @@ pub fn visit_request<
 ) -> Result<V::Answer, V>
     requires driver { grants.now.driver ≡ R.request_kind.driver }
     requires asks { let own = own_of home.old id.slot in
-        (request : R) → request_in R.request_kind own ≡ Some request → V.asks visitor request
-        (seen_of grants.now.driver (counting UP RO RW UR R.Value.SIZE) home.old.flash own) }
+        (request : R) → request_in R.request_kind own ≡ Some request
+        → V.asks visitor request (seen_by grants.now home.old.flash own) }
     ensures visits { let own = own_of home.old id.slot in
-        let counts = counting UP RO RW UR R.Value.SIZE in
-        let seen = seen_of grants.now.driver counts home.old.flash own in
         VisitsRequest R.request_kind visitor (V.step visitor) (V.rest visitor) (V.answers visitor)
-        seen (waiting_of R.request_kind id.life own) result (own_of home.new id.slot) }
+        (seen_by grants.now home.old.flash own) (waiting_of R.request_kind id.life own) result
+        (own_of home.new id.slot) }
     ensures rest { ChangesOnly id.slot home.old home.new }
 {
     let of_request = OfRequest {

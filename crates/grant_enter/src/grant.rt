@@ -3,16 +3,17 @@ ghost use Rattle.std.specs.Prelude.{◌≡◌, Some};
 ghost use Rattle.grant_values.specs.Drivers.{counting, counts_of, driver_of};
 ghost use Rattle.process_model.specs.Handed.{own_entering};
 ghost use Rattle.grant_enter.specs.Homes.{ChangesOnly, own_of};
-ghost use Rattle.process_seat.specs.Visits.{Asks, Enters, IsCounted, Peeks, Visits, grants_of};
+ghost use Rattle.process_seat.specs.Visits.{Asks, Enters, IsCounted, Peeks, Visits};
 
 use crate::home::Home;
 use grant_values::GrantValue;
 use process_seat::{EnterError, Stale, Unvisited, Visit, enter_seat, peek_seat, visit_seat};
-use std::marker::PhantomData;
+use std::marker::{Model, PhantomData};
 use tk_base::{Counts, ProcessId};
 
 /// The grants that processes keep for one driver (Levy et al., SOSP 2017, section 4): the type of
 /// their value, and how many upcalls and read-only, read-write and readable buffers they have.
+/// Contracts see the driver's number and these counts.
 #[derive(Drop)]
 pub struct Grant<
     T: GrantValue,
@@ -21,12 +22,23 @@ pub struct Grant<
     const RW: usize,
     const UR: usize,
 > {
-    /// The driver's number.
-    pub driver: u32,
+    driver: u32,
     counts: Counts,
     value: PhantomData<T>,
-    ghost counts_are: { counts ≡ counting UP RO RW UR T.SIZE },
-    ghost known: { IsCounted T.driver driver counts T.SIZE },
+}
+
+impl<T: GrantValue, const UP: usize, const RO: usize, const RW: usize, const UR: usize> Model
+    for Grant<T, UP, RO, RW, UR> {
+    ghost use Rattle.std.specs.Prelude.{◌≡◌};
+    ghost use Rattle.grant_values.specs.Drivers.{counting};
+    ghost use Rattle.process_seat.specs.Visits.{GrantsOf, IsCounted, grants_of};
+
+    ghost Value = { GrantsOf };
+
+    ghost view = { λ grant. grants_of grant.driver grant.counts };
+
+    ghost invariant = { λ grant. (grant.counts ≡ counting UP RO RW UR T.SIZE)
+        × IsCounted T.driver grant.driver grant.counts T.SIZE };
 }
 
 impl<T: GrantValue, const UP: usize, const RO: usize, const RW: usize, const UR: usize> Grant<
@@ -40,7 +52,8 @@ impl<T: GrantValue, const UP: usize, const RO: usize, const RW: usize, const UR:
     pub fn of(driver: u32) -> Grant<T, UP, RO, RW, UR>
         requires value { driver_of driver ≡ Some T.driver }
         requires counts { counts_of driver ≡ Some (counting UP RO RW UR T.SIZE) }
-        ensures { result.driver ≡ driver }
+        ensures driver { result.driver ≡ driver }
+        ensures counts { result.counts ≡ counting UP RO RW UR T.SIZE }
     {
         Grant {
             driver,
@@ -53,6 +66,14 @@ impl<T: GrantValue, const UP: usize, const RO: usize, const RW: usize, const UR:
             },
             value: PhantomData,
         }
+    }
+
+    /// As always, the counts are those of the type, and of the driver. The function does nothing.
+    pub fn are_counted(&self)
+        ensures counts { self.now.counts ≡ counting UP RO RW UR T.SIZE }
+        ensures known { IsCounted T.driver self.now.driver self.now.counts T.SIZE }
+    {
+        let _counts = self.counts;
     }
 
     /// Enters the grant that a process keeps for the driver, which is made, fresh, at first use:
@@ -69,11 +90,9 @@ impl<T: GrantValue, const UP: usize, const RO: usize, const RW: usize, const UR:
         id: ProcessId,
         visitor: V,
     ) -> Result<V::Answer, EnterError>
-        requires asks { Asks (grants_of self.now.driver (counting UP RO RW UR T.SIZE) T.kept)
-            (V.asks visitor) home.old.flash
+        requires asks { Asks self.now T.kept (V.asks visitor) home.old.flash
             (own_entering self.now.driver (own_of home.old id.slot)) }
-        ensures enters { Enters (grants_of self.now.driver (counting UP RO RW UR T.SIZE) T.kept)
-            (V.leaves visitor) id.life home.old.flash
+        ensures enters { Enters self.now T.kept (V.leaves visitor) id.life home.old.flash
             (own_of home.old id.slot) result (own_of home.new id.slot) }
         ensures rest { ChangesOnly id.slot home.old home.new }
     {
@@ -94,10 +113,9 @@ impl<T: GrantValue, const UP: usize, const RO: usize, const RW: usize, const UR:
         id: ProcessId,
         visitor: V,
     ) -> Result<V::Answer, Unvisited<V>>
-        requires asks { Asks (grants_of self.now.driver (counting UP RO RW UR T.SIZE) T.kept)
-            (V.asks visitor) home.old.flash (own_of home.old id.slot) }
-        ensures visits { Visits (grants_of self.now.driver (counting UP RO RW UR T.SIZE) T.kept)
-            visitor (V.leaves visitor) id.life home.old.flash
+        requires asks { Asks self.now T.kept (V.asks visitor) home.old.flash
+            (own_of home.old id.slot) }
+        ensures visits { Visits self.now T.kept visitor (V.leaves visitor) id.life home.old.flash
             (own_of home.old id.slot) result (own_of home.new id.slot) }
         ensures rest { ChangesOnly id.slot home.old home.new }
     {
@@ -112,8 +130,7 @@ impl<T: GrantValue, const UP: usize, const RO: usize, const RW: usize, const UR:
     /// driver in this life. It is stale exactly where the process has ended or is in another life,
     /// or none was placed in the slot.
     pub fn peek(&self, home: &Home, id: ProcessId) -> Result<Option<T>, Stale>
-        ensures { Peeks (grants_of self.now.driver (counting UP RO RW UR T.SIZE) T.kept) id.life
-            (own_of home.now id.slot) result }
+        ensures { Peeks self.now T.kept id.life (own_of home.now id.slot) result }
     {
         if !home.is_there(&id) {
             return Err(Stale);

@@ -146,24 +146,24 @@ value_again driver counts m seat l at size v m1 seat1 w =
     (subst (λ (xs : List ℕ). IsValue xs at size driver) (sym (kernel_same driver counts m seat l m1 seat1 w)) v)
 
 -- a visitor was run between the reading of a value and the keeping of it
-module _ {T A : Type 0} (grants : GrantsOf T) (leaves : T → Seen → A → T → Own → Type 0) (m : MemoryBytes)
-    (seat : Seat) (l : IsLentTo grants.driver grants.counts m seat) (at size : ℕ)
+module _ {T A : Type 0} (grants : GrantsOf) (keeps : T → KeptValue) (leaves : T → Seen → A → T → Own → Type 0)
+    (m : MemoryBytes) (seat : Seat) (l : IsLentTo grants.driver grants.counts m seat) (at size : ℕ)
     (v : IsValue (kernel_in m.ram seat.layout) at size grants.driver) (was : T)
-    (is : grants.keeps was
+    (is : keeps was
     ≡ value_told grants.driver (words_of (take size (drop at (kernel_in m.ram seat.layout))))) where
-  was_kept : kept grants.driver (own_in m.ram seat) ≡ Some (grants.keeps was)
+  was_kept : kept grants.driver (own_in m.ram seat) ≡ Some (keeps was)
   was_kept =
       kept_is grants.driver (own_in m.ram seat) v.grant v.is
       ∙ ap Some (sym (is ∙ ap (value_told grants.driver) v.taken ∙ v.fits.told))
 
   -- what it asks
-  pub asks_by : (asks : T → Seen → Type 0) → Asks grants asks m.flash (own_in m.ram seat)
+  pub asks_by : (asks : T → Seen → Type 0) → Asks grants keeps asks m.flash (own_in m.ram seat)
       → asks was (seen_by grants m.flash (own_in m.ram seat))
   asks_by asks may = may was was_kept
 
   module _ (m1 : MemoryBytes) (seat1 : Seat) (w : ServesIn grants.driver m seat m1 seat1) (value : T)
-      (can : CanBeKept grants.driver (grants.keeps value))
-      (long : length (value_put (kernel_in m1.ram seat1.layout) at size (grants.keeps value))
+      (can : CanBeKept grants.driver (keeps value))
+      (long : length (value_put (kernel_in m1.ram seat1.layout) at size (keeps value))
       ≡ length (kernel_in m1.ram seat1.layout)) where
     again : IsLentTo grants.driver grants.counts m1 seat1
     again = still_lent grants.driver grants.counts m seat l m1 seat1 w
@@ -174,8 +174,8 @@ module _ {T A : Type 0} (grants : GrantsOf T) (leaves : T → Seen → A → T �
     -- what it left
     pub visited_by : (answer : A)
         → leaves was (seen_by grants m.flash (own_in m.ram seat)) answer value (own_in m1.ram seat1)
-        → Visited grants leaves m.flash (own_in m.ram seat) answer
-        (own_in (with_value_in m1 seat1.layout at size (grants.keeps value)).ram seat1)
+        → Visited grants keeps leaves m.flash (own_in m.ram seat) answer
+        (own_in (with_value_in m1 seat1.layout at size (keeps value)).ram seat1)
     visited_by answer left = record {
       was = was;
       kept = was_kept;
@@ -183,11 +183,11 @@ module _ {T A : Type 0} (grants : GrantsOf T) (leaves : T → Seen → A → T �
       own = own_in m1.ram seat1;
       left = left;
       serves = serving_own grants.driver grants.counts m seat l m1 seat1 w;
-      after = kept_own grants.driver grants.counts m1 seat1 again at size (grants.keeps value) stands can long;
+      after = kept_own grants.driver grants.counts m1 seat1 again at size (keeps value) stands can long;
     }
 
-    pub visit_reseats : Reseats m seat (with_value_in m1 seat1.layout at size (grants.keeps value)) seat1
+    pub visit_reseats : Reseats m seat (with_value_in m1 seat1.layout at size (keeps value)) seat1
     visit_reseats =
-        reseats_on m seat m1 seat1 (with_value_in m1 seat1.layout at size (grants.keeps value)) seat1
+        reseats_on m seat m1 seat1 (with_value_in m1 seat1.layout at size (keeps value)) seat1
         (serving_reseats grants.driver grants.counts m seat l m1 seat1 w)
-        (kept_reseats grants.driver grants.counts m1 seat1 again at size (grants.keeps value) stands can long)
+        (kept_reseats grants.driver grants.counts m1 seat1 again at size (keeps value) stands can long)

@@ -14,17 +14,17 @@ use Rattle.process_seat.specs.declared.visit.Unvisited.{Unvisited}
 use Rattle.process_seat.specs.declared.visit.Unvisited.TheVariants.{Gone, NotEntered}
 use Rattle.process_seat.specs.Seen.{Seen, VisitorChanges, seen_of}
 
--- the grants that processes keep for one driver: its number, its counts, and what a value of theirs is
-pub record GrantsOf (T : Type 0) : Type 0 where
+-- The grants that processes keep for one driver: its number, and its counts. What is kept of a value of theirs
+-- (`keeps`) is told beside them.
+pub record GrantsOf : Type 0 where
   pub driver : ℕ
   pub counts : Counts
-  pub keeps : T → KeptValue
 
-abbrev pub grants_of : {T : Type 0} → ℕ → Counts → (T → KeptValue) → GrantsOf T
-grants_of driver counts keeps = record { driver = driver; counts = counts; keeps = keeps }
+abbrev pub grants_of : ℕ → Counts → GrantsOf
+grants_of driver counts = record { driver = driver; counts = counts }
 
--- what its driver sees of a process
-abbrev pub seen_by : {T : Type 0} → GrantsOf T → List ℕ → Own → Seen
+-- what their driver sees of a process
+abbrev pub seen_by : GrantsOf → List ℕ → Own → Seen
 seen_by grants flash own = seen_of grants.driver grants.counts flash own
 
 -- the process of a life is not there: it has ended, or is in another life
@@ -38,47 +38,47 @@ pub record IsCounted (driver : Driver) (number : ℕ) (counts : Counts) (size : 
   pub value : size ≡ counts.value
 
 -- what a visitor asks of a process that keeps a value for its driver
-abbrev pub Asks : {T : Type 0} → GrantsOf T → (T → Seen → Type 0) → List ℕ → Own → Type 0
-Asks grants asks flash own =
-    (value : _) → kept grants.driver own ≡ Some (grants.keeps value) → asks value (seen_by grants flash own)
+abbrev pub Asks : {T : Type 0} → GrantsOf → (T → KeptValue) → (T → Seen → Type 0) → List ℕ → Own → Type 0
+Asks grants keeps asks flash own =
+    (value : _) → kept grants.driver own ≡ Some (keeps value) → asks value (seen_by grants flash own)
 
 -- A visitor was given the value that the process kept, and left by its own contract some value and some own; the
 -- process is that own, and keeps that value.
-pub record Visited {T A : Type 0} (grants : GrantsOf T) (leaves : T → Seen → A → T → Own → Type 0) (flash : List ℕ)
-    (old : Own) (answer : A) (new : Own) : Type 0 where
+pub record Visited {T A : Type 0} (grants : GrantsOf) (keeps : T → KeptValue)
+    (leaves : T → Seen → A → T → Own → Type 0) (flash : List ℕ) (old : Own) (answer : A) (new : Own) : Type 0 where
   pub was : T
-  pub kept : kept grants.driver old ≡ Some (grants.keeps was)
+  pub kept : kept grants.driver old ≡ Some (keeps was)
   pub value : T
   pub own : Own
   pub left : leaves was (seen_by grants flash old) answer value own
   pub serves : VisitorChanges grants.driver old own
-  pub after : new ≡ with_kept grants.driver (grants.keeps value) own
+  pub after : new ≡ with_kept grants.driver (keeps value) own
 
 -- A driver enters a process of a life: it visits the value that is kept, or the fresh one, which is made; or the
 -- process is not there; or there is no room. Where it is refused the process is as it was.
-abbrev pub Enters : {T A : Type 0} → GrantsOf T → (T → Seen → A → T → Own → Type 0) → ℕ → List ℕ → Own
-    → Result A EnterError → Own → Type 0
-Enters grants leaves life flash old (Ok answer) new =
+abbrev pub Enters : {T A : Type 0} → GrantsOf → (T → KeptValue) → (T → Seen → A → T → Own → Type 0) → ℕ → List ℕ
+    → Own → Result A EnterError → Own → Type 0
+Enters grants keeps leaves life flash old (Ok answer) new =
     (is_stale life old ≡ false) × (has_place grants.driver old ≡ true)
-    × Visited grants leaves flash (own_entering grants.driver old) answer new
-Enters grants leaves life flash old (Err Stale) new = (is_stale life old ≡ true) × (new ≡ old)
-Enters grants leaves life flash old (Err NoRoom) new =
+    × Visited grants keeps leaves flash (own_entering grants.driver old) answer new
+Enters grants keeps leaves life flash old (Err Stale) new = (is_stale life old ≡ true) × (new ≡ old)
+Enters grants keeps leaves life flash old (Err NoRoom) new =
     (is_stale life old ≡ false) × (has_place grants.driver old ≡ false) × (new ≡ old)
 
 -- A driver visits a process of a life, and makes nothing: it visits the value that is kept; or none is; or the process
 -- is not there. A visitor that was not run is handed back.
-abbrev pub Visits : {T A V : Type 0} → GrantsOf T → V → (T → Seen → A → T → Own → Type 0) → ℕ → List ℕ → Own
-    → Result A (Unvisited V) → Own → Type 0
-Visits grants visitor leaves life flash old (Ok answer) new =
-    (is_stale life old ≡ false) × Visited grants leaves flash old answer new
-Visits grants visitor leaves life flash old (Err (NotEntered back)) new =
+abbrev pub Visits : {T A V : Type 0} → GrantsOf → (T → KeptValue) → V → (T → Seen → A → T → Own → Type 0) → ℕ → List ℕ
+    → Own → Result A (Unvisited V) → Own → Type 0
+Visits grants keeps visitor leaves life flash old (Ok answer) new =
+    (is_stale life old ≡ false) × Visited grants keeps leaves flash old answer new
+Visits grants keeps visitor leaves life flash old (Err (NotEntered back)) new =
     (is_stale life old ≡ false) × (kept grants.driver old ≡ None) × (back ≡ visitor) × (new ≡ old)
-Visits grants visitor leaves life flash old (Err (Gone back)) new =
+Visits grants keeps visitor leaves life flash old (Err (Gone back)) new =
     (is_stale life old ≡ true) × (back ≡ visitor) × (new ≡ old)
 
 -- A driver looks at the value that a process of a life keeps, or sees that it keeps none; or the process is not there.
-abbrev pub Peeks : {T : Type 0} → GrantsOf T → ℕ → Own → Result (Option T) IsStale → Type 0
-Peeks grants life own (Ok (Some value)) =
-    (is_stale life own ≡ false) × (kept grants.driver own ≡ Some (grants.keeps value))
-Peeks grants life own (Ok None) = (is_stale life own ≡ false) × (kept grants.driver own ≡ None)
-Peeks grants life own (Err stale) = is_stale life own ≡ true
+abbrev pub Peeks : {T : Type 0} → GrantsOf → (T → KeptValue) → ℕ → Own → Result (Option T) IsStale → Type 0
+Peeks grants keeps life own (Ok (Some value)) =
+    (is_stale life own ≡ false) × (kept grants.driver own ≡ Some (keeps value))
+Peeks grants keeps life own (Ok None) = (is_stale life own ≡ false) × (kept grants.driver own ≡ None)
+Peeks grants keeps life own (Err stale) = is_stale life own ≡ true

@@ -109,9 +109,9 @@ fn visit_at<T: GrantValue, V: Visit<T>>(
     requires counted { IsCounted T.driver place.driver place.counts T.SIZE }
     requires stands { IsValue (kernel_in memory.old.ram seat.old.layout) place.at
         (value_bytes place.driver) place.driver }
-    requires asks { Asks (grants_of place.driver place.counts T.kept) (V.asks visitor)
+    requires asks { Asks (grants_of place.driver place.counts) T.kept (V.asks visitor)
         memory.old.flash (own_in memory.old.ram seat.old) }
-    ensures visited { Visited (grants_of place.driver place.counts T.kept) (V.leaves visitor)
+    ensures visited { Visited (grants_of place.driver place.counts) T.kept (V.leaves visitor)
         memory.old.flash (own_in memory.old.ram seat.old) result
         (own_in memory.new.ram seat.new) }
     ensures reseats { Reseats memory.old seat.old memory.new seat.new }
@@ -157,9 +157,9 @@ pub fn enter_seat<T: GrantValue, V: Visit<T> + Drop>(
     requires sits { SitsIn memory.old seat.old }
     requires lives { seat.old.lives ≡ true }
     requires counted { IsCounted T.driver driver counts T.SIZE }
-    requires asks { Asks (grants_of driver counts T.kept) (V.asks visitor) memory.old.flash
+    requires asks { Asks (grants_of driver counts) T.kept (V.asks visitor) memory.old.flash
         (own_entering driver (own_in memory.old.ram seat.old)) }
-    ensures enters { Enters (grants_of driver counts T.kept) (V.leaves visitor) seat.old.life
+    ensures enters { Enters (grants_of driver counts) T.kept (V.leaves visitor) seat.old.life
         memory.old.flash (own_in memory.old.ram seat.old) result (own_in memory.new.ram seat.new) }
     ensures reseats { Reseats memory.old seat.old memory.new seat.new }
 {
@@ -183,10 +183,11 @@ pub fn visit_seat<T: GrantValue, V: Visit<T> + Drop>(
     requires sits { SitsIn memory.old seat.old }
     requires lives { seat.old.lives ≡ true }
     requires counted { IsCounted T.driver driver counts T.SIZE }
-    requires asks { Asks (grants_of driver counts T.kept) (V.asks visitor) memory.old.flash
+    requires asks { Asks (grants_of driver counts) T.kept (V.asks visitor) memory.old.flash
         (own_in memory.old.ram seat.old) }
-    ensures visits { Visits (grants_of driver counts T.kept) visitor (V.leaves visitor) seat.old.life
-        memory.old.flash (own_in memory.old.ram seat.old) result (own_in memory.new.ram seat.new) }
+    ensures visits { Visits (grants_of driver counts) T.kept visitor (V.leaves visitor)
+        seat.old.life memory.old.flash (own_in memory.old.ram seat.old) result
+        (own_in memory.new.ram seat.new) }
     ensures reseats { Reseats memory.old seat.old memory.new seat.new }
 {
     match value_place(kernel_of(memory, &seat.layout), driver, counts) {
@@ -205,7 +206,7 @@ pub fn peek_seat<T: GrantValue>(
     requires sits { SitsIn memory.now seat.now }
     requires lives { seat.now.lives ≡ true }
     requires counted { IsCounted T.driver driver counts T.SIZE }
-    ensures peeks { Peeks (grants_of driver counts T.kept) seat.now.life
+    ensures peeks { Peeks (grants_of driver counts) T.kept seat.now.life
         (own_in memory.now.ram seat.now) (Ok result) }
 {
     kept_in::<T>(kernel_of(memory, &seat.layout), driver, &counts)

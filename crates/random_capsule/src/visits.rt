@@ -1,6 +1,8 @@
 //! What the source does with the value that a process keeps for it.
 ghost use Rattle.std.specs.Prelude.{◌≡◌, ◌+◌, ◌-◌, ◌<◌, ◌≤◌, ◌^◌};
 ghost use Rattle.process_seat.specs.Seen.{Framed, IsLent, own_entered};
+ghost use Rattle.grant_values.specs.declared.drivers.Driver.TheVariants.{Random as RandomDriver};
+ghost use Rattle.grant_values.specs.Drivers.{counts_by};
 ghost use Rattle.driver_model.specs.Random.{completing, drawing, progress, random, wanted};
 ghost use Rattle.random_capsule.specs.Steps.{MayBeServed, Progresses};
 
@@ -23,7 +25,8 @@ pub(crate) type Randoms = Grant<Random, 1, 0, 1, 0>;
 /// Those that there are.
 #[tactic(auto, unfolding(grant_values::specs::Drivers::counts_of, grant_values::specs::Drivers::drivers))]
 pub(crate) fn randoms() -> Randoms
-    ensures { result.driver ≡ random }
+    ensures driver { result.driver ≡ random }
+    ensures counts { result.counts ≡ counts_by RandomDriver }
 {
     Randoms::of(Driver::Random.number())
 }

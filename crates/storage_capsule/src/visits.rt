@@ -6,6 +6,8 @@ ghost use Rattle.board_devices.specs.Storage.{bytes_from, slot_bytes};
 ghost use Rattle.process_model.specs.Flash.{flash_byte};
 ghost use Rattle.process_model.specs.Served.{ram_at, with_written};
 ghost use Rattle.process_seat.specs.Seen.{Framed, IsLent, own_entered, seen};
+ghost use Rattle.grant_values.specs.declared.drivers.Driver.TheVariants.{Storage as StorageDriver};
+ghost use Rattle.grant_values.specs.Drivers.{counts_by};
 ghost use Rattle.driver_model.specs.Storage.{completing, moving, storage_served, storage};
 ghost use Rattle.driver_model.specs.Steps.{own_after};
 ghost use Rattle.storage_capsule.specs.Serving.{storage_after};
@@ -30,7 +32,8 @@ pub(crate) type Storages = Grant<Storage, 2, 1, 1, 0>;
 /// Those that there are.
 #[tactic(auto, unfolding(grant_values::specs::Drivers::counts_of, grant_values::specs::Drivers::drivers))]
 pub(crate) fn storages() -> Storages
-    ensures { result.driver ≡ storage }
+    ensures driver { result.driver ≡ storage }
+    ensures counts { result.counts ≡ counts_by StorageDriver }
 {
     Storages::of(Driver::Storage.number())
 }

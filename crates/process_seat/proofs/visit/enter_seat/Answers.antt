@@ -40,25 +40,27 @@ entered g c =
 pub visit_at-requires-clause-asks : goal.visit_at-requires-clause-asks
 visit_at-requires-clause-asks g c =
     let at = (goal.at.visit_at-requires-clause-asks g c).In-Ok in
-    let grants = grants_of c.args.driver c.args.counts g.T.GrantValue.kept in
-    subst (Asks grants (g.V.Visit.asks c.args.visitor) c.make_room_in.new.memory.flash) (sym (entered g at))
-    (subst (λ (flash : List ℕ). Asks grants (g.V.Visit.asks c.args.visitor) flash
+    let grants = grants_of c.args.driver c.args.counts in
+    let keeps = g.T.GrantValue.kept in
+    subst (Asks grants keeps (g.V.Visit.asks c.args.visitor) c.make_room_in.new.memory.flash) (sym (entered g at))
+    (subst (λ (flash : List ℕ). Asks grants keeps (g.V.Visit.asks c.args.visitor) flash
     (own_entering c.args.driver (own_in c.args.memory.now.ram c.args.seat.now)))
     (sym c.in-Ok.ensures.made.grants.flash) c.requires.asks)
 
 pub returns-clause-enters : goal.returns-clause-enters
 returns-clause-enters g c =
     let at = (goal.at.returns-clause-enters g c).In-Ok in
-    let grants = grants_of c.args.driver c.args.counts g.T.GrantValue.kept in
+    let grants = grants_of c.args.driver c.args.counts in
+    let keeps = g.T.GrantValue.kept in
     let leaves = g.V.Visit.leaves c.args.visitor in
     let after = own_in c.visit_at.new.memory.ram c.visit_at.new.seat in
     let room = c.in-Ok.ensures.room ∙ same_room c.args.driver c.args.memory.now c.args.seat.now c.requires.sits in (
       lives_on (own_in c.args.memory.now.ram c.args.seat.now) c.requires.lives,
       sym room,
-      subst (λ (flash : List ℕ). Visited grants leaves flash
+      subst (λ (flash : List ℕ). Visited grants keeps leaves flash
           (own_entering c.args.driver (own_in c.args.memory.now.ram c.args.seat.now)) c.visit_at.result after)
           c.in-Ok.ensures.made.grants.flash
-          (subst (λ (own : Own). Visited grants leaves c.make_room_in.new.memory.flash own c.visit_at.result
+          (subst (λ (own : Own). Visited grants keeps leaves c.make_room_in.new.memory.flash own c.visit_at.result
           after)
           (entered g at) c.visit_at.ensures.visited),
     )

@@ -61,7 +61,7 @@ can g c =
 pub run_visit-answer-requires-clause-asks : goal.run_visit-answer-requires-clause-asks
 run_visit-answer-requires-clause-asks g c =
     let at = goal.at.run_visit-answer-requires-clause-asks g c in
-    asks_by (grants_of c.args.place.driver c.args.place.counts g.T.GrantValue.kept) (g.V.Visit.leaves c.args.visitor)
+    asks_by (grants_of c.args.place.driver c.args.place.counts) g.T.GrantValue.kept (g.V.Visit.leaves c.args.visitor)
     c.args.memory.now c.args.seat.now (lent g at.After-kernel_of) c.args.place.at g.T.GrantValue.SIZE
     (stands g at.After-kernel_of) c.value_at-value.result (is g at.After-value_at-value)
     (g.V.Visit.asks c.args.visitor) c.requires.asks
@@ -78,10 +78,11 @@ returns-clause-visited g c =
     let at = goal.at.returns-clause-visited g c in
     let r = c.run_visit-answer in
     let k = c.keep_value.ensures in
-    let grants = grants_of c.args.place.driver c.args.place.counts g.T.GrantValue.kept in
-    subst (λ (x : MemoryBytes). Visited grants (g.V.Visit.leaves c.args.visitor) c.args.memory.now.flash
-    (own_in c.args.memory.now.ram c.args.seat.now) r.result (own_in x.ram r.new.seat)) (sym k.kept)
-    (visited_by grants (g.V.Visit.leaves c.args.visitor) c.args.memory.now c.args.seat.now
+    let grants = grants_of c.args.place.driver c.args.place.counts in
+    subst (λ (x : MemoryBytes). Visited grants g.T.GrantValue.kept (g.V.Visit.leaves c.args.visitor)
+    c.args.memory.now.flash (own_in c.args.memory.now.ram c.args.seat.now) r.result (own_in x.ram r.new.seat))
+    (sym k.kept)
+    (visited_by grants g.T.GrantValue.kept (g.V.Visit.leaves c.args.visitor) c.args.memory.now c.args.seat.now
     (lent g at.After-kernel_of) c.args.place.at g.T.GrantValue.SIZE (stands g at.After-kernel_of)
     c.value_at-value.result (is g at.After-value_at-value) r.new.memory r.new.seat r.ensures.serves r.new.value
     (can g at.After-keep_value) k.long r.result r.ensures.left)
@@ -92,7 +93,7 @@ returns-clause-reseats g c =
     let r = c.run_visit-answer in
     let k = c.keep_value.ensures in
     subst (λ (x : MemoryBytes). Reseats c.args.memory.now c.args.seat.now x r.new.seat) (sym k.kept)
-    (visit_reseats (grants_of c.args.place.driver c.args.place.counts g.T.GrantValue.kept) (g.V.Visit.leaves
+    (visit_reseats (grants_of c.args.place.driver c.args.place.counts) g.T.GrantValue.kept (g.V.Visit.leaves
     c.args.visitor)
     c.args.memory.now c.args.seat.now (lent g at.After-kernel_of) c.args.place.at g.T.GrantValue.SIZE
     (stands g at.After-kernel_of) c.value_at-value.result (is g at.After-value_at-value) r.new.memory r.new.seat

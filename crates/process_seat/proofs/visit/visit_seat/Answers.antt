@@ -11,7 +11,7 @@ pub returns-in-Some-clause-visits : goal.returns-in-Some-clause-visits
 returns-in-Some-clause-visits g c =
     let old = own_in c.args.memory.now.ram c.args.seat.now in
     let Leaves : ℕ → Counts → Type 0 =
-    λ driver counts. Visited (grants_of driver counts g.T.GrantValue.kept) (g.V.Visit.leaves c.args.visitor)
+    λ driver counts. Visited (grants_of driver counts) g.T.GrantValue.kept (g.V.Visit.leaves c.args.visitor)
     c.args.memory.now.flash old c.visit_at.result (own_in c.visit_at.new.memory.ram c.visit_at.new.seat) in (
       lives_on old c.requires.lives,
       subst (λ (driver : ℕ). Leaves driver c.args.counts) c.in-Some.ensures.place.0

@@ -1,11 +1,9 @@
-use Rattle.std.proofs.Common.{◌≡◌, true, ℕ, List, not, refl, sym, ap, subst, ◌∙◌, rules}
-use Rattle.tk_base.specs.declared.upcall.Counts.{Counts}
-use Rattle.grant_values.specs.Drivers.{counting}
+use Rattle.std.proofs.Common.{◌≡◌, true, ℕ, List, not, refl, sym, ap, subst, ◌∙◌}
 use Rattle.process_model.specs.Own.{Own}
 use Rattle.grant_enter.specs.Homes.{own_of}
 use Rattle.grant_enter.specs.Housed.{homes_of}
 use Rattle.process_seat.specs.Seats.{own_in}
-use Rattle.process_seat.specs.Visits.{Visits, grants_of}
+use Rattle.process_seat.specs.Visits.{Visits, GrantsOf, grants_of}
 use Rattle.grant_enter.proofs.Living.{stale_is}
 use Rattle.grant_enter.proofs.Moves.{Reads, reads_there, reseated, reseated_only, reseated_shows}
 use Rattle.grant_enter.proofs.Moves.{seat_there, sits_before, with_seat}
@@ -51,20 +49,17 @@ invariant_of-home g c =
 pub returns-clause-visits : goal.returns-clause-visits
 returns-clause-visits g c =
     let at = (goal.at.returns-clause-visits g c).After-index_mut-visited in
-    let same : c.args.self.now.counts ≡ counting g.row.UP g.row.RO g.row.RW g.row.UR g.T.GrantValue.SIZE =
-    search rules in
-    let Leaves : Counts → ℕ → List ℕ → Own → Own → Type 0 =
-    λ counts life flash own own_after.
-    Visits (grants_of c.args.self.now.driver counts g.T.GrantValue.kept) c.args.visitor
-    (g.V.Visit.leaves c.args.visitor)
-    life flash own c.visit_seat.result own_after in
-    subst (λ (counts : Counts). Leaves counts c.args.id.life c.args.home.now.flash
-    (own_of c.args.home.now c.args.id.slot)
-    (own_of (homes_of (with_seat c.home.inside c.visit_seat.new.memory c.index.result c.visit_seat.new.seat))
-    c.args.id.slot)) same
+    let Leaves : GrantsOf → ℕ → List ℕ → Own → Own → Type 0 =
+    λ grants life flash own own_after.
+    Visits grants g.T.GrantValue.kept c.args.visitor (g.V.Visit.leaves c.args.visitor) life flash own
+    c.visit_seat.result own_after in
+    let grants = grants_of c.self.inside.driver c.self.inside.counts in
+    let now = homes_of (with_seat c.home.inside c.visit_seat.new.memory c.index.result c.visit_seat.new.seat) in
+    subst (λ (grants : GrantsOf). Leaves grants c.args.id.life c.args.home.now.flash
+    (own_of c.args.home.now c.args.id.slot) (own_of now c.args.id.slot)) c.self.view_is
     (reseated_shows (reads g at) c.visit_seat.new.memory c.visit_seat.new.seat c.visit_seat.ensures.reseats
-    (Leaves c.args.self.now.counts c.args.id.life)
-    (subst (λ (life : ℕ). Leaves c.args.self.now.counts life c.home.inside.memory.flash
+    (Leaves grants c.args.id.life)
+    (subst (λ (life : ℕ). Leaves grants life c.home.inside.memory.flash
     (own_in c.home.inside.memory.ram c.index_mut-visited.result.now)
     (own_in c.visit_seat.new.memory.ram c.visit_seat.new.seat)) (there g at).1 c.visit_seat.ensures.visits))
 
