@@ -93,23 +93,29 @@ none_left_on now later (Some own) e = by_lives own.lives (alarm_in own) e
     by_lives true None e = refl
     by_lives true (Some alarm) e = cc
 
+-- one that becomes due does so too as it is reckoned from another time, where as much is left of it then
+pub left_now : (now time at later after due_at : ℕ) (o : Option Own) (due : BecomesDue now time at o)
+    → ticks_left later due.alarm ≡ due_at - after → BecomesDue later after due_at o
+left_now now time at later after due_at o due left = record {
+  own = due.own;
+  there = due.there;
+  lives = due.lives;
+  alarm = due.alarm;
+  armed = due.armed;
+  reference = due.reference;
+  delta = due.delta;
+  left = left;
+}
+
 -- time that passes leaves true what is told
 pub later_tells : TimeBringsNearer → (now time passed : ℕ) (kept : Option ℕ) (o : Option Own) → now < 2 ^ 32
     → TellsAlarm now time kept o → TellsAlarm ((now + passed) % 2 ^ 32) (time + passed) kept o
 later_tells law now time passed None o small tells = none_left_on now ((now + passed) % 2 ^ 32) o tells
 later_tells law now time passed (Some at) o small tells = λ ahead.
     let due = tells (before ahead) in
-    record {
-      own = due.own;
-      there = due.there;
-      lives = due.lives;
-      alarm = due.alarm;
-      armed = due.armed;
-      reference = due.reference;
-      delta = due.delta;
-      left = law now passed due.alarm small due.reference due.delta (within (ticks_left now due.alarm) due.left ahead)
-          ∙ fewer (ticks_left now due.alarm) due.left;
-    }
+    left_now now time at ((now + passed) % 2 ^ 32) (time + passed) at o due
+    (law now passed due.alarm small due.reference due.delta (within (ticks_left now due.alarm) due.left ahead)
+    ∙ fewer (ticks_left now due.alarm) due.left)
   where
     before : time + passed < at → time < at
     before ahead = omega (arith, ahead)

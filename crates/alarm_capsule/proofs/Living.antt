@@ -17,6 +17,7 @@ use Rattle.driver_requests.specs.Asking.{IsPresent}
 use Rattle.driver_model.specs.Alarm.{alarm_driver, alarm_in, armed_in, due_alarm, has_due, if_due, ticks_left}
 use Rattle.driver_model.specs.Alarm.{ticks_left_of}
 use Rattle.alarm_capsule.specs.Times.{BecomesDue}
+use Rattle.alarm_capsule.proofs.KeptTimes.{left_now}
 
 -- Of the slots of a board one has a process that lives, and this is its id.
 pub record LivesIn (slot n : ℕ) (owns : List Own) (id : ProcessId) : Type 0 where
@@ -92,18 +93,9 @@ becomes_due now slot left home id alarm e has is reference delta =
     none_passed : (n k : ℕ) → n ≡ k → n - 0 ≡ k
     none_passed n k same = omega (arith, same)
 
--- and so it does at a later time
+-- and so it does as a later time is reckoned from
 pub due_at : (now time left : ℕ) (o : Option Own) → BecomesDue now 0 left o → BecomesDue now time (time + left) o
-due_at now time left o due = record {
-  own = due.own;
-  there = due.there;
-  lives = due.lives;
-  alarm = due.alarm;
-  armed = due.armed;
-  reference = due.reference;
-  delta = due.delta;
-  left = due.left ∙ back time left;
-}
+due_at now time left o due = left_now now 0 left now time (time + left) o due (due.left ∙ back time left)
   where
     back : (n k : ℕ) → k - 0 ≡ n + k - n
     back n k = omega arith

@@ -276,7 +276,3 @@ on_err (Err e) f p = f p
 pub on_true : {P Q : Type 0} (b : Bool) → (P → Q) → OnTrue b P → OnTrue b Q
 on_true true f p = f p
 on_true false f p = tt
-
-pub by_answer : {P Q R : Type 0} (b : Bool) → (P → R) → (Q → R) → OnTrue b P → OnFalse b Q → R
-by_answer true f g p q = f p
-by_answer false f g p q = g q

@@ -1,6 +1,6 @@
 -- A step of a request for random bytes.
 use Rattle.std.proofs.Common.{◌≡◌, ◌<◌, ◌≤◌, ℕ, ◌+◌, ◌-◌, ◌^◌, min, nat_le, Bool, true, false, cond, Option, None}
-use Rattle.std.proofs.Common.{Some, take, ap, refl, sym, subst, ◌∙◌, arith}
+use Rattle.std.proofs.Common.{Some, List, take, ap, ap₂, refl, sym, subst, ◌∙◌, arith}
 use Rattle.std.specs.Int.{w32, to_le_bytes}
 use Rattle.std.proofs.lemmas.Bool.Decides.{nat_tests}
 use Rattle.tk_base.specs.declared.kinds.PairKind.TheVariants.{ReadWrite}
@@ -24,6 +24,15 @@ are_left so_far n more = omega (arith, more)
 
 pub left_fits : (so_far n : ℕ) → so_far < n → n < 2 ^ 32 → so_far + (n - so_far) < 2 ^ 32
 left_fits so_far n more small = omega (arith, more, small)
+
+-- the bytes of a word that is drawn are written, as many as are wanted
+pub word_is_written : (left word : ℕ) (request : RandomRequest) (own o : Own) {driver n : ℕ} {bytes part : List ℕ}
+    → driver ≡ random → n ≡ min 4 left → bytes ≡ to_le_bytes w32 word → part ≡ take n bytes
+    → o ≡ with_written ReadWrite driver 0 request.written part own
+    → o ≡ with_written ReadWrite random 0 request.written (take (min 4 left) (to_le_bytes w32 word)) own
+word_is_written left word request own o is few whole front wrote =
+    wrote ∙ ap₂ (λ (d : ℕ) (xs : List ℕ). with_written ReadWrite d 0 request.written xs own) is
+    (front ∙ ap₂ (λ (k : ℕ) (xs : List ℕ). take k xs) few whole)
 
 -- a word is drawn: its bytes are written, and all that was wanted is, or more is
 module _ (left word : ℕ) (request : RandomRequest) (own o : Own)

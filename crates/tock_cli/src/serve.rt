@@ -39,10 +39,13 @@ fn finish_run<K: Sink>(
 {
     match run_out(&mut board, mode, turns, out) {
         Ok(()) => {
-            *last = Some(board);
+            drop(last.replace(board));
             ServeOutcome::Done
         }
-        Err(_) => ServeOutcome::SinkFailed,
+        Err(_) => {
+            drop(board);
+            ServeOutcome::SinkFailed
+        }
     }
 }
 
@@ -103,7 +106,7 @@ fn act<H: Shelf, K: Sink>(
     ensures { Happens (shelf_account H.tells shelf.old shelf.new) (sink_account K.tells out.old out.new)
         (command_of words.now) last.new result }
 {
-    *last = None;
+    drop(last.take());
     match prepare(alloc, words, shelf) {
         Ok(ready) => finish(alloc, ready, out, last),
         Err(refusal) => refuse(refusal, out),

@@ -1,4 +1,3 @@
-use Rattle.std.proofs.Common.{None, refl}
 use Rattle.tool_words.specs.Words.{command_of}
 use Rattle.tool_tasks.specs.Causes.{shelf_account}
 use Rattle.tool_tasks.specs.Ready.{task_of}
@@ -17,5 +16,5 @@ pub returns-in-Err : goal.returns-in-Err
 returns-in-Err g c =
     let told = shelf_account g.H.Shelf.tells c.args.shelf.now c.prepare.new.shelf in
     let sent = sink_account g.K.Sink.tells c.args.out.now c.refuse.new.out in
-    refused_happens told sent (command_of c.args.words.now) None c.in-Err.refusal c.refuse.result
-    c.in-Err.ensures.refused refl c.refuse.ensures
+    refused_happens told sent (command_of c.args.words.now) c.take.new.self c.in-Err.refusal c.refuse.result
+    c.in-Err.ensures.refused c.take.ensures.after c.refuse.ensures
