@@ -19,7 +19,7 @@ def minutes(seconds):
 
 class Progress:
     """How far the crates are, of which so many are proved at a time. A file keeps when each was begun, how long it
-    took, with how many jobs, and which of the crates below it was proved last."""
+    took, how many processor seconds, with how many jobs, and which of the crates below it was proved last."""
 
     def __init__(self, crates, places, times):
         self.crates, self.places, self.times = crates, places, times
@@ -34,13 +34,14 @@ class Progress:
         if name == self.crates.program:
             tell("proving %s and building the program" % name)
 
-    def ends(self, name):
+    def ends(self, name, seconds):
         """Tells of a crate that is proved. One that took less than a fifth of its time was kept from before, and is no
         measure of the others."""
         begun, jobs = self.begun[name]
         took = time.monotonic() - begun
         after = max(self.crates.on[name], key=self.proved.index, default="nothing")
-        self.times.write("%6.0f %6.0f s %2d jobs  %s, after %s\n" % (begun - self.start, took, jobs, name, after))
+        self.times.write("%6.0f %6.0f s %6.0f processor s %2d jobs  %s, after %s\n"
+                         % (begun - self.start, took, seconds, jobs, name, after))
         self.proved.append(name)
         if took > self.crates.work[name] * EXPECTED / 5:
             self.seconds, self.work = self.seconds + took, self.work + self.crates.work[name]

@@ -5,6 +5,7 @@ A library has its statements alone, and what was checked is not kept for a later
 take half as long again. `rt check`, by which a crate is written, keeps what it checked itself."""
 
 import contextlib
+import dataclasses
 import hashlib
 import os
 import shutil
@@ -51,6 +52,19 @@ class Kit:
                 "--logic-built", self.folder + "/logic_built"]
 
 
+@dataclasses.dataclass
+class Run:
+    """How the prover ended: whether it proved all, all that it said, and how many seconds of processors it took."""
+
+    is_proved: bool = True
+    said: bytes = b""
+    seconds: float = 0.0
+
+    def then(self, other):
+        """Both runs as one, where another followed."""
+        return Run(other.is_proved, self.said + other.said, self.seconds + other.seconds)
+
+
 class Prover:
     """The kit's, over the crates of a repository."""
 
@@ -85,35 +99,34 @@ class Prover:
         return total.hexdigest() if all(below) else ""
 
     def prove(self, name, jobs):
-        """Whether a crate is proved, with so many jobs, and all that the prover said. A library that was made before
-        from the same is not made again."""
+        """Proves a crate with so many jobs. A library that was made before from the same is not made again."""
         if name == self.crates.program:
             return self.build(name, jobs)
         made, kept, stamp = self.library(name), self.kept(name), self.stamp(name)
         if stamp and os.path.exists(made) and text_of(kept) == stamp:
-            return True, b""
+            return Run()
         shutil.rmtree(os.path.dirname(kept), ignore_errors=True)
         os.makedirs(os.path.dirname(kept))
-        is_proved, said = self.rattle(name, jobs, "--statements", "-o", made)
+        run = self.rattle(name, jobs, "--statements", "-o", made)
         # Where a source was edited meanwhile, nobody can tell which text was proved.
-        if is_proved and stamp == self.stamp(name):
+        if run.is_proved and stamp == self.stamp(name):
             with open(kept, "w", encoding="ascii") as file:
                 file.write(stamp)
-        return is_proved, said
+        return run
 
     def rattle(self, name, jobs, *more):
-        """Whether `rattle` proves a crate over the libraries of those below it, and all that it said."""
+        """`rattle` over a crate, and the libraries of those below it."""
         words = ["build", "--crate-name", name, self.crates.root(name), "--links", name + "=",
                  *self.kit.libraries(["std", *self.crates.of_kit[name]]), *self.kit.logic()]
         for other in self.crates.on[name]:
             words += ["--extern", "%s=%s" % (other, self.library(other))]
         for other in self.crates.below(name):
             words += ["-L", "dependency=" + os.path.dirname(self.library(other))]
-        status, said = self.call(name, "rattle", *words, "--jobs", str(jobs), *more)
+        status, run = self.call(name, "rattle", *words, "--jobs", str(jobs), *more)
         # It was killed, most likely for want of memory: once more, with what takes least.
         if status == -signal.SIGKILL and jobs > 1:
-            status, said = self.call(name, "rattle", *words, "--jobs", "1", *more)
-        return status == 0, said
+            run = run.then(self.call(name, "rattle", *words, "--jobs", "1", *more)[1])
+        return run
 
     def build(self, name, jobs):
         """The same of the program, which is compiled and linked too. One that was built before is taken away first."""
@@ -122,19 +135,20 @@ class Prover:
         with contextlib.suppress(FileNotFoundError):
             os.remove(made)
         tools = ["--toolchain", kit + "/toolchain", "-o"]
-        is_proved, said = self.rattle(name, jobs, "--backend", "llvm", *tools, made + ".o")
-        if not is_proved:
-            return False, said
-        status, more = self.call(name, "rattle-link", "--target", "x86_64-unknown-linux-gnu", *tools, made,
-                                 made + ".o", kit + "/c/libos_c.a", kit + "/c/liblibc_c.a")
-        return status == 0, said + more
+        run = self.rattle(name, jobs, "--backend", "llvm", *tools, made + ".o")
+        if not run.is_proved:
+            return run
+        return run.then(self.call(name, "rattle-link", "--target", "x86_64-unknown-linux-gnu", *tools, made,
+                                  made + ".o", kit + "/c/libos_c.a", kit + "/c/liblibc_c.a")[1])
 
     def call(self, name, command, *words):
-        """How a command of the kit ended in a crate's folder, and all that it said."""
+        """The status of a command of the kit that ran in a crate's folder, and how it ended."""
         if self.is_stopped:
-            return 1, b""
+            return 1, Run(False)
         how = {"stdin": subprocess.DEVNULL, "stdout": subprocess.PIPE, "stderr": subprocess.STDOUT}
         process = subprocess.Popen([self.kit.command(command), *words], cwd=self.crates.folder(name), **how)
         self.running[name] = process
-        said = process.communicate()[0]
-        return process.returncode, said
+        said = process.stdout.read()
+        _, ended, usage = os.wait4(process.pid, 0)
+        process.returncode = os.waitstatus_to_exitcode(ended)
+        return process.returncode, Run(process.returncode == 0, said, usage.ru_utime + usage.ru_stime)

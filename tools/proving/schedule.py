@@ -31,7 +31,7 @@ class Schedule:
                 while self.begin(pool) or self.running:
                     for ended in wait(self.running, return_when=FIRST_COMPLETED).done:
                         name, _ = self.running.pop(ended)
-                        self.end(name, *ended.result())
+                        self.end(name, ended.result())
             except BaseException:
                 self.prover.stop()
                 raise
@@ -56,13 +56,13 @@ class Schedule:
             return self.places
         return max(1, (self.places - sum(jobs for _, jobs in self.running.values())) // waiting)
 
-    def end(self, name, is_proved, said):
+    def end(self, name, run):
         """Notes that a crate is proved, or tells what the prover said of it."""
-        if is_proved:
+        if run.is_proved:
             self.proved.add(name)
-            self.progress.ends(name)
+            self.progress.ends(name, run.seconds)
         else:
             self.is_refused = True
-            sys.stderr.buffer.write(b"== %s\n" % name.encode() + said)
+            sys.stderr.buffer.write(b"== %s\n" % name.encode() + run.said)
             sys.stderr.flush()
             self.progress.refuses(name, [other for other, _ in self.running.values()])
