@@ -28,7 +28,7 @@ use pmp_regions::Pmp;
 use process_layout::Layout;
 use process_model::Footprint;
 use process_seat::{
-    Seat, block_at, hand_at, instruction_laws, put_flag_at, restart_at, turn_in, turns_in,
+    Seat, block_at, hand_at, instruction_laws, put_flag_at, restart_seat, turn_in, turns_in,
 };
 use rv32_model::{TurnEnd, sees_only_permitted, writes_are_permitted};
 use rv32_step::Stretch;
@@ -200,7 +200,7 @@ impl Home {
         ensures rest { ChangesOnly slot self.old self.new }
     {
         let seat = &mut self.seats[slot.index()];
-        restart_at(&mut self.memory, seat, brk);
+        restart_seat(&mut self.memory, seat, brk);
     }
 
     /// Ends the process in a slot: it lives no more, and nothing is scheduled for it. Its memory

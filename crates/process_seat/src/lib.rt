@@ -17,6 +17,6 @@ pub use flag::put_flag_at;
 pub use handing::hand_at;
 pub use instruction::{instruction_laws, turn_in, turns_in};
 pub use laws::{a_buffer_is_written, buffers_are_whole, frames_join};
-pub use restart::restart_at;
+pub use restart::restart_seat;
 pub use seat::Seat;
 pub use visit::{EnterError, Stale, Unvisited, Visit, block_at, enter_seat, peek_seat, visit_seat};

@@ -10,7 +10,7 @@ use tk_base::Addr;
 
 /// Starts the process in a seat again, with its first break: every byte of its block is 0, it has
 /// no grants, nothing is scheduled for it, its next life begins, and it lives.
-pub fn restart_at(memory: &mut Memory, seat: &mut Seat, brk: Addr)
+pub fn restart_seat(memory: &mut Memory, seat: &mut Seat, brk: Addr)
     requires sits { SitsIn memory.old seat.old }
     requires from { seat.old.layout.start ≤ brk }
     requires to { brk ≤ seat.old.layout.end }

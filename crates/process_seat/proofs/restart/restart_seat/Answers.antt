@@ -1,8 +1,8 @@
 use Rattle.std.proofs.Common.{◌+◌, true}
 use Rattle.process_seat.specs.declared.seat.Seat.{Seat}
 use Rattle.process_seat.proofs.Restarted.{Restarts, clears, restarts}
-use Rattle.process_seat.proofs.restart.restart_at.Goals as goal
-use Rattle.process_seat.proofs.restart.restart_at.Goals.{After-clear_block}
+use Rattle.process_seat.proofs.restart.restart_seat.Goals as goal
+use Rattle.process_seat.proofs.restart.restart_seat.Goals.{After-clear_block}
 
 pub clear_block-requires : goal.clear_block-requires
 clear_block-requires c =
