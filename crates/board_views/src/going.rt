@@ -7,11 +7,11 @@ ghost use Rattle.run_text.specs.RunText.{trace_lines};
 ghost use Rattle.board_views.specs.Stops.{stop_at, turns_of, turns_stop, until_turns, within};
 
 use board_core::Board;
-use board_runs::trace_out;
 use kernel_laws::rounds_join;
 use process_record::Emit;
 use tk_base::{Denial, STEP_LIMIT, Slot};
 use tk_outside::{Failed, Sink, writes_compose};
+use tock_cli::trace_out;
 
 /// Why a board stopped that went on.
 #[derive(Clone, Copy, Debug, PartialEq, Eq)]

@@ -1,6 +1,6 @@
 //! The memory of all processes.
 ghost use Rattle.std.specs.Prelude.{◌≡◌, ◌≤◌, ◌<◌, ◌+◌, ◌%◌, ◌^◌, ℕ, nat_lt, slice_get};
-ghost use Rattle.std.specs.Prelude.{All, AllPairs, IsTrue, length, map, is_ok, IfOk};
+ghost use Rattle.std.specs.Prelude.{All, AllPairs, IsTrue, length, map, is_ok, IfOk, IfErr};
 ghost use Rattle.std.specs.Prelude.{OnOk, OnErr, OnSome, IfNone, is_some, vec_len};
 ghost use Rattle.std.specs.Bool.{OnTrue, OnFalse};
 ghost use Rattle.tk_base.specs.declared.limits.TheConstants.{FLASH_LIMIT};
@@ -20,6 +20,7 @@ ghost use Rattle.grant_enter.specs.Homes.{own_of, is_life, living, ChangesOnly, 
 ghost use Rattle.grant_enter.specs.Homes.{IsStopped, CanMoveIn, FootprintBefore, MakesInstruction};
 ghost use Rattle.grant_enter.specs.Homes.{MakesAll};
 ghost use Rattle.process_seat.specs.Places.{has_permissions};
+ghost use Rattle.process_seat.specs.Seats.{TellsBreaks};
 
 use board_memory::{Memory, set_process};
 use grant_model::what_is_laid_is_read_back;
@@ -224,7 +225,7 @@ impl Home {
     /// driver and number. All else of the process, and all of another slot, stays.
     ///
     /// There is [`NoRoom`], and nothing changes, exactly where the driver is not entered and the
-    /// kernel break less the cost of its grant is below the break.
+    /// kernel break less the cost of its grant is below the break: it tells the two breaks.
     pub fn hand(&mut self, slot: Slot, handover: Handover) -> Result<(u32, u32), NoRoom>
         requires slot { slot < length self.old.owns }
         requires pair { CanHand handover }
@@ -237,6 +238,7 @@ impl Home {
             ≡ handing handover.kind handover.driver handover.number handover.pair
             (own_of self.old slot)) }
         ensures refused { OnErr result (self.new ≡ self.old) }
+        ensures breaks { IfErr result (TellsBreaks (own_of self.old slot)) }
         ensures rest { ChangesOnly slot self.old self.new }
     {
         let seat = &mut self.seats[slot.index()];

@@ -12,13 +12,15 @@ use Rattle.grant_model.specs.Grants.{Grant, costs, grant_of, entering, entered, 
 use Rattle.grant_model.specs.Encoding.{area_of, decode_grants}
 use Rattle.grant_model.specs.Laws.{IsValue, PairsStandByKind, ValuesAreFound, value_bytes, value_offset}
 use Rattle.grant_model.specs.declared.places.Area.{Area}
+use Rattle.grant_region.specs.declared.room.NoRoom.{NoRoom}
 use Rattle.grant_region.specs.Region.{Leaves, Parts, below, fits, roomed}
 use Rattle.board_memory.specs.Memory.{MemoryBytes, with_run}
 use Rattle.process_model.specs.Own.{kernel_break_of}
 use Rattle.process_model.specs.Handed.{has_place, own_entering}
 use Rattle.process_seat.specs.declared.seat.Seat.{Seat}
 use Rattle.process_seat.specs.Places.{FitsMemory}
-use Rattle.process_seat.specs.Seats.{Holds, MakesRoom, Reseats, SitsIn, app_in, fits_in, kernel_in, own_in}
+use Rattle.process_seat.specs.Seats.{Holds, MakesRoom, Reseats, SitsIn, TellsBreaks}
+use Rattle.process_seat.specs.Seats.{app_in, fits_in, kernel_in, own_in}
 use Rattle.process_seat.proofs.Blocks.{AreLent, break_is, regrants_in, room_in}
 use Rattle.process_seat.proofs.Holding.{entering_holds}
 use Rattle.process_seat.proofs.Regranted.{regranted}
@@ -70,6 +72,15 @@ same_room driver m seat t = by_grant (grant_of driver (own_in m.ram seat).grants
         ap (nat_le (seat.layout.brk + cost_of (shape_of driver)))
         (break_is m seat.layout t.settled t.seated.kept.laid)
     by_grant (Some g) = refl
+
+-- the two breaks that a seat's layout has are those of the process's own
+pub breaks_told : (m : MemoryBytes) (seat : Seat) → SitsIn m seat → (answer : NoRoom)
+    → (answer.brk ≡ seat.layout.brk) × (answer.lowest ≡ seat.layout.kernel_break)
+    → TellsBreaks (own_in m.ram seat) answer
+breaks_told m seat t answer is = record {
+  brk = is.0;
+  lowest = is.1 ∙ break_is m seat.layout t.settled t.seated.kept.laid;
+}
 
 -- the process's own bytes, as far as they are still its own
 module _ (driver : ℕ) (m : MemoryBytes) (seat : Seat) (t : SitsIn m seat) (f : LayoutView)

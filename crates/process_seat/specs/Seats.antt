@@ -16,10 +16,11 @@ use Rattle.grant_values.specs.Values.{KeptValue, value_words}
 use Rattle.grant_model.specs.Grants.{Grant, grant_of, entered, pair_of}
 use Rattle.grant_model.specs.Encoding.{EncodesGrants, Tells, decode_grants}
 use Rattle.grant_region.specs.Region.{below, fits, roomed}
+use Rattle.grant_region.specs.declared.room.NoRoom.{NoRoom}
 use Rattle.swap_tables.specs.declared.handover.Handover.{Handover}
 use Rattle.swap_tables.specs.Swaps.{held_pair, with_swapped_pair}
 use Rattle.process_model.specs.declared.place.Footprint.{Footprint}
-use Rattle.process_model.specs.Own.{Own}
+use Rattle.process_model.specs.Own.{Own, kernel_break_of}
 use Rattle.process_model.specs.Handed.{lies_in_ram}
 use Rattle.process_model.specs.Flash.{HasObject}
 use Rattle.board_memory.specs.Memory.{MemoryBytes, ram_between, with_run}
@@ -145,6 +146,11 @@ pub record SwapsIn (h : Handover) (m : MemoryBytes) (e : LayoutView) (m' : Memor
 -- whether a driver is entered by the process of a block in RAM, or its grant fits
 abbrev pub fits_in : ℕ → List ℕ → LayoutView → Bool
 fits_in driver ram e = fits e driver (grant_of driver (decode_grants (kernel_in ram e)))
+
+-- where there is no room for a grant, the answer tells of the process the break and the kernel break
+pub record TellsBreaks (own : Own) (answer : NoRoom) : Type 0 where
+  pub brk : answer.brk ≡ own.layout.brk
+  pub lowest : answer.lowest ≡ kernel_break_of own
 
 -- room was made in a block of memory for a driver's grant, where there was none
 pub record MakesRoom (driver : ℕ) (m : MemoryBytes) (e : LayoutView) (m' : MemoryBytes) (e' : LayoutView) : Type 0 where

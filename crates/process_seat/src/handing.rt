@@ -1,11 +1,12 @@
 //! What a process hands to a driver, in its seat.
-ghost use Rattle.std.specs.Prelude.{◌≡◌, IsTrue, is_ok, IfOk, OnOk, OnErr};
+ghost use Rattle.std.specs.Prelude.{◌≡◌, IsTrue, is_ok, IfOk, IfErr, OnOk, OnErr};
 ghost use Rattle.swap_tables.specs.Swaps.{CanHand};
 ghost use Rattle.process_model.specs.Handed.{handing, has_place as has_place_in, held, marked};
 ghost use Rattle.process_model.specs.Handed.{may_share, raised, still_pending};
 ghost use Rattle.process_layout.specs.Bounds.{bounds_of};
 ghost use Rattle.process_layout.specs.Ordered.{IsOrdered};
-ghost use Rattle.process_seat.specs.Seats.{HasBlock, Reseats, SitsIn, SwapsIn, fits_in, own_in};
+ghost use Rattle.process_seat.specs.Seats.{HasBlock, Reseats, SitsIn, SwapsIn, TellsBreaks};
+ghost use Rattle.process_seat.specs.Seats.{fits_in, own_in};
 
 use crate::seat::Seat;
 use board_memory::{Block, Memory, SplitBlock};
@@ -34,6 +35,8 @@ fn swap_in(
     ensures room { is_ok result ≡ fits_in handover.driver memory.old.ram layout.old }
     ensures swapped { IfOk result (SwapsIn handover memory.old layout.old memory.new layout.new) }
     ensures refused { OnErr result ((memory.new ≡ memory.old) × (layout.new ≡ layout.old)) }
+    ensures breaks { IfErr result (λ full. (full.brk ≡ layout.old.brk)
+        × (full.lowest ≡ layout.old.kernel_break)) }
 {
     let Block { bytes, cut, .. } = memory.lend_block(layout);
     let SplitBlock { app, kernel } = SplitBlock::of(bytes, cut);
@@ -72,7 +75,8 @@ fn note_handed(layout: &mut Layout, inbox: &mut Inbox, handover: Handover)
     }
 }
 
-/// Hands a pair of the process in a seat to a driver.
+/// Hands a pair of the process in a seat to a driver. [`NoRoom`] tells the break and the kernel break of the process,
+/// in which nothing has changed.
 pub fn hand_at(
     memory: &mut Memory,
     seat: &mut Seat,
@@ -89,6 +93,7 @@ pub fn hand_at(
         (own_in memory.old.ram seat.old)) }
     ensures refused { OnErr result
         (own_in memory.new.ram seat.new ≡ own_in memory.old.ram seat.old) }
+    ensures breaks { IfErr result (TellsBreaks (own_in memory.old.ram seat.old)) }
     ensures reseats { Reseats memory.old seat.old memory.new seat.new }
 {
     pairs_stand_by_kind();

@@ -3,7 +3,9 @@
 //! hands it the system's files and standard output.
 #![tactic(auto)]
 
+mod run;
 pub mod serve;
+mod teller;
 
-pub use board_runs::run_out;
+pub use run::{run_out, trace_out};
 pub use run_text::Mode;

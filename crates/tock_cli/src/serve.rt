@@ -11,10 +11,10 @@ ghost use Rattle.tool_answers.specs.Accounts.{RunIsAccountedFor, RunIsPartitione
 ghost use Rattle.tool_answers.specs.Served.{Serves};
 ghost use Rattle.tool_answers.specs.Parts.{Happens, TaskEnds, TaskIs, sink_account};
 
+use crate::run::run_out;
 use board_core::Board;
 use board_opening::runs_from_boot_are_accounted_for;
 use board_partitions::partitions_from_boot_see_themselves_alone;
-use board_runs::run_out;
 use run_text::Mode;
 use script_text::Script;
 use std::alloc::Global;

@@ -1,7 +1,7 @@
 use Rattle.std.proofs.Common.{◌≡◌, false, is_ok, ap, sym, subst, ◌∙◌, rules}
 use Rattle.process_layout.specs.LayoutView.{LayoutView}
 use Rattle.process_seat.specs.Seats.{Reseats, own_in}
-use Rattle.process_seat.proofs.Entering.{same_room}
+use Rattle.process_seat.proofs.Entering.{breaks_told, same_room}
 use Rattle.process_seat.proofs.Handed.{hand_reseats, own_handed}
 use Rattle.process_seat.proofs.handing.hand_at.Goals as goal
 
@@ -31,3 +31,9 @@ returns-in_err-former-clause-room c =
     let refused : is_ok c.from_residual.result ≡ false = search rules in
     refused ∙ c.in_err-former.ensures.room
     ∙ same_room c.args.handover.driver c.args.memory.now c.args.seat.now c.requires.sits
+
+pub returns-in_err-former-clause-breaks : goal.returns-in_err-former-clause-breaks
+returns-in_err-former-clause-breaks c =
+    let told = breaks_told c.args.memory.now c.args.seat.now c.requires.sits c.in_err-former.field-0.0
+    c.in_err-former.ensures.breaks in
+    search (rules, told)

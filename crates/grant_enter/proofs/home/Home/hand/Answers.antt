@@ -1,7 +1,8 @@
-use Rattle.std.proofs.Common.{◌≡◌, IsTrue, IfOk, sym, ap, subst, ◌∙◌}
+use Rattle.std.proofs.Common.{◌≡◌, IsTrue, IfErr, IfOk, sym, ap, subst, ◌∙◌}
 use Rattle.process_model.specs.Handed.{handing, has_place, held, may_share}
 use Rattle.process_layout.specs.Bounds.{Bounds}
 use Rattle.process_model.specs.Own.{Own}
+use Rattle.process_seat.specs.Seats.{TellsBreaks}
 use Rattle.grant_enter.proofs.Moves.{Reads, layout_before, on_err, on_ok, own_before, reseated}
 use Rattle.grant_enter.proofs.Moves.{reseated_only, reseated_same, reseated_shows, sits_before}
 use Rattle.grant_enter.proofs.home.Home.hand.Goals as goal
@@ -39,6 +40,11 @@ returns-clause-former c =
     subst (λ (own : Own). IfOk c.hand_at.result (λ former. former
     ≡ held c.args.handover.kind c.args.handover.driver c.args.handover.number own)) (sym (own_before (reads a)))
     c.hand_at.ensures.former
+
+pub returns-clause-breaks : goal.returns-clause-breaks
+returns-clause-breaks c =
+    let a = (goal.at.returns-clause-breaks c).After-index_mut-seat in
+    subst (λ (own : Own). IfErr c.hand_at.result (TellsBreaks own)) (sym (own_before (reads a))) c.hand_at.ensures.breaks
 
 pub invariant_of-self : goal.invariant_of-self
 invariant_of-self c =

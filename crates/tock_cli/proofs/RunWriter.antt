@@ -28,17 +28,17 @@ use Rattle.board_report.specs.Trace.{act_text, line_head, out_text, trace_text}
 use Rattle.board_report.specs.Words.{newline}
 use Rattle.tk_outside.specs.Text.{hex_digits}
 use Rattle.board_report.specs.Parts.{turn_text}
-use Rattle.board_runs.proofs.Runs.{of_stepped, printed-round, round-step, steps-step, steps-stop}
-use Rattle.board_runs.proofs.Runs.{steps-zero}
+use Rattle.tock_cli.proofs.Runs.{of_stepped, printed-round, round-step, steps-step, steps-stop}
+use Rattle.tock_cli.proofs.Runs.{steps-zero}
 use Rattle.run_text.proofs.Tallies.{counting-tally_of}
 use Rattle.run_text.specs.declared.mode.Mode.{Mode}
 use Rattle.run_text.specs.declared.mode.Mode.TheVariants.{Boot, Trace, Soak}
-use Rattle.board_runs.specs.declared.teller.RunWriter.{RunWriter}
-use Rattle.board_runs.specs.declared.teller.RunWriter.TheVariants as tellings
+use Rattle.tock_cli.specs.declared.teller.RunWriter.{RunWriter}
+use Rattle.tock_cli.specs.declared.teller.RunWriter.TheVariants as tellings
 use Rattle.run_text.specs.RunText.{label_lines, shown_in, tally_text, trace_lines}
 use Rattle.run_text.specs.Parts.{Step, step_lines, step_of, steps, tally_line, tally_of}
-use Rattle.board_runs.specs.RunWriter.{counted_bytes, passed_on, step_text, steps_text, telling_of, told_on, told_text}
-use Rattle.board_runs.specs.RunWriter.{total_text}
+use Rattle.tock_cli.specs.RunWriter.{counted_bytes, passed_on, step_text, steps_text, telling_of, told_on, told_text}
+use Rattle.tock_cli.specs.RunWriter.{total_text}
 
 -- labels without lines have none together
 no_lines : (time : ℕ) (ls : List Label) → All (λ label. label_lines time label ≡ []) ls

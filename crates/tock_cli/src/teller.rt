@@ -3,8 +3,8 @@ ghost use Rattle.std.specs.Prelude.{◌≡◌, ◌+◌, ◌<◌, ◌≤◌, ◌^
 ghost use Rattle.tk_base.specs.declared.limits.TheConstants.{PRINT_LIMIT};
 ghost use Rattle.tk_outside.specs.Writes.{Writes};
 ghost use Rattle.gathered_output.specs.Puts.{Puts};
-ghost use Rattle.board_runs.specs.RunWriter.{counted_bytes, passed_on, telling_of, told_text};
-ghost use Rattle.board_runs.specs.RunWriter.{told_on, total_text};
+ghost use Rattle.tock_cli.specs.RunWriter.{counted_bytes, passed_on, telling_of, told_text};
+ghost use Rattle.tock_cli.specs.RunWriter.{told_on, total_text};
 
 use board_core::Board;
 use board_report::write_trace;

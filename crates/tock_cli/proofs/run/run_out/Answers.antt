@@ -1,9 +1,9 @@
 use Rattle.std.proofs.Common.{◌++◌}
 use Rattle.kernel_model.specs.Run.{round, printed}
 use Rattle.run_text.specs.RunText.{ending_text, run_text}
-use Rattle.board_runs.specs.RunWriter.{telling_of, total_text}
-use Rattle.board_runs.proofs.RunWriter.{text_in}
-use Rattle.board_runs.proofs.run.run_out.Goals as goal
+use Rattle.tock_cli.specs.RunWriter.{telling_of, total_text}
+use Rattle.tock_cli.proofs.RunWriter.{text_in}
+use Rattle.tock_cli.proofs.run.run_out.Goals as goal
 
 pub returns-in_err-telling-clause-text : goal.returns-in_err-telling-clause-text
 unfolding run_text

@@ -2,7 +2,7 @@ use Rattle.kernel_model.specs.Shown.{summary_of}
 use Rattle.board_report.specs.Report.{report_text}
 use Rattle.run_text.specs.RunText.{ending_text}
 use Rattle.run_text.specs.Parts.{run_end_of}
-use Rattle.board_runs.proofs.run.write_end_of_run.Goals as goal
+use Rattle.tock_cli.proofs.run.write_end_of_run.Goals as goal
 
 pub returns-in_err-put_all : goal.returns-in_err-put_all
 unfolding ending_text run_end_of

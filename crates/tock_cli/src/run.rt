@@ -6,7 +6,7 @@ ghost use Rattle.gathered_output.specs.Puts.{Puts};
 ghost use Rattle.kernel_model.specs.Run.{round, printed};
 ghost use Rattle.run_text.specs.RunText.{run_text, ending_text, trace_lines, IsWorldOf};
 ghost use Rattle.run_text.specs.Parts.{run_end_of, steps};
-ghost use Rattle.board_runs.specs.RunWriter.{steps_text, telling_of};
+ghost use Rattle.tock_cli.specs.RunWriter.{steps_text, telling_of};
 
 use crate::teller::RunWriter;
 use board_core::Board;
@@ -99,7 +99,7 @@ struct EndOfRun<'a> {
 impl Text for EndOfRun<'_> {
     ghost use Rattle.std.specs.Prelude.{◌++◌};
     ghost use Rattle.run_text.specs.RunText.{ending_text};
-    ghost use Rattle.board_runs.specs.RunWriter.{total_text};
+    ghost use Rattle.tock_cli.specs.RunWriter.{total_text};
 
     ghost bytes = { λ end. total_text end.telling ++ ending_text end.board.now };
 

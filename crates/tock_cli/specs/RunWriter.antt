@@ -8,8 +8,8 @@ use Rattle.kernel_model.specs.Run.{printed}
 use Rattle.board_report.specs.Trace.{trace_text}
 use Rattle.run_text.specs.declared.mode.Mode.{Mode}
 use Rattle.run_text.specs.declared.mode.Mode.TheVariants.{Boot, Trace, Soak}
-use Rattle.board_runs.specs.declared.teller.RunWriter.{RunWriter}
-use Rattle.board_runs.specs.declared.teller.RunWriter.TheVariants as tellings
+use Rattle.tock_cli.specs.declared.teller.RunWriter.{RunWriter}
+use Rattle.tock_cli.specs.declared.teller.RunWriter.TheVariants as tellings
 use Rattle.run_text.specs.Parts.{Step, step_lines, tally_line, tally_of}
 use Rattle.run_text.specs.Tallies.{tallying}
 

@@ -19,16 +19,16 @@ use Rattle.kernel_model.specs.World.{DeviceStep, Stepped, World, after, carried_
 use Rattle.kernel_model.specs.Shown.{shown_by}
 use Rattle.kernel_model.specs.Stretch.{IsStretch, RoundsJoin}
 use Rattle.kernel_model.specs.Run.{Ran, next, round, printed, stays}
-use Rattle.board_runs.proofs.Runs.{of_stepped, printed_in, printed-round, round-stop, round-step, round-zero}
-use Rattle.board_runs.proofs.Runs.{round-more, steps-plus, steps-stop, steps-step, steps-zero}
+use Rattle.tock_cli.proofs.Runs.{of_stepped, printed_in, printed-round, round-stop, round-step, round-zero}
+use Rattle.tock_cli.proofs.Runs.{round-more, steps-plus, steps-stop, steps-step, steps-zero}
 use Rattle.kernel_model.proofs.Labels.{shown_by-printed}
-use Rattle.board_runs.proofs.RunWriter.{nothing_told, passed_on-steps, told_on-step, told_text-step}
+use Rattle.tock_cli.proofs.RunWriter.{nothing_told, passed_on-steps, told_on-step, told_text-step}
 use Rattle.run_text.specs.declared.mode.Mode.{Mode}
 use Rattle.run_text.specs.declared.mode.Mode.TheVariants.{Boot, Trace, Soak}
-use Rattle.board_runs.specs.declared.teller.RunWriter.{RunWriter}
+use Rattle.tock_cli.specs.declared.teller.RunWriter.{RunWriter}
 use Rattle.run_text.specs.RunText.{IsWorldOf}
 use Rattle.run_text.specs.Parts.{Step, step_of, steps}
-use Rattle.board_runs.specs.RunWriter.{counted_bytes, passed_on, step_text, steps_text, telling_of, told_on, told_text}
+use Rattle.tock_cli.specs.RunWriter.{counted_bytes, passed_on, step_text, steps_text, telling_of, told_on, told_text}
 
 -- After i steps of a run of n steps, from a world to another: what the mode tells of the steps done is put behind what
 -- was gathered before, what it needs of them is kept, and the run goes on as the rest of it would from there.

@@ -1,6 +1,6 @@
 use Rattle.std.proofs.Common.{◌-◌, ◌<◌}
-use Rattle.board_runs.proofs.Running.{RunsOn}
-use Rattle.board_runs.proofs.run.run_steps.Given as goal
+use Rattle.tock_cli.proofs.Running.{RunsOn}
+use Rattle.tock_cli.proofs.run.run_steps.Given as goal
 
 abbrev pub invariant-loop-made : goal.invariant-loop-made
 invariant-loop-made g l = record {

@@ -1,6 +1,6 @@
-use Rattle.board_runs.proofs.Running.{put_and_flushed}
-use Rattle.board_runs.proofs.RunWriter.{traced}
-use Rattle.board_runs.proofs.run.trace_out.Goals as goal
+use Rattle.tock_cli.proofs.Running.{put_and_flushed}
+use Rattle.tock_cli.proofs.RunWriter.{traced}
+use Rattle.tock_cli.proofs.run.trace_out.Goals as goal
 
 pub returns-in_err-_telling-clause-text : goal.returns-in_err-_telling-clause-text
 returns-in_err-_telling-clause-text g c =

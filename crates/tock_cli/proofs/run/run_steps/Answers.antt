@@ -1,8 +1,8 @@
 use Rattle.std.proofs.Common.{sym, arith, ◌∙◌}
 use Rattle.std.proofs.lemmas.Result.{MatchResult-from_err}
-use Rattle.board_runs.proofs.Running.{begins, flushed, made, made_so, one_more, over, part, room, stretched, unflushed}
-use Rattle.board_runs.proofs.Running.{world_here, world_on}
-use Rattle.board_runs.proofs.run.run_steps.Goals as goal
+use Rattle.tock_cli.proofs.Running.{begins, flushed, made, made_so, one_more, over, part, room, stretched, unflushed}
+use Rattle.tock_cli.proofs.Running.{world_here, world_on}
+use Rattle.tock_cli.proofs.run.run_steps.Goals as goal
 
 pub loop-made-init : goal.loop-made-init
 loop-made-init g c = record {
