@@ -1,2 +1,9 @@
 pub mod Stretches
 pub mod Plays
+pub mod Looks
+pub mod Running
+pub mod Shows
+pub mod Makes
+pub mod PartsOf
+pub mod LanesOf
+pub mod KnownEnds

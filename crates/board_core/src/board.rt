@@ -15,16 +15,20 @@ ghost use Rattle.board_opening.specs.Alone.{IsReplayed, OpensAlone};
 ghost use Rattle.board_opening.specs.Opening.{opening};
 ghost use Rattle.board_devices.specs.Arriving.{is_time};
 ghost use Rattle.board_drivers.specs.Tells.{tells_one};
-ghost use Rattle.board_state.specs.KnownEnds.{IsKnownOfChoice};
-ghost use Rattle.board_state.specs.Makes.{MakesStep, act_meant};
+ghost use Rattle.board_core.specs.KnownEnds.{IsKnownOfChoice};
+ghost use Rattle.board_core.specs.Makes.{MakesStep, act_meant};
 
+use crate::left::time_ahead;
+use crate::lines::summary;
+use crate::operator::{act_meant, operate};
+use crate::settings::settings_of;
+use crate::shown::{clear, show};
+use crate::state::BoardState;
+use crate::turns::make_turn;
 use alarm_capsule::AlarmTimes;
 use arrayvec::ArrayVec;
 use board_drivers::{Drivers, Moment};
 use board_opening::{LoadedProcesses, first_crew, placed_in, unplaced};
-use board_state::{
-    BoardState, act_meant, clear, make_turn, operate, settings_of, show, summary, time_ahead,
-};
 use board_turns::{ActivePmp, Machine, ReadySlots};
 use driver_model::{lines_follow_answers, time_brings_an_alarm_nearer};
 use grant_enter::Home;
@@ -53,7 +57,7 @@ impl Model for Board {
 
     ghost Value = { World };
 
-    ghost use Rattle.board_state.specs.Shows.{world_of, IsBoard};
+    ghost use Rattle.board_core.specs.Shows.{world_of, IsBoard};
 
     ghost view = { λ b. world_of b.state };
 

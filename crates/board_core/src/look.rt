@@ -5,7 +5,7 @@ ghost use Rattle.grant_model.specs.Encoding.{IsSound, encode_grants};
 ghost use Rattle.std.specs.Option.{option_copied, option_map};
 ghost use Rattle.process_model.specs.Own.{block_of, layout_of};
 ghost use Rattle.grant_enter.specs.Homes.{living};
-ghost use Rattle.board_state.specs.Looks.{LivesThere, waiting_for};
+ghost use Rattle.board_core.specs.Looks.{LivesThere, waiting_for};
 
 use crate::board::Board;
 use driver_requests::Waiting;

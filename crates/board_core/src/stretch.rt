@@ -7,11 +7,11 @@ ghost use Rattle.kernel_model.specs.Replay.{chosen};
 ghost use Rattle.kernel_model.specs.Run.{next};
 ghost use Rattle.kernel_model.specs.Stretch.{GoesOn, IsStretch};
 ghost use Rattle.kernel_model.specs.World.{is_ready};
-ghost use Rattle.board_state.specs.KnownEnds.{IsKnownOfChoice};
+ghost use Rattle.board_core.specs.KnownEnds.{IsKnownOfChoice};
 ghost use Rattle.board_core.specs.Stretches.{EndsStretch};
 
 use crate::board::Board;
-use board_state::{is_over, present_after, running_in, turns_left, used_before};
+use crate::slices::{is_over, present_after, running_in, turns_left, used_before};
 use driver_model::time_brings_an_alarm_nearer;
 use kernel_laws::round_is_stretch;
 use kernel_lives::steps_are_accounted_for;

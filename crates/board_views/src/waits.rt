@@ -1,6 +1,6 @@
 //! The lines that tell who waits for a device.
 ghost use Rattle.std.specs.Prelude.{◌≡◌, map};
-ghost use Rattle.board_state.specs.Looks.{waiting_for};
+ghost use Rattle.board_core.specs.Looks.{waiting_for};
 ghost use Rattle.tk_outside.specs.Writes.{Writes};
 ghost use Rattle.board_views.specs.Lines.{word_text, words_text};
 ghost use Rattle.board_views.specs.States.{queues_text, waits_text};

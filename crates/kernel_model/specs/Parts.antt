@@ -1,5 +1,5 @@
 -- Names of parts of what a call, a turn and a step come to, for proofs and for contracts of inner functions
--- (kernel_calls, board_turns, board_state). Each is equal by unfolding. Their subject is that of the whole: TRD 104,
+-- (kernel_calls, board_turns, board_core). Each is equal by unfolding. Their subject is that of the whole: TRD 104,
 -- "System Call API".
 use Rattle.std.specs.Prelude.{◌≡◌, ℕ, ◌&&◌, ◌==◌, Bool, not, if◌then◌else◌, List, [], ◌∷◌, ◌++◌, length, map}
 use Rattle.std.specs.Prelude.{option_and_then}

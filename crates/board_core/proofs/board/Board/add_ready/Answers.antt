@@ -3,8 +3,8 @@ use Rattle.turn_scheduler.specs.Parts.{place_is_ready}
 use Rattle.kernel_model.specs.Run.{ready_slots}
 use Rattle.kernel_model.specs.Turn.{may_turn}
 use Rattle.kernel_model.specs.World.{World, only_in}
-use Rattle.board_state.proofs.Boards.{turns_long}
-use Rattle.board_state.proofs.Tables.{all_flags, flag_more, length-may_go}
+use Rattle.board_core.proofs.Boards.{turns_long}
+use Rattle.board_core.proofs.Tables.{all_flags, flag_more, length-may_go}
 use Rattle.board_core.proofs.board.Board.add_ready.Goals as goal
 
 pub loop-slot-preserved : goal.loop-slot-preserved

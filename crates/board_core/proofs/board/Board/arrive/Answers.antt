@@ -9,12 +9,12 @@ use Rattle.tk_base.specs.declared.process.Dev.TheVariants.{Event}
 use Rattle.board_devices.specs.Arriving.{is_time}
 use Rattle.board_drivers.proofs.Edges.{arrived_alarms, may_be_told, parts_with, some_left}
 use Rattle.kernel_model.specs.World.{World}
-use Rattle.board_state.specs.Makes.{MakesStep, act_meant}
-use Rattle.board_state.specs.PartsOf.{board_parts}
-use Rattle.board_state.specs.Shows.{IsBoard, world_of}
-use Rattle.board_state.proofs.Arrivals.{arrived_board, arrived_shown, parts_then, world_arrived}
-use Rattle.board_state.proofs.Devices.{below_shown, made_so, may_act, not_acting, refused_so}
-use Rattle.board_state.proofs.Changes.{a_step_later}
+use Rattle.board_core.specs.Makes.{MakesStep, act_meant}
+use Rattle.board_core.specs.PartsOf.{board_parts}
+use Rattle.board_core.specs.Shows.{IsBoard, world_of}
+use Rattle.board_core.proofs.Arrivals.{arrived_board, arrived_shown, parts_then, world_arrived}
+use Rattle.board_core.proofs.Devices.{below_shown, made_so, may_act, not_acting, refused_so}
+use Rattle.board_core.proofs.Changes.{a_step_later}
 use Rattle.board_drivers.specs.Driven.{AreFreeSoon}
 use Rattle.board_drivers.specs.Parts.{AreBoardParts}
 use Rattle.board_turns.specs.declared.machine.Machine.{Machine}

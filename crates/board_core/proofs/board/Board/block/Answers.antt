@@ -3,7 +3,7 @@ use Rattle.std.specs.Option.{option_map}
 use Rattle.process_model.specs.Own.{block_of}
 use Rattle.kernel_model.specs.Record.{Record}
 use Rattle.kernel_model.specs.World.{World}
-use Rattle.board_state.proofs.Looks.{read_missing, read_there}
+use Rattle.board_core.proofs.Looks.{read_missing, read_there}
 use Rattle.board_core.proofs.board.Board.block.Goals as goal
 
 pub returns-then-index-len : goal.returns-then-index-len

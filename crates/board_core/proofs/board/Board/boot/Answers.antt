@@ -27,11 +27,11 @@ use Rattle.board_opening.proofs.Crews.{all_apart, all_move_in, all_ordered, all_
 use Rattle.board_opening.proofs.Crews.{opening_shown}
 use Rattle.board_opening.proofs.Fresh.{all_same, driven_first, lanes_first}
 use Rattle.kernel_model.specs.World.{World, lane_count}
-use Rattle.board_state.proofs.Boards.{first_tell}
+use Rattle.board_core.proofs.Boards.{first_tell}
 use Rattle.board_turns.specs.ReadySlots.{NoneBeyond, TurnsTell}
 use Rattle.board_turns.proofs.TurnsKept.{none_first}
 use Rattle.process_record.specs.declared.process.Process.{Process}
-use Rattle.board_state.specs.Shows.{IsBoard, world_of}
+use Rattle.board_core.specs.Shows.{IsBoard, world_of}
 use Rattle.board_turns.specs.declared.machine.Machine.{Machine}
 use Rattle.board_turns.specs.Machines.{IsCalmUntil, KeepsAlarms}
 use Rattle.board_core.proofs.board.Board.boot.Goals as goal

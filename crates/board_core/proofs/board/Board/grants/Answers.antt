@@ -4,7 +4,7 @@ use Rattle.grant_model.specs.Encoding.{encode_grants}
 use Rattle.grant_enter.specs.Homes.{own_of}
 use Rattle.kernel_model.specs.Record.{Record}
 use Rattle.kernel_model.specs.World.{World}
-use Rattle.board_state.proofs.Looks.{read_missing, read_there}
+use Rattle.board_core.proofs.Looks.{read_missing, read_there}
 use Rattle.board_core.proofs.Kernels.{kernel_cut, kernel_there}
 use Rattle.board_core.proofs.board.Board.grants.Goals as goal
 

@@ -4,7 +4,7 @@ use Rattle.grant_model.specs.Encoding.{IsSound}
 use Rattle.process_model.specs.Own.{Own}
 use Rattle.kernel_model.specs.Record.{Record}
 use Rattle.kernel_model.specs.World.{World}
-use Rattle.board_state.proofs.Boards.{shown_of_each}
+use Rattle.board_core.proofs.Boards.{shown_of_each}
 use Rattle.board_core.proofs.board.Board.grants_are_sound.Goals as goal
 
 pub returns : goal.returns

@@ -3,7 +3,7 @@ use Rattle.std.specs.Option.{option_map}
 use Rattle.grant_enter.specs.Homes.{living}
 use Rattle.kernel_model.specs.Record.{Record}
 use Rattle.kernel_model.specs.World.{World}
-use Rattle.board_state.proofs.Looks.{own_read}
+use Rattle.board_core.proofs.Looks.{own_read}
 use Rattle.board_core.proofs.board.Board.id.Goals as goal
 
 pub returns : goal.returns

@@ -1,7 +1,7 @@
 use Rattle.std.proofs.Common.{◌≡◌, ap, sym, arith, ◌∙◌}
 use Rattle.kernel_model.specs.Run.{next, ready_devices}
-use Rattle.board_state.proofs.Boards.{next_may, none_in_calm}
-use Rattle.board_state.proofs.Ready.{calm_shown}
+use Rattle.board_core.proofs.Boards.{next_may, none_in_calm}
+use Rattle.board_core.proofs.Ready.{calm_shown}
 use Rattle.board_core.proofs.board.Board.next_choice.Goals as goal
 use Rattle.board_core.proofs.board.Board.next_choice.Goals.{After-next_choice_in, After-next_in_calm}
 

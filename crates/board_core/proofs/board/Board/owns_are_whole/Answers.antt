@@ -1,6 +1,6 @@
 use Rattle.std.proofs.Common.{subst}
 use Rattle.kernel_model.specs.Causes.{AreWhole}
-use Rattle.board_state.proofs.Boards.{shown_whole}
+use Rattle.board_core.proofs.Boards.{shown_whole}
 use Rattle.board_core.proofs.board.Board.owns_are_whole.Goals as goal
 
 pub returns : goal.returns

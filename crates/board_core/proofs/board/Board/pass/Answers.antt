@@ -1,6 +1,6 @@
 use Rattle.std.proofs.Common.{sym, ◌∙◌, arith}
-use Rattle.board_state.proofs.Devices.{below_shown}
-use Rattle.board_state.proofs.Ready.{passed_board, passes}
+use Rattle.board_core.proofs.Devices.{below_shown}
+use Rattle.board_core.proofs.Ready.{passed_board, passes}
 use Rattle.board_core.proofs.board.Board.pass.Goals as goal
 
 pub returns : goal.returns

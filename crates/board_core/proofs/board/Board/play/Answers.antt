@@ -1,4 +1,4 @@
-use Rattle.std.proofs.Common.{List, ℕ, sym, subst, refl, rules}
+use Rattle.std.proofs.Common.{List, ℕ, sym, subst, refl}
 use Rattle.tk_outside.specs.Writes.{WroteAll, WrotePart}
 use Rattle.board_core.proofs.Plays.{failed, laws_of_runs, plays_on, stopped, unready_if_refused, whole}
 use Rattle.board_core.proofs.board.Board.play.Goals as goal

@@ -2,7 +2,7 @@ use Rattle.std.proofs.Common.{ap, slice_get, ◌∙◌}
 use Rattle.std.specs.Option.{option_map}
 use Rattle.kernel_model.specs.Record.{Record}
 use Rattle.kernel_model.specs.World.{World}
-use Rattle.board_state.proofs.Looks.{process_missing, process_there}
+use Rattle.board_core.proofs.Looks.{process_missing, process_there}
 use Rattle.board_core.proofs.board.Board.process.Goals as goal
 
 pub returns-in-Some : goal.returns-in-Some

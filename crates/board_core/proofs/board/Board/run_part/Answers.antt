@@ -13,14 +13,14 @@ use Rattle.board_drivers.specs.Driven.{AreDriven}
 use Rattle.board_drivers.specs.Residents.{HasLost, IsResident}
 use Rattle.board_drivers.specs.declared.drivers.Drivers.{Drivers}
 use Rattle.board_turns.specs.declared.machine.Machine.{Machine}
-use Rattle.board_state.specs.declared.state.BoardState.{BoardState}
-use Rattle.board_state.specs.Shows.{IsBoard, world_of}
-use Rattle.board_state.specs.KnownEnds.{IsKnownOfChoice}
-use Rattle.board_state.specs.Stretches.{slot_runs}
-use Rattle.board_state.proofs.Ready.{calm_shown}
-use Rattle.board_state.proofs.Stretches.{end_known, ends_shown, looked_ahead, next_stays, nothing_comes, rests_there}
-use Rattle.board_state.proofs.Stretches.{runs_within, still, stretch_shown, turns_later, used_within}
-use Rattle.board_state.proofs.Boards.{may_turn_on}
+use Rattle.board_core.specs.declared.state.BoardState.{BoardState}
+use Rattle.board_core.specs.Shows.{IsBoard, world_of}
+use Rattle.board_core.specs.KnownEnds.{IsKnownOfChoice}
+use Rattle.board_core.specs.Running.{slot_runs}
+use Rattle.board_core.proofs.Ready.{calm_shown}
+use Rattle.board_core.proofs.Stretches.{end_known, ends_shown, looked_ahead, next_stays, nothing_comes, rests_there}
+use Rattle.board_core.proofs.Stretches.{runs_within, still, stretch_shown, turns_later, used_within}
+use Rattle.board_core.proofs.Boards.{may_turn_on}
 use Rattle.board_core.proofs.board.Board.run_part.Goals as goal
 use Rattle.board_core.proofs.board.Board.run_part.Goals.{After-is_over}
 

@@ -1,5 +1,5 @@
 use Rattle.std.proofs.Common.{◌+◌, refl, arith}
-use Rattle.board_state.proofs.KnownEnds.{nothing_known_next}
+use Rattle.board_core.proofs.KnownEnds.{nothing_known_next}
 use Rattle.board_core.proofs.board.Board.run_quietly.Goals as goal
 
 pub loop-made-init : goal.loop-made-init

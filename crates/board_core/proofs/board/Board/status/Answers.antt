@@ -5,11 +5,11 @@ use Rattle.partition_turns.specs.Lanes.{lanes_shown}
 use Rattle.turn_scheduler.specs.Situation.{Situation}
 use Rattle.turn_scheduler.specs.Status.{IsChoiceAhead, choice_by}
 use Rattle.kernel_model.specs.World.{World}
-use Rattle.board_state.proofs.InWindows.{choice_ahead, choice_same}
+use Rattle.board_core.proofs.InWindows.{choice_ahead, choice_same}
 use Rattle.kernel_model.specs.Run.{next_time, ready_slots, situation_of}
-use Rattle.board_state.specs.LanesOf.{lanes_of}
-use Rattle.board_state.proofs.Boards.{status_shown}
-use Rattle.board_state.proofs.Ready.{devices_shown}
+use Rattle.board_core.specs.LanesOf.{lanes_of}
+use Rattle.board_core.proofs.Boards.{status_shown}
+use Rattle.board_core.proofs.Ready.{devices_shown}
 use Rattle.board_core.proofs.board.Board.status.Goals as goal
 
 pub returns-clause-status : goal.returns-clause-status

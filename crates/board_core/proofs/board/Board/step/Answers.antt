@@ -1,4 +1,4 @@
-use Rattle.board_state.proofs.KnownEnds.{nothing_known}
+use Rattle.board_core.proofs.KnownEnds.{nothing_known}
 use Rattle.board_core.proofs.board.Board.step.Goals as goal
 
 pub step_with_end-requires : goal.step_with_end-requires

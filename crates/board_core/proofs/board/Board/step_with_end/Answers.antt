@@ -4,9 +4,9 @@ use Rattle.tk_base.specs.declared.process.Choice.TheVariants.{Run, Device, Pass}
 use Rattle.tk_base.specs.declared.process.Dev.TheVariants.{Event}
 use Rattle.kernel_model.specs.World.{World}
 use Rattle.board_opening.proofs.Alone.{step_replayed}
-use Rattle.board_state.specs.KnownEnds.{IsKnownOfChoice}
-use Rattle.board_state.specs.Makes.{MakesStep}
-use Rattle.board_state.specs.Shows.{world_of}
+use Rattle.board_core.specs.KnownEnds.{IsKnownOfChoice}
+use Rattle.board_core.specs.Makes.{MakesStep}
+use Rattle.board_core.specs.Shows.{world_of}
 use Rattle.board_core.proofs.board.Board.step_with_end.Goals as goal
 use Rattle.board_core.proofs.board.Board.step_with_end.Goals.{After-make_turn}
 

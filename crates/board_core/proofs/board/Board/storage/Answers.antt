@@ -2,7 +2,7 @@ use Rattle.std.proofs.Common.{ap, arith, slice_get, ◌∙◌}
 use Rattle.std.specs.Option.{option_map}
 use Rattle.kernel_model.specs.Record.{Record}
 use Rattle.kernel_model.specs.World.{World}
-use Rattle.board_state.proofs.Looks.{read_missing, read_there}
+use Rattle.board_core.proofs.Looks.{read_missing, read_there}
 use Rattle.board_core.proofs.board.Board.storage.Goals as goal
 
 pub returns-then-index-len : goal.returns-then-index-len

@@ -15,12 +15,12 @@ use Rattle.board_turns.specs.declared.machine.Machine.{Machine}
 use Rattle.board_turns.specs.Machines.{IsCalmUntil, KeepsAlarms, KeepsOtherAlarms}
 use Rattle.board_turns.specs.ReadySlots.{OtherTurnsTell, TurnsTell}
 use Rattle.board_turns.specs.Turning.{ChangesSlot}
-use Rattle.board_state.specs.PartsOf.{board_parts}
-use Rattle.board_state.specs.Shows.{IsBoard, world_of}
-use Rattle.board_state.proofs.Changes.{a_step_later, others_stay_ready, owns_after}
-use Rattle.board_state.proofs.Devices.{all_still, below_shown, made_so, may_tell, not_acting, others_still, refused_so}
-use Rattle.board_state.proofs.Devices.{told_at, told_board, told_shown, world_told}
-use Rattle.board_state.proofs.PartsOf.{are_parts}
+use Rattle.board_core.specs.PartsOf.{board_parts}
+use Rattle.board_core.specs.Shows.{IsBoard, world_of}
+use Rattle.board_core.proofs.Changes.{a_step_later, others_stay_ready, owns_after}
+use Rattle.board_core.proofs.Devices.{all_still, below_shown, made_so, may_tell, not_acting, others_still, refused_so}
+use Rattle.board_core.proofs.Devices.{told_at, told_board, told_shown, world_told}
+use Rattle.board_core.proofs.PartsOf.{are_parts}
 use Rattle.board_core.proofs.board.Board.tell.Goals as goal
 use Rattle.board_core.proofs.board.Board.tell.Goals.{After-forget_fired, After-look_at, In-Ok, In_default}
 

@@ -3,8 +3,8 @@ use Rattle.std.specs.Prelude.{All}
 use Rattle.tk_base.specs.declared.process.ProcessId.{ProcessId}
 use Rattle.driver_model.specs.Commands.{Writes, Reads, Randoms, Stores}
 use Rattle.kernel_model.specs.World.{World}
-use Rattle.board_state.specs.Looks.{LivesThere}
-use Rattle.board_state.proofs.Looks.{queue_lives}
+use Rattle.board_core.specs.Looks.{LivesThere}
+use Rattle.board_core.proofs.Looks.{queue_lives}
 use Rattle.board_core.proofs.board.Board.waiting.Goals as goal
 
 pub returns-in-Uart-clause-lives : goal.returns-in-Uart-clause-lives

@@ -5,7 +5,7 @@ use Rattle.kernel_model.specs.Run.{ready_devices}
 use Rattle.kernel_model.specs.World.{Work, World}
 use Rattle.board_drivers.specs.Calm.{work_then}
 use Rattle.board_drivers.proofs.Calm.{served_now}
-use Rattle.board_state.proofs.Ready.{devices_shown, ready_at}
+use Rattle.board_core.proofs.Ready.{devices_shown, ready_at}
 use Rattle.board_core.proofs.board.BoardSituated.device_is_ready.Goals as goal
 
 pub returns : goal.returns

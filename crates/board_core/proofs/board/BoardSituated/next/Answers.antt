@@ -1,7 +1,7 @@
 use Rattle.std.proofs.Common.{◌<◌, ◌-◌, ◌^◌, IfSome, ap, subst, ◌∙◌}
 use Rattle.kernel_model.specs.Run.{next_time}
 use Rattle.kernel_model.specs.World.{World}
-use Rattle.board_state.proofs.Boards.{next_ahead}
+use Rattle.board_core.proofs.Boards.{next_ahead}
 use Rattle.board_core.proofs.board.BoardSituated.next.Goals as goal
 
 pub returns-clause-ahead : goal.returns-clause-ahead

@@ -5,9 +5,9 @@ use Rattle.kernel_model.specs.Run.{ready_slots}
 use Rattle.kernel_model.specs.World.{World, is_let}
 use Rattle.board_drivers.specs.Calm.{only_of}
 use Rattle.board_drivers.specs.Residents.{can_turn_in}
-use Rattle.board_state.specs.declared.state.BoardState.{BoardState}
-use Rattle.board_state.specs.Shows.{IsBoard, residents, world_of}
-use Rattle.board_state.proofs.Boards.{and_false, slot_shown}
+use Rattle.board_core.specs.declared.state.BoardState.{BoardState}
+use Rattle.board_core.specs.Shows.{IsBoard, residents, world_of}
+use Rattle.board_core.proofs.Boards.{and_false, slot_shown}
 use Rattle.board_turns.proofs.Counted.{none_counted}
 use Rattle.board_drivers.proofs.Pairs.{length-firsts}
 use Rattle.board_core.proofs.board.BoardSituated.slots.Goals as goal

@@ -1,8 +1,0 @@
-use Rattle.std.proofs.Common.{◌≡◌, map, take}
-use Rattle.kernel_model.specs.Turn.{may_turn}
-use Rattle.board_state.specs.Shows.{world_of}
-use Rattle.board_state.proofs.standard.turns_ready.Given as goal
-
--- those of the slots that were looked at
-abbrev pub invariant-loop-slot : goal.invariant-loop-slot
-invariant-loop-slot l = l.ready.items ≡ take l.slot (map may_turn (world_of l.state).records)
