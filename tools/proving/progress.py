@@ -4,7 +4,7 @@ import sys
 import time
 
 # How many seconds an amount of work takes before any was measured here.
-EXPECTED = 0.65
+EXPECTED = 0.5
 
 
 def tell(*words):
