@@ -1,6 +1,6 @@
-"""The first run of ./tock, and those after a change, with a prover that stands in for the kit's: that it proves what
-the program needs and no more, each crate once those below it are proved, and never runs a program that other sources
-or another prover made. `checks` gives each check with its name, for tests/run."""
+"""The first run of ./tock, and those after a change, with a prover that stands in for the kit's: that it has proved
+what the program needs and no more, joined into one crate, and never runs a program that other sources or another
+prover made. `checks` gives each check with its name, for tests/run."""
 
 import os
 import re
@@ -13,8 +13,8 @@ import time
 from common import TOCK, write
 from cases.case import REPOSITORY
 
-# Notes when it begins and ends a crate, refuses one with the word `wrong`, and makes a program that tells of which
-# sources it was made.
+# Notes when it begins and ends; refuses what has the word `wrong`, and makes a program that tells of which sources it
+# was made, where these are those that were proved.
 KIT = {
     "rt": """#!/bin/sh
 case $1 in
@@ -23,17 +23,22 @@ case $1 in
 esac
 """,
     "rattle": """#!/bin/sh
-name=$3
-for word; do made=$word; done
-echo "begin $name" >>"$LOG"
+for word; do
+    [ "$before" = --crate-checked ] && found=$word
+    before=$word made=$word
+done
+if [ "$1" = build ]; then
+    diff -r src "$found" || exit 1
+    { echo '#!/bin/sh'; echo "echo made of $(cat $(find src -name '*.rt') | tr '\\n' ' ')for \\"\\$@\\""; } >"$made"
+    exit
+fi
+echo begins >>"$LOG"
+echo "checked tock::one, 1 of 2"
 sleep ${SLEEP:-0}
-! grep -r wrong src || { echo "$name: a wrong body"; exit 1; }
-for word; do case $word in *=*/out/proved/*) [ -d "${word#*=}" ] || exit 2 ;; esac; done
-case $made in
-    *.o) { echo '#!/bin/sh'; echo "echo made of $(cat ../*/src/*.rt | tr '\\n' ' ')for \\"\\$@\\""; } >"$made" ;;
-    *) mkdir -p "$made" ;;
-esac
-echo "end $name" >>"$LOG"
+for wrong in $(grep -rl wrong src); do echo "$wrong:1:1: error: a wrong body"; done
+[ -z "$wrong" ] || exit 1
+rm -rf "$made" && cp -r src "$made"
+echo ends >>"$LOG"
 """,
     "rattle-link": """#!/bin/sh
 while [ "$1" != -o ]; do shift; done
@@ -52,13 +57,11 @@ tock: middle
 """
 NAMES = ("base", "one", "other", "samples", "middle", "beside", "tock")
 USES = {"one": "base", "other": "base", "middle": "one other", "tock": "middle"}
-PROVED = ["base", "middle", "one", "other", "tock"]
+NEEDED = ["base", "middle", "one", "other", "tock"]
 ABOUT = r"(less than a minute|about a minute|about \d+ minutes)"
 BEGUN = (r"tock: proving the kernel's 5 crates and building the program, once; this takes %s where none was proved "
          r"before\n" % ABOUT)
-TOLD = BEGUN + r"".join(r"tock: proved %d of 5: \w+; %d left, %s\n" % (number, 5 - number, ABOUT)
-                        for number in range(1, 5)) + r"tock: proving tock and building the program\n" \
-    r"tock: proved 5 of 5: tock\n"
+TOLD = BEGUN + r"tock: proved 1 of 2 functions; %s left\ntock: proved; building the program\n" % ABOUT
 
 
 class Repository:
@@ -69,7 +72,7 @@ class Repository:
         self.environment = {name: text for name, text in os.environ.items() if not name.startswith("TOCK_")}
         self.environment.update(LOG=self.log, PATH=os.path.join(folder, "bin") + os.pathsep + os.environ["PATH"])
         for name in NAMES:
-            self.writes(name, name)
+            self.writes(name, name, "main.rt" if name == "tock" else "lib.rt")
             write(self.top, os.path.join("crates", name, "specs", "Lib.antt"), USES.get(name, "") + "\n")
         write(self.top, "crates.txt", CRATES)
         write(self.top, "HANDLES", "Handles allowed: none.\n")
@@ -111,113 +114,140 @@ class Repository:
         return self.ends(self.begins(**more))
 
     def proved(self):
-        """The crates that were begun since this was asked last, in order, and those lines."""
+        """What the prover noted since this was asked last."""
         lines = open(self.log).read().splitlines() if os.path.exists(self.log) else []
         write(os.path.dirname(self.log), "log", "")
-        return sorted(line.split()[1] for line in lines if line.startswith("begin")), lines
+        return lines
+
+
+ONCE = ["begins", "ends"]
 
 
 def made(**texts):
     """What the program says that was made of such sources, of each crate its name where no other text is said."""
-    return "made of %s for soak 1\n" % " ".join(texts.get(name, name) for name in sorted(NAMES))
+    return sorted(("made of %s for soak 1" % " ".join(texts.get(name, name) for name in NEEDED)).split())
 
 
 def first(repository):
-    """It proves what the program needs, side by side where it can, and tells how far it is; a later run says
-    nothing."""
-    status, out, told = repository.runs(SLEEP="0.3")
-    names, lines = repository.proved()
-    if (status, out) != (0, made()) or not re.fullmatch(TOLD, told) or names != PROVED:
-        return "%d, %r, told %r, proved %s" % (status, out, told, names)
-    for upper, below in (("one", "base"), ("other", "base"), ("middle", "one"), ("middle", "other"),
-                         ("tock", "middle")):
-        if lines.index("begin " + upper) < lines.index("end " + below):
-            return "%s was begun before %s was proved" % (upper, below)
-    if len(os.sched_getaffinity(0)) > 1 and sorted(lines[2:4]) != ["begin one", "begin other"]:
-        return "not side by side: %s" % lines
-    again = repository.runs(), repository.proved()[0]
-    return None if again == ((0, made(), ""), []) else "a later run: %r" % (again,)
+    """It has proved what the program needs, once, and tells how far it is; a later run says nothing."""
+    status, out, told = repository.runs()
+    lines = repository.proved()
+    if (status, sorted(out.split())) != (0, made()) or not re.fullmatch(TOLD, told) or lines != ONCE:
+        return "%d, %r, told %r, proved %s" % (status, out, told, lines)
+    again = repository.runs(), repository.proved()
+    return None if again == ((0, out, ""), []) else "a later run: %r" % (again,)
+
+
+def joined(repository):
+    """Each crate is a module of the one crate, under its own paths, line by line."""
+    for name, path, text in (
+            ("base", "src/lib.rt", "//! Base.\n#![tactic(auto)]\nmod one;\nuse crate::one::{base, tock};\n"
+             "#[tactic(auto, using(crate::proofs::One::one))]\nghost use Rattle.base.specs.declared.one.One;\n"),
+            ("base", "src/one.rt", "pub use super::a::base::b;\n"),
+            ("one", "src/lib.rt", "#![tactic(auto)]\nuse base::one;\n"
+             "#[tactic(auto, unfolding(base::specs::One::one))]\n"),
+            ("one", "proofs/Lib.antt", "use Rattle.base.proofs.One.{one}\nuse Rattle.std.specs.One\n"),
+            ("one", "proofs/one/Proof.antt", "use Rattle.base.specs.contracts.one\nuse Rattle.one.specs.One\n"),
+            ("tock", "src/main.rt", "//! The program.\n#![tactic(auto)]\nuse one::one;\nuse crate::own;\n")):
+        write(repository.top, os.path.join("crates", name, path), text)
+    repository.runs()
+    for path, text in (
+            ("src/base/mod.rt", "//! Base.\n\npub mod one;\nuse crate::base::one::{base, tock};\n"
+             "#[tactic(auto, using(crate::proofs::base::One::one))]\n"
+             "ghost use Rattle.tock.specs.declared.base.one.One;\n"),
+            ("src/base/one.rt", "pub use super::a::base::b;\n"),
+            ("src/one/mod.rt", "\nuse crate::base::one;\n#[tactic(auto, unfolding(crate::specs::base::One::one))]\n"),
+            ("proofs/one.antt", "use Rattle.tock.proofs.base.One.{one}\nuse Rattle.std.specs.One\n"),
+            ("proofs/one/one/Proof.antt", "use Rattle.tock.specs.contracts.base.one\nuse Rattle.tock.specs.one.One\n"),
+            ("src/main.rt", "//! The program.\n#![tactic(auto)] mod base; mod one; mod other; mod middle;\n"
+             "use crate::one::one;\nuse crate::own;\n"),
+            ("specs/Lib.antt", "pub mod base\npub mod one\npub mod other\npub mod middle\n")):
+        with open(os.path.join(repository.top, "out", "joined", path), encoding="utf-8") as file:
+            said = file.read()
+        if said != text:
+            return "%s: %r" % (path, said)
+    return None
 
 
 def changed(repository):
-    """A source that is edited, added or deleted, and another prover, are noticed, and what stands on it is proved again
-    and no more; other times and what the program does not need are not."""
+    """A source that is edited, added or deleted, and another prover, are noticed, and all is proved again; other times
+    and what the program does not need are not."""
     repository.runs()
     repository.proved()
     source = os.path.join(repository.top, "crates", "base", "src", "lib.rt")
     for what, change, text, again in (
             ("touched", lambda: os.utime(source), "base", []),
-            ("not needed", lambda: repository.writes("beside", "beside"), "base", []),
-            ("edited", lambda: repository.writes("base", "basis"), "basis", PROVED),
-            ("edited higher", lambda: repository.writes("middle", "middle "), "basis", ["middle", "tock"]),
-            ("added", lambda: repository.writes("base", "added", "added.rt"), "added basis", PROVED),
-            ("deleted", lambda: os.remove(source.replace("lib", "added")), "basis", PROVED),
-            ("another prover", lambda: repository.prover(2), "basis", PROVED),
+            ("not needed", lambda: repository.writes("beside", "beside, changed"), "base", []),
+            ("edited", lambda: repository.writes("base", "basis"), "basis", ONCE),
+            ("added", lambda: repository.writes("base", "added", "added.rt"), "added basis", ONCE),
+            ("deleted", lambda: os.remove(source.replace("lib", "added")), "basis", ONCE),
+            ("another prover", lambda: repository.prover(2), "basis", ONCE),
             ("the same prover", lambda: repository.prover(2), "basis", [])):
         change()
         status, out, told = repository.runs()
-        names, _ = repository.proved()
-        is_right = (status, sorted(out.split())) == (0, sorted(made(base=text).split()))
-        if not is_right or names != again:
-            return "%s: %d, %r, proved %s" % (what, status, out, names)
+        lines = repository.proved()
+        if (status, sorted(out.split())) != (0, made(base=text)) or lines != again:
+            return "%s: %d, %r, proved %s" % (what, status, out, lines)
     return None
 
 
 def refused(repository):
-    """Where a crate is refused the answer is 1, with all that the prover said, and nothing above it is proved; what was
-    proved is kept, and once it is mended the program is built."""
+    """Where something is refused the answer is 1, with all that the prover said, under the crates' own files; once it
+    is mended the program is built."""
     repository.runs()
     repository.proved()
     repository.writes("other", "wrong")
     status, out, told = repository.runs()
-    names, _ = repository.proved()
-    if (status, out) != (1, "") or "== other\nsrc/lib.rt:wrong\nother: a wrong body\n" not in told or "middle" in names:
-        return "%d, %r, told %r, proved %s" % (status, out, told, names)
+    if (status, out) != (1, "") or "\ncrates/other/src/lib.rt:1:1: error: a wrong body\n" not in told:
+        return "%d, %r, told %r" % (status, out, told)
     repository.writes("other", "mended")
+    repository.proved()
     status, out, told = repository.runs()
-    names, _ = repository.proved()
-    is_right = (status, out) == (0, made(other="mended")) and "base" not in names
-    return None if is_right else "mended: %d, %r, proved %s" % (status, out, names)
+    lines = repository.proved()
+    is_right = (status, sorted(out.split()), lines) == (0, made(other="mended"), ONCE)
+    return None if is_right else "mended: %d, %r, proved %s" % (status, out, lines)
 
 
 def edited_meanwhile(repository):
     """An edit while it builds is proved too before the program runs."""
     run = repository.begins(SLEEP="0.5")
-    repository.waits("begin one")
+    repository.waits("begins")
     repository.writes("base", "basis")
     status, out, told = repository.ends(run)
-    if (status, out) != (0, made(base="basis")) or "a source was changed while the program was built" not in told:
+    is_right = (status, sorted(out.split())) == (0, made(base="basis"))
+    if not is_right or "a source was changed while the program was built" not in told:
         return "%d, %r, told %r" % (status, out, told)
     again = repository.runs()
-    return None if again == (0, made(base="basis"), "") else "a later run: %r" % (again,)
+    return None if again == (0, out, "") else "a later run: %r" % (again,)
 
 
 def two_at_once(repository):
     """Of two first runs at once one proves, and the other waits for it."""
     runs = [repository.begins(SLEEP="0.3") for _ in range(2)]
     ended = [repository.ends(run) for run in runs]
-    names, _ = repository.proved()
+    lines = repository.proved()
     waits = [told for _, _, told in ended if "another run proves the kernel's crates here" in told]
-    if [end[:2] for end in ended] != [(0, made())] * 2 or names != PROVED or len(waits) != 1:
-        return "%r, proved %s" % (ended, names)
+    are_right = [(status, sorted(out.split())) for status, out, _ in ended] == [(0, made())] * 2
+    if not are_right or lines != ONCE or len(waits) != 1:
+        return "%r, proved %s" % (ended, lines)
     return None
 
 
 def stopped(repository):
-    """Where it is stopped or killed, what was proved is kept, and the next run goes on from there."""
+    """Where it is stopped or killed no program is there, and the next run proves and builds it."""
     for number in (signal.SIGINT, signal.SIGKILL):
         repository.writes("base", "base for %d" % number)
         run = repository.begins(SLEEP="0.5")
-        repository.waits("begin one")
+        repository.waits("begins")
         os.killpg(run.pid, number)
         status, out, told = repository.ends(run)
         if status == 0 or out:
             return "%d, %r, told %r" % (status, out, told)
         repository.proved()
         status, out, _ = repository.runs()
-        names, _ = repository.proved()
-        if (status, out) != (0, made(base="base for %d" % number)) or "base" in names or "one" not in names:
-            return "a later run: %d, %r, proved %s" % (status, out, names)
+        lines = repository.proved()
+        if (status, sorted(out.split()), lines) != (0, sorted(made(base="base for %d" % number)), ONCE):
+            return "a later run: %d, %r, proved %s" % (status, out, lines)
     return None
 
 
@@ -229,16 +259,17 @@ def no_prover(repository):
     if (status, out) != (1, "") or not re.fullmatch(r"tock: [^\n]*, and rt is not on PATH: [^\n]*\n", told):
         return "%d, %r, told %r" % (status, out, told)
     repository.runs()
-    end = repository.runs(PATH=without, TOCK_QUIET="1")
-    return None if end == (0, made(), "") else "once it is built: %r" % (end,)
+    status, out, told = repository.runs(PATH=without, TOCK_QUIET="1")
+    is_right = (status, sorted(out.split()), told) == (0, made(), "")
+    return None if is_right else "once it is built: %d, %r, told %r" % (status, out, told)
 
 
 def help_first(repository):
     """--help tells the commands though nothing is built, and has nothing proved."""
     end = repository.ends(repository.begins(words=["--help"]))
-    names, _ = repository.proved()
-    if end[:2] != (1, "") or "tock: boot FLASH SCRIPT --turns N" not in end[2] or names:
-        return "%r, proved %s" % (end, names)
+    lines = repository.proved()
+    if end[:2] != (1, "") or "tock: boot FLASH SCRIPT --turns N" not in end[2] or lines:
+        return "%r, proved %s" % (end, lines)
     return None
 
 
@@ -246,8 +277,9 @@ def linked(repository):
     """./tock may be called by a symbolic link."""
     repository.runs()
     os.symlink(os.path.join(repository.top, "tock"), os.path.join(repository.top, "..", "linked"))
-    end = repository.ends(repository.begins(os.path.join("..", "linked")))
-    return None if end == (0, made(), "") else "%r" % (end,)
+    status, out, told = repository.ends(repository.begins(os.path.join("..", "linked")))
+    is_right = (status, sorted(out.split()), told) == (0, made(), "")
+    return None if is_right else "%d, %r, told %r" % (status, out, told)
 
 
 def tried(check):
@@ -259,5 +291,5 @@ def tried(check):
 def checks(program):
     """Each check with its name."""
     return [("first-run-" + check.__name__.replace("_", "-"), lambda check=check: tried(check))
-            for check in (first, changed, refused, edited_meanwhile, two_at_once, stopped, no_prover, help_first,
-                          linked)]
+            for check in (first, joined, changed, refused, edited_meanwhile, two_at_once, stopped, no_prover,
+                          help_first, linked)]

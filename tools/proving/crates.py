@@ -1,4 +1,4 @@
-"""The crates of crates.txt that a program needs, how much there is to prove of each, and what waits for it."""
+"""The crates of crates.txt that a program needs."""
 
 import os
 import re
@@ -32,16 +32,6 @@ def text_without_tests(folder):
     return "\n".join(texts)
 
 
-def size(paths):
-    return sum(os.path.getsize(path) for path in paths)
-
-
-def work(functions, below):
-    """How much there is to do for the proof of a crate, by the bytes of its functions and by those of all sources below
-    it, which are read. Its lemmas take little beside these."""
-    return 8 + functions / 350 + below / 50000
-
-
 class Crates:
     """Those that a program needs, lowest first, the program last."""
 
@@ -54,22 +44,13 @@ class Crates:
             self.on[name] = [it for it in others if it in libraries and re.search(r"\b%s\b" % it, text)]
             self.of_kit[name] = [it for it in others if it not in libraries]
         self.names = [*self.below(program), program]
-        sizes = {name: size(sources(self.folder(name))) for name in self.names}
-        functions = {name: size(path for path in sources(self.folder(name)) if path.endswith(".rt"))
-                     for name in self.names}
-        self.work = {name: work(functions[name], sum(sizes[it] for it in self.below(name))) for name in self.names}
-        self.above = {name: [other for other in self.names if name in self.on[other]] for name in self.names}
-        self.chain = {}
-        for name in reversed(self.names):
-            self.chain[name] = self.work[name] + max((self.chain[other] for other in self.above[name]), default=0)
 
     def folder(self, name):
         return os.path.join(self.top, "crates", name)
 
-    def root(self, name):
-        """A crate's root file, below its folder."""
-        main = os.path.join("src", "main.rt")
-        return main if os.path.exists(os.path.join(self.folder(name), main)) else os.path.join("src", "lib.rt")
+    def program_made(self):
+        """Where the program is built."""
+        return os.path.join(self.folder(self.program), "out", self.program)
 
     def below(self, name):
         """All crates on which one stands, each behind those on which it stands itself."""
@@ -80,20 +61,7 @@ class Crates:
             self.all_below[name] = found
         return self.all_below[name]
 
-    def ready(self, left, proved):
-        """Those of the crates left that wait for nothing, first the one with the most to prove behind it."""
-        return sorted((name for name in left if all(it in proved for it in self.on[name])),
-                      key=lambda name: -self.chain[name])
-
-    def expected(self, proved, places):
-        """How much work is left one crate behind another, where so many are proved at a time: the time that the rest
-        takes, in the measure of `work`."""
-        left, done, running, now = [it for it in self.names if it not in proved], set(proved), {}, 0
-        while left or running:
-            for name in self.ready(left, done)[:places - len(running)]:
-                left.remove(name)
-                running[name] = now + self.work[name]
-            first = min(running, key=running.get)
-            now = running.pop(first)
-            done.add(first)
-        return now
+    def functions(self):
+        """How many bytes the files of their functions have."""
+        return sum(os.path.getsize(path) for name in self.names for path in sources(self.folder(name))
+                   if path.endswith(".rt"))

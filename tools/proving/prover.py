@@ -1,18 +1,19 @@
-"""The prover of the Rattle kit, as it proves a crate and makes of it the library that the crates above it read, or the
-program.
+"""The prover of the Rattle kit, as it proves the joined crates of a program and builds it."""
 
-A library has its statements alone, and what was checked is not kept for a later check of the same crate: that would
-take half as long again. `rt check`, by which a crate is written, keeps what it checked itself."""
-
-import contextlib
-import dataclasses
-import hashlib
 import os
-import shutil
+import re
 import signal
 import subprocess
 
-from crates import sources
+# The memory that a proof takes, and each job more, in KiB.
+MEMORY, MEMORY_OF_A_JOB = 7000000, 500000
+
+
+def places():
+    """With how many jobs to prove: one for each processor, where there is memory for so many."""
+    with open("/proc/meminfo", encoding="ascii") as file:
+        free = int(re.search(r"MemAvailable:\s+(\d+)", file.read())[1])
+    return max(1, min(len(os.sched_getaffinity(0)), 1 + (free - MEMORY) // MEMORY_OF_A_JOB))
 
 
 def said_by_rt(word):
@@ -20,21 +21,12 @@ def said_by_rt(word):
     return subprocess.run(["rt", word], stdout=subprocess.PIPE, check=True, text=True).stdout.strip()
 
 
-def text_of(path):
-    """What stands in a file; nothing where there is none."""
-    try:
-        with open(path, encoding="ascii") as file:
-            return file.read()
-    except FileNotFoundError:
-        return ""
-
-
 class Kit:
     """The Rattle kit whose `rt` is on PATH."""
 
     def __init__(self):
         # The first page, whose path it says to `doc`, lies in the kit's folder.
-        self.folder, self.version = os.path.dirname(said_by_rt("doc")), said_by_rt("version")
+        self.folder = os.path.dirname(said_by_rt("doc"))
 
     def command(self, name):
         return os.path.join(self.folder, "bin", name)
@@ -47,108 +39,58 @@ class Kit:
         return words
 
     def logic(self):
-        """The words that pass the logic, as it is built."""
-        return ["--antt-project", self.folder + "/rattle/logic/antt-project.json",
-                "--logic-built", self.folder + "/logic_built"]
+        """The words that pass the logic."""
+        return ["--antt-project", self.folder + "/rattle/logic/antt-project.json"]
 
-
-@dataclasses.dataclass
-class Run:
-    """How the prover ended: whether it proved all, all that it said, and how many seconds of processors it took."""
-
-    is_proved: bool = True
-    said: bytes = b""
-    seconds: float = 0.0
-
-    def then(self, other):
-        """Both runs as one, where another followed."""
-        return Run(other.is_proved, self.said + other.said, self.seconds + other.seconds)
+    def logic_built(self):
+        """Those that pass the logic as it is built, for a check."""
+        return ["--logic-built", self.folder + "/logic_built"]
 
 
 class Prover:
-    """The kit's, over the crates of a repository."""
+    """The kit's, over the joined crates of a program, with a folder for what it found of them."""
 
-    def __init__(self, crates):
-        self.crates, self.kit, self.running, self.is_stopped = crates, Kit(), {}, False
+    def __init__(self, joined, found):
+        self.joined, self.found, self.kit, self.running, self.is_stopped = joined, found, Kit(), None, False
 
     def stop(self):
         """Ends what is being proved."""
         self.is_stopped = True
-        for process in list(self.running.values()):
-            process.terminate()
+        if self.running:
+            self.running.terminate()
 
-    def out(self, name, *more):
-        return os.path.join(self.crates.folder(name), "out", *more)
-
-    def library(self, name):
-        return self.out(name, "proved", name + ".rlib")
-
-    def kept(self, name):
-        """The file that tells of what a crate's library was made."""
-        return self.out(name, "proved", "stamp")
-
-    def stamp(self, name):
-        """A sum of all that a crate is proved from, as it stands now: the prover, the crate, and the libraries of those
-        below it; nothing, where it is not known of what these were made."""
-        below = [text_of(self.kept(other)) for other in self.crates.on[name]]
-        total = hashlib.sha256("\n".join([self.kit.version, *below]).encode())
-        for path in sources(self.crates.folder(name)):
-            with open(path, "rb") as file:
-                total.update(b"%s %s\n" % (os.path.relpath(path, self.crates.top).encode(),
-                                           hashlib.sha256(file.read()).hexdigest().encode()))
-        return total.hexdigest() if all(below) else ""
-
-    def prove(self, name, jobs):
-        """Proves a crate with so many jobs. A library that was made before from the same is not made again."""
-        if name == self.crates.program:
-            return self.build(name, jobs)
-        made, kept, stamp = self.library(name), self.kept(name), self.stamp(name)
-        if stamp and os.path.exists(made) and text_of(kept) == stamp:
-            return Run()
-        shutil.rmtree(os.path.dirname(kept), ignore_errors=True)
-        os.makedirs(os.path.dirname(kept))
-        run = self.rattle(name, jobs, "--statements", "-o", made)
-        # Where a source was edited meanwhile, nobody can tell which text was proved.
-        if run.is_proved and stamp == self.stamp(name):
-            with open(kept, "w", encoding="ascii") as file:
-                file.write(stamp)
-        return run
-
-    def rattle(self, name, jobs, *more):
-        """`rattle` over a crate, and the libraries of those below it."""
-        words = ["build", "--crate-name", name, self.crates.root(name), "--links", name + "=",
-                 *self.kit.libraries(["std", *self.crates.of_kit[name]]), *self.kit.logic()]
-        for other in self.crates.on[name]:
-            words += ["--extern", "%s=%s" % (other, self.library(other))]
-        for other in self.crates.below(name):
-            words += ["-L", "dependency=" + os.path.dirname(self.library(other))]
-        status, run = self.call(name, "rattle", *words, "--jobs", str(jobs), *more)
+    def prove(self, jobs, hear):
+        """Proves all with so many jobs; each line of the prover goes to `hear`. The status, and all that was said."""
+        words = ["--progress", "--jobs", str(jobs), "-o", self.found]
+        status, said = self.rattle("check", *self.kit.logic_built(), *words, hear=hear)
         # It was killed, most likely for want of memory: once more, with what takes least.
-        if status == -signal.SIGKILL and jobs > 1:
-            run = run.then(self.call(name, "rattle", *words, "--jobs", "1", *more)[1])
-        return run
+        return self.prove(1, hear) if status == -signal.SIGKILL and jobs > 1 else (status, said)
 
-    def build(self, name, jobs):
-        """The same of the program, which is compiled and linked too. One that was built before is taken away first."""
-        kit, made = self.kit.folder, self.out(name, name)
-        os.makedirs(os.path.dirname(made), exist_ok=True)
-        with contextlib.suppress(FileNotFoundError):
-            os.remove(made)
-        tools = ["--toolchain", kit + "/toolchain", "-o"]
-        run = self.rattle(name, jobs, "--backend", "llvm", *tools, made + ".o")
-        if not run.is_proved:
-            return run
-        return run.then(self.call(name, "rattle-link", "--target", "x86_64-unknown-linux-gnu", *tools, made,
-                                  made + ".o", kit + "/c/libos_c.a", kit + "/c/liblibc_c.a")[1])
+    def build(self, made):
+        """Compiles and links the program, where the prover finds that what it reads is what was proved. The status, and
+        all that was said."""
+        tools = ["--toolchain", self.kit.folder + "/toolchain"]
+        status, said = self.rattle("build", "--crate-checked", self.found, "--backend", "llvm", *tools,
+                                   "-o", made + ".o")
+        return (status, said) if status else self.call(
+            "rattle-link", "--target", "x86_64-unknown-linux-gnu", *tools, "-o", made, made + ".o",
+            *(self.kit.folder + "/c/lib%s.a" % name for name in ("os_c", "libc_c")))
 
-    def call(self, name, command, *words):
-        """The status of a command of the kit that ran in a crate's folder, and how it ended."""
+    def rattle(self, word, *words, hear=lambda line: None):
+        """`rattle` with a word, over all."""
+        crates, program = self.joined.crates, self.joined.program
+        names = {"std", *(name for crate in crates.names for name in crates.of_kit[crate])}
+        return self.call("rattle", word, "--crate-name", program, "src/main.rt", "--links", program + "=",
+                         *self.kit.libraries(names), *self.kit.logic(), *words, hear=hear)
+
+    def call(self, command, *words, hear=lambda line: None):
+        """The status of a command of the kit that ran over the joined crates, and what it said."""
         if self.is_stopped:
-            return 1, Run(False)
-        how = {"stdin": subprocess.DEVNULL, "stdout": subprocess.PIPE, "stderr": subprocess.STDOUT}
-        process = subprocess.Popen([self.kit.command(command), *words], cwd=self.crates.folder(name), **how)
-        self.running[name] = process
-        said = process.stdout.read()
-        _, ended, usage = os.wait4(process.pid, 0)
-        process.returncode = os.waitstatus_to_exitcode(ended)
-        return process.returncode, Run(process.returncode == 0, said, usage.ru_utime + usage.ru_stime)
+            return 1, ""
+        self.running = subprocess.Popen([self.kit.command(command), *words], cwd=self.joined.folder, text=True,
+                                        stdin=subprocess.DEVNULL, stdout=subprocess.PIPE, stderr=subprocess.STDOUT)
+        said = []
+        for line in self.running.stdout:
+            said.append(line)
+            hear(line)
+        return self.running.wait(), "".join(said)
