@@ -20,6 +20,12 @@ KIT = {
 case $1 in
     version) echo "a prover, version %(version)s" ;;
     doc) echo "%(kit)s/START-HERE.md" ;;
+    run)
+        echo "one by one" >>"$LOG"
+        mkdir -p out
+        { echo '#!/bin/sh'; echo 'echo made one by one for "$@"'; } >out/tock
+        chmod +x out/tock
+        out/tock ;;
 esac
 """,
     "rattle": """#!/bin/sh
@@ -33,6 +39,7 @@ if [ "$1" = build ]; then
     exit
 fi
 echo begins >>"$LOG"
+[ -z "$KILLED" ] || kill -9 $$
 echo "checked tock::one, 1 of 2"
 sleep ${SLEEP:-0}
 for wrong in $(grep -rl wrong src); do echo "$wrong:1:1: error: a wrong body"; done
@@ -61,7 +68,17 @@ NEEDED = ["base", "middle", "one", "other", "tock"]
 ABOUT = r"(less than a minute|about a minute|about \d+ minutes)"
 BEGUN = (r"tock: proving the kernel's 5 crates and building the program, once; this takes %s where none was proved "
          r"before\n" % ABOUT)
+ONE_BY_ONE = ("tock: there is too little memory for all crates at once, so they are proved one by one, which takes "
+              "longer\n")
 TOLD = BEGUN + r"tock: proved 1 of 2 functions; %s left\ntock: proved; building the program\n" % ABOUT
+
+
+def read(path):
+    """What stands in a file; nothing where there is none."""
+    if not os.path.exists(path):
+        return None
+    with open(path, encoding="utf-8") as file:
+        return file.read()
 
 
 class Repository:
@@ -139,10 +156,17 @@ def first(repository):
 
 
 def joined(repository):
-    """Each crate is a module of the one crate, under its own paths, line by line."""
+    """Each crate is a module of the one crate, under its own paths, line by line, without what has no use there."""
     for name, path, text in (
-            ("base", "src/lib.rt", "//! Base.\n#![tactic(auto)]\nmod one;\nuse crate::one::{base, tock};\n"
-             "#[tactic(auto, using(crate::proofs::One::one))]\nghost use Rattle.base.specs.declared.one.One;\n"),
+            ("base", "src/lib.rt", "//! Base.\n#![tactic(auto)]\nmod one;\nmod standard;\n"
+             "pub use standard::{\n    a,\n};\n"
+             "use crate::one::{base, tock};\n#[tactic(auto, using(crate::proofs::One::one))]\n"
+             "ghost use Rattle.base.specs.declared.one.One;\n"),
+            ("base", "src/standard.rt", "pub fn a() {}\n"),
+            ("base", "proofs/standard/a/Proof.antt", "use Rattle.base.specs.One\n"),
+            ("base", "proofs/one/One/a/Proof.antt", "use Rattle.base.specs.One\n"),
+            ("base", "src/told.rt", "#[derive(Debug)]\n#[derive(Debug, Eq)]\n#[derive(Clone, Debug, Eq)]\n"),
+            ("base", "src/errors.rt", "#[derive(Clone, Debug, Error)]\n#[derive(Debug)]\n"),
             ("base", "src/one.rt", "pub use super::a::base::b;\n"),
             ("one", "src/lib.rt", "#![tactic(auto)]\nuse base::one;\n"
              "#[tactic(auto, unfolding(base::specs::One::one))]\n"),
@@ -152,9 +176,14 @@ def joined(repository):
         write(repository.top, os.path.join("crates", name, path), text)
     repository.runs()
     for path, text in (
-            ("src/base/mod.rt", "//! Base.\n\npub mod one;\nuse crate::base::one::{base, tock};\n"
+            ("src/base/mod.rt", "//! Base.\n\npub mod one;\n\n\n\n\nuse crate::base::one::{base, tock};\n"
              "#[tactic(auto, using(crate::proofs::base::One::one))]\n"
              "ghost use Rattle.tock.specs.declared.base.one.One;\n"),
+            ("src/base/standard.rt", None),
+            ("proofs/base/standard", None),
+            ("proofs/base/one", None),
+            ("src/base/told.rt", "#[derive()]\n#[derive(Eq)]\n#[derive(Clone, Eq)]\n"),
+            ("src/base/errors.rt", "#[derive(Clone, Debug, Error)]\n#[derive(Debug)]\n"),
             ("src/base/one.rt", "pub use super::a::base::b;\n"),
             ("src/one/mod.rt", "\nuse crate::base::one;\n#[tactic(auto, unfolding(crate::specs::base::One::one))]\n"),
             ("proofs/one.antt", "use Rattle.tock.proofs.base.One.{one}\nuse Rattle.std.specs.One\n"),
@@ -162,8 +191,7 @@ def joined(repository):
             ("src/main.rt", "//! The program.\n#![tactic(auto)] mod base; mod one; mod other; mod middle;\n"
              "use crate::one::one;\nuse crate::own;\n"),
             ("specs/Lib.antt", "pub mod base\npub mod one\npub mod other\npub mod middle\n")):
-        with open(os.path.join(repository.top, "out", "joined", path), encoding="utf-8") as file:
-            said = file.read()
+        said = read(os.path.join(repository.top, "out", "joined", path))
         if said != text:
             return "%s: %r" % (path, said)
     return None
@@ -251,6 +279,21 @@ def stopped(repository):
     return None
 
 
+def short_of_memory(repository):
+    """Where there is too little memory for all crates at once, or the prover is killed, they are proved one by one."""
+    prover = os.path.join(repository.top, "tools", "proving", "prover.py")
+    text = read(prover)
+    for memory, killed, noted in (("10 ** 12", "", []), ("0", "1", ["begins"])):
+        write(os.path.dirname(prover), "prover.py", re.sub(r"(?<= = )\d+(?=, \d+$)", memory, text, flags=re.M))
+        status, out, told = repository.runs(KILLED=killed)
+        lines = repository.proved()
+        is_right = (status, out, lines) == (0, "made one by one for soak 1\n", [*noted, "one by one"])
+        if not is_right or not told.endswith(ONE_BY_ONE):
+            return "%d, %r, told %r, noted %s" % (status, out, told, lines)
+        repository.writes("base", "another text")
+    return None
+
+
 def no_prover(repository):
     """Without a prover it says so at once; a program that is built of these sources runs all the same."""
     places = repository.environment["PATH"].split(os.pathsep)
@@ -291,5 +334,5 @@ def tried(check):
 def checks(program):
     """Each check with its name."""
     return [("first-run-" + check.__name__.replace("_", "-"), lambda check=check: tried(check))
-            for check in (first, joined, changed, refused, edited_meanwhile, two_at_once, stopped, no_prover,
-                          help_first, linked)]
+            for check in (first, joined, changed, refused, edited_meanwhile, two_at_once, stopped, short_of_memory,
+                          no_prover, help_first, linked)]

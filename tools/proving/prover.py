@@ -2,7 +2,6 @@
 
 import os
 import re
-import signal
 import subprocess
 
 # The memory that a proof takes, and each job more, in KiB.
@@ -10,10 +9,11 @@ MEMORY, MEMORY_OF_A_JOB = 7000000, 500000
 
 
 def places():
-    """With how many jobs to prove: one for each processor, where there is memory for so many."""
+    """With how many jobs to prove: one for each processor, where there is memory for so many; 0 where there is none for
+    one."""
     with open("/proc/meminfo", encoding="ascii") as file:
         free = int(re.search(r"MemAvailable:\s+(\d+)", file.read())[1])
-    return max(1, min(len(os.sched_getaffinity(0)), 1 + (free - MEMORY) // MEMORY_OF_A_JOB))
+    return max(0, min(len(os.sched_getaffinity(0)), 1 + (free - MEMORY) // MEMORY_OF_A_JOB))
 
 
 def said_by_rt(word):
@@ -61,10 +61,8 @@ class Prover:
 
     def prove(self, jobs, hear):
         """Proves all with so many jobs; each line of the prover goes to `hear`. The status, and all that was said."""
-        words = ["--progress", "--jobs", str(jobs), "-o", self.found]
-        status, said = self.rattle("check", *self.kit.logic_built(), *words, hear=hear)
-        # It was killed, most likely for want of memory: once more, with what takes least.
-        return self.prove(1, hear) if status == -signal.SIGKILL and jobs > 1 else (status, said)
+        return self.rattle("check", *self.kit.logic_built(), "--progress", "--jobs", str(jobs), "-o", self.found,
+                           hear=hear)
 
     def build(self, made):
         """Compiles and links the program, where the prover finds that what it reads is what was proved. The status, and
