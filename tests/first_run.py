@@ -49,7 +49,7 @@ echo ends >>"$LOG"
 """,
     "rattle-link": """#!/bin/sh
 while [ "$1" != -o ]; do shift; done
-cp "$3" "$2" && chmod +x "$2"
+cp "$3" "$2" && chmod +x "$2" && [ -z "$UNLINKED" ]
 """,
 }
 CRATES = """# the crates
@@ -220,8 +220,8 @@ def changed(repository):
 
 
 def refused(repository):
-    """Where something is refused the answer is 1, with all that the prover said, under the crates' own files; once it
-    is mended the program is built."""
+    """Where something is refused, or the linker fails, the answer is 1, with all that the prover said, under the
+    crates' own files; once it is mended the program is built."""
     repository.runs()
     repository.proved()
     repository.writes("other", "wrong")
@@ -229,6 +229,9 @@ def refused(repository):
     if (status, out) != (1, "") or "\ncrates/other/src/lib.rt:1:1: error: a wrong body\n" not in told:
         return "%d, %r, told %r" % (status, out, told)
     repository.writes("other", "mended")
+    status, out, told = repository.runs(UNLINKED="1")
+    if (status, out) != (1, ""):
+        return "not linked: %d, %r, told %r" % (status, out, told)
     repository.proved()
     status, out, told = repository.runs()
     lines = repository.proved()

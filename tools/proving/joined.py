@@ -3,7 +3,7 @@
 Proved one by one, each crate has all below it read before its first function is proved, and hands on what it states.
 Joined, each file is read once, and functions of all crates are proved side by side. Their text is the same, but for
 paths: what a crate says of another, or of itself, goes by the crate's name as a module of the one crate. Left out is
-what the program has no use for, tests but also some modules, and `Debug`, which of errors alone is printed."""
+what the program has no use for: some modules, and `Debug`, which of errors alone is printed."""
 
 import os
 import re
