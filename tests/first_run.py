@@ -13,8 +13,8 @@ import time
 from common import TOCK, write
 from cases.case import REPOSITORY
 
-# Notes when it begins and ends; refuses what has the word `wrong`, and makes a program that tells of which sources it
-# was made, where these are those that were proved.
+# Notes when it begins and ends; refuses what misses a file that it is told of, or has the word `wrong`, and makes a
+# program that tells of which sources it was made, where these are those that were proved.
 KIT = {
     "rt": """#!/bin/sh
 case $1 in
@@ -40,6 +40,7 @@ if [ "$1" = build ]; then
 fi
 echo begins >>"$LOG"
 [ -z "$KILLED" ] || kill -9 $$
+[ -z "$MISSED" ] || [ -f "$MISSED" ] || { echo "src/main.rt:1:1: error: no $MISSED"; exit 1; }
 echo "checked tock::one, 1 of 2"
 sleep ${SLEEP:-0}
 for wrong in $(grep -rl wrong src); do echo "$wrong:1:1: error: a wrong body"; done
@@ -66,8 +67,8 @@ NAMES = ("base", "one", "other", "samples", "middle", "beside", "tock")
 USES = {"one": "base", "other": "base", "middle": "one other", "tock": "middle"}
 NEEDED = ["base", "middle", "one", "other", "tock"]
 ABOUT = r"(less than a minute|about a minute|about \d+ minutes)"
-BEGUN = (r"tock: proving the kernel's 5 crates and building the program, once; this takes %s where none was proved "
-         r"before\n" % ABOUT)
+BEGUN = (r"tock: proving what the program needs of the kernel's 5 crates, and building it, once; this takes %s\n"
+         % ABOUT)
 ONE_BY_ONE = ("tock: there is too little memory for all crates at once, so they are proved one by one, which takes "
               "longer\n")
 TOLD = BEGUN + r"tock: proved 1 of 2 functions; %s left\ntock: proved; building the program\n" % ABOUT
@@ -155,48 +156,6 @@ def first(repository):
     return None if again == ((0, out, ""), []) else "a later run: %r" % (again,)
 
 
-def joined(repository):
-    """Each crate is a module of the one crate, under its own paths, line by line, without what has no use there."""
-    for name, path, text in (
-            ("base", "src/lib.rt", "//! Base.\n#![tactic(auto)]\nmod one;\nmod standard;\n"
-             "pub use standard::{\n    a,\n};\n"
-             "use crate::one::{base, tock};\n#[tactic(auto, using(crate::proofs::One::one))]\n"
-             "ghost use Rattle.base.specs.declared.one.One;\n"),
-            ("base", "src/standard.rt", "pub fn a() {}\n"),
-            ("base", "proofs/standard/a/Proof.antt", "use Rattle.base.specs.One\n"),
-            ("base", "proofs/one/One/a/Proof.antt", "use Rattle.base.specs.One\n"),
-            ("base", "src/told.rt", "#[derive(Debug)]\n#[derive(Debug, Eq)]\n#[derive(Clone, Debug, Eq)]\n"),
-            ("base", "src/errors.rt", "#[derive(Clone, Debug, Error)]\n#[derive(Debug)]\n"),
-            ("base", "src/one.rt", "pub use super::a::base::b;\n"),
-            ("one", "src/lib.rt", "#![tactic(auto)]\nuse base::one;\n"
-             "#[tactic(auto, unfolding(base::specs::One::one))]\n"),
-            ("one", "proofs/Lib.antt", "use Rattle.base.proofs.One.{one}\nuse Rattle.std.specs.One\n"),
-            ("one", "proofs/one/Proof.antt", "use Rattle.base.specs.contracts.one\nuse Rattle.one.specs.One\n"),
-            ("tock", "src/main.rt", "//! The program.\n#![tactic(auto)]\nuse one::one;\nuse crate::own;\n")):
-        write(repository.top, os.path.join("crates", name, path), text)
-    repository.runs()
-    for path, text in (
-            ("src/base/mod.rt", "//! Base.\n\npub mod one;\n\n\n\n\nuse crate::base::one::{base, tock};\n"
-             "#[tactic(auto, using(crate::proofs::base::One::one))]\n"
-             "ghost use Rattle.tock.specs.declared.base.one.One;\n"),
-            ("src/base/standard.rt", None),
-            ("proofs/base/standard", None),
-            ("proofs/base/one", None),
-            ("src/base/told.rt", "#[derive()]\n#[derive(Eq)]\n#[derive(Clone, Eq)]\n"),
-            ("src/base/errors.rt", "#[derive(Clone, Debug, Error)]\n#[derive(Debug)]\n"),
-            ("src/base/one.rt", "pub use super::a::base::b;\n"),
-            ("src/one/mod.rt", "\nuse crate::base::one;\n#[tactic(auto, unfolding(crate::specs::base::One::one))]\n"),
-            ("proofs/one.antt", "use Rattle.tock.proofs.base.One.{one}\nuse Rattle.std.specs.One\n"),
-            ("proofs/one/one/Proof.antt", "use Rattle.tock.specs.contracts.base.one\nuse Rattle.tock.specs.one.One\n"),
-            ("src/main.rt", "//! The program.\n#![tactic(auto)] mod base; mod one; mod other; mod middle;\n"
-             "use crate::one::one;\nuse crate::own;\n"),
-            ("specs/Lib.antt", "pub mod base\npub mod one\npub mod other\npub mod middle\n")):
-        said = read(os.path.join(repository.top, "out", "joined", path))
-        if said != text:
-            return "%s: %r" % (path, said)
-    return None
-
-
 def changed(repository):
     """A source that is edited, added or deleted, and another prover, are noticed, and all is proved again; other times
     and what the program does not need are not."""
@@ -237,6 +196,18 @@ def refused(repository):
     lines = repository.proved()
     is_right = (status, sorted(out.split()), lines) == (0, made(other="mended"), ONCE)
     return None if is_right else "mended: %d, %r, proved %s" % (status, out, lines)
+
+
+def missed(repository):
+    """Where the prover misses as it reads what was left out, all is proved, and where it misses more, it is refused."""
+    repository.writes("base", "// unsaid", "unsaid.rt")
+    for file, status, noted in (("src/base/unsaid.rt", 0, ["begins", *ONCE]), ("src/none.rt", 1, ["begins"] * 2)):
+        repository.writes("one", file)
+        end = repository.runs(MISSED=file)
+        lines = repository.proved()
+        if (end[0], lines) != (status, noted) or ("error: no %s" % file in end[2]) != bool(status):
+            return "%s: %r, proved %s" % (file, end, lines)
+    return None
 
 
 def edited_meanwhile(repository):
@@ -337,5 +308,5 @@ def tried(check):
 def checks(program):
     """Each check with its name."""
     return [("first-run-" + check.__name__.replace("_", "-"), lambda check=check: tried(check))
-            for check in (first, joined, changed, refused, edited_meanwhile, two_at_once, stopped, short_of_memory,
+            for check in (first, changed, refused, missed, edited_meanwhile, two_at_once, stopped, short_of_memory,
                           no_prover, help_first, linked)]

@@ -60,8 +60,3 @@ class Crates:
                 found += [it for it in [*self.below(other), other] if it not in found]
             self.all_below[name] = found
         return self.all_below[name]
-
-    def functions(self):
-        """How many bytes the files of their functions have."""
-        return sum(os.path.getsize(path) for name in self.names for path in sources(self.folder(name))
-                   if path.endswith(".rt"))

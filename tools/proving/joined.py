@@ -2,34 +2,19 @@
 
 Proved one by one, each crate has all below it read before its first function is proved, and hands on what it states.
 Joined, each file is read once, and functions of all crates are proved side by side. Their text is the same, but for
-paths: what a crate says of another, or of itself, goes by the crate's name as a module of the one crate. Left out is
-what the program has no use for: some modules, and `Debug`, which of errors alone is printed."""
+paths: what a crate says of another, or of itself, goes by the crate's name as a module of the one crate. What the
+program does not need is left out, line by line."""
 
 import os
 import re
 import shutil
 
 from crates import sources
-
-# Modules that other programs call, and this one does not: what a crate's surface owes, and what tests write to.
-LEFT_OUT = "attacks|mem_sink|standard"
+from needed import ROOT, Needed
 
 
-def emptied(pattern, text):
-    """A text without what fits, line by line the same."""
-    return re.sub(pattern, lambda at: "\n" * at[0].count("\n"), text, flags=re.M)
-
-
-def functions(texts):
-    """The names of the functions that files have."""
-    return {name for path, text in texts.items() if path.endswith(".rt") for name in re.findall(r"\bfn (\w+)", text)}
-
-
-def without_debug(text):
-    """A file without derived `Debug`, but one of errors."""
-    if re.search(r"derive\([^)]*\bError\b", text):
-        return text
-    return re.sub(r"(derive\((?:[^)]*, )?)Debug(?:, |(?=\)))", r"\1", text)
+# The tests of a crate, and the proofs of what they declare.
+TESTS = re.compile(r"(src|proofs)/tests[./]")
 
 
 class Joined:
@@ -43,28 +28,30 @@ class Joined:
         self.path = re.compile(r"(?<![\w:.])(crate|%s)::(?:(specs|proofs)::)?" % any_of)
         self.module = re.compile(r"\bRattle\.(%s)\.(specs|proofs)\b(\.contracts\b|\.declared\b)?" % any_of)
         self.file = re.compile(r"\b(src|specs|proofs)/(?:(%s)(/mod\.rt|\.antt|/)|(?=main\.rt))" % any_of)
-        self.left_out = re.compile(r"(?:src|proofs)/(?:%s)(?:\.rt|/.*)" % LEFT_OUT)
-        self.proof = re.compile(r"proofs/.*/(\w+)/\w+\.antt")
 
-    def write(self):
-        """Writes all files anew. What is out of date in the folder is taken away."""
+    def write(self, is_whole=False):
+        """Writes all files anew, what is needed of them or all, and takes away what is out of date in the folder. How
+        many bytes of functions there are in it."""
         shutil.rmtree(self.folder, ignore_errors=True)
-        for name in self.crates.names:
-            for path, text in self.kept(name):
-                self.put(self.place(name, path), self.text(name, path, text))
-        stated = [name for name in self.libraries if os.path.exists(os.path.join(self.folder, "specs", name + ".antt"))]
-        self.put("specs/Lib.antt", "".join("pub mod %s\n" % name for name in stated))
+        texts = {self.place(name, path): self.text(name, path, text) for name, path, text in self.read()}
+        left = texts if is_whole else Needed(texts).left()
+        # The one crate has the attributes of its program, and the libraries for modules.
+        modules = "".join(" mod %s;" % name for name in self.libraries if "src/%s/mod.rt" % name in left)
+        left[ROOT] = re.sub(r"^#!\[.*\]$", r"\g<0>" + modules, left[ROOT], count=1, flags=re.M)
+        stated = [name for name in self.libraries if "specs/%s.antt" % name in left]
+        left["specs/Lib.antt"] = "".join("pub mod %s\n" % name for name in stated)
+        for place, text in left.items():
+            self.put(place, text)
+        return sum(len(text) for place, text in left.items() if place.endswith(".rt"))
 
-    def kept(self, name):
-        """The files of a crate and their texts, but for modules that are left out and the proofs of their functions."""
-        texts, left = {}, {}
-        for path in sources(self.crates.folder(name)):
-            below = os.path.relpath(path, self.crates.folder(name))
-            with open(path, encoding="utf-8") as file:
-                (left if self.left_out.fullmatch(below) else texts)[below] = file.read()
-        gone = functions(left) - functions(texts)
-        proofs = {path: self.proof.fullmatch(path) for path in texts}
-        return [(path, text) for path, text in texts.items() if not (proofs[path] and proofs[path][1] in gone)]
+    def read(self):
+        """Each file of each crate, by its name and its path there, with its text, but for tests."""
+        for name in self.crates.names:
+            for path in sources(self.crates.folder(name)):
+                below = os.path.relpath(path, self.crates.folder(name))
+                if not TESTS.match(below):
+                    with open(path, encoding="utf-8") as file:
+                        yield name, below, file.read()
 
     def put(self, place, text):
         path = os.path.join(self.folder, place)
@@ -85,13 +72,11 @@ class Joined:
         text = self.module.sub(lambda at: "Rattle.%s.%s%s.%s" % (self.program, at[2], at[3] or "", at[1]), text)
         if path.endswith(".antt"):
             return text
-        text = without_debug(self.path.sub(lambda at: self.path_of(name, at), text))
+        text = self.path.sub(lambda at: self.path_of(name, at), text)
         if name == self.program:
-            # The one crate has the attributes of its program, and the libraries for modules.
-            modules = "".join(" mod %s;" % library for library in self.libraries)
-            return re.sub(r"^#!\[.*\]$", r"\g<0>" + modules, text, count=1, flags=re.M)
+            return text
         if path == "src/lib.rt":
-            text = emptied(r"^(?:mod|pub use) (?:%s)\b[^;]*;" % LEFT_OUT, emptied(r"^#!\[.*\]$", text))
+            text = re.sub(r"^#!\[.*\]$", "", text, flags=re.M)
         # Another crate sees of a library what its root passes on; in one crate that root's modules are to be seen.
         return re.sub(r"^( *)mod (?=\w+;)", r"\1pub mod ", text, flags=re.M)
 

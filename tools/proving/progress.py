@@ -5,7 +5,7 @@ import sys
 import time
 
 # How many processor seconds a KiB of functions takes before any was measured here.
-EXPECTED = 2.5
+EXPECTED = 2.8
 
 # How many seconds nothing is told after something was.
 PAUSE = 10
@@ -22,7 +22,7 @@ def minutes(seconds):
 
 
 class Progress:
-    """How far the prover is with so many crates, whose functions have so many KiB, by so many processors."""
+    """How far the prover is with what is needed of so many crates, so many KiB of functions, by so many processors."""
 
     def __init__(self, crates, size, places):
         self.crates, self.expected = crates, size * EXPECTED / places
@@ -30,7 +30,7 @@ class Progress:
         self.begun = self.told = None
 
     def begin(self):
-        tell("proving the kernel's %d crates and building the program, once; this takes %s where none was proved before"
+        tell("proving what the program needs of the kernel's %d crates, and building it, once; this takes %s"
              % (self.crates, minutes(self.expected)))
 
     def hears(self, line):
