@@ -111,8 +111,8 @@ pub fn called(one: One) -> u8 {
                               "-- Rattle.tock.proofs.base.Unsaid\n"),
     "base/proofs/Unsaid.antt": ("proofs/base/Unsaid.antt", "use Rattle.std.specs.One\n", None),
     "base/proofs/single/One/next/Answers.antt": ("proofs/base/single/One/next/Answers.antt",
-                                              "use Rattle.base.specs.contracts.single\n",
-                                              "use Rattle.tock.specs.contracts.base.single\n"),
+                                                 "use Rattle.base.specs.contracts.single\n",
+                                                 "use Rattle.tock.specs.contracts.base.single\n"),
     "base/proofs/single/uncalled/Answers.antt": ("proofs/base/single/uncalled/Answers.antt",
                                                  "use Rattle.std.specs.One\n", None),
     "one/src/lib.rt": ("src/one/mod.rt", """#![tactic(auto)]

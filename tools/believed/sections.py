@@ -116,7 +116,7 @@ ASSUMPTIONS = [
     "parcels and a sample of words; that comparison is not kept.",
     "*`./tock`*: the program that it runs is the one that was proved. It proves and builds anew where it finds that a "
     "source has changed. What it proves is the crates joined into one, which says the same under longer paths, without "
-    "what the program has no use for, as the laws on which the contract of `serve` does not rest; `rt ci` proves each "
+    "what the program has no use for, as laws on which the contract of `serve` does not rest; `rt ci` proves each "
     "crate as it stands, from nothing.",
     "*The maker of this page*, `tools/headline`: it leaves out no definition on which a contract here rests, and its "
     "sentences on names are right.",

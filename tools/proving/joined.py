@@ -12,7 +12,6 @@ import shutil
 from crates import sources
 from needed import ROOT, Needed
 
-
 # The tests of a crate, and the proofs of what they declare.
 TESTS = re.compile(r"(src|proofs)/tests[./]")
 

@@ -15,7 +15,7 @@ class Left:
         self.modules, self.gone = modules, gone
 
     def of(self, path, text, found):
-        """That of a file with such items; None of one whose items nobody knows."""
+        """That of a file with such items; whole where there are None, since nobody knows them."""
         if path.endswith(".antt"):
             return re.sub(r"^(?:pub )?mod (\w+)$", lambda at: at[0] if self.has(path, at[1]) else "", text, flags=re.M)
         is_error = re.search(r"derive\([^)]*\bError\b", text)
@@ -50,6 +50,6 @@ class Left:
         return of + names + ";" if left else ""
 
     def derived(self, name, words, is_error):
-        """What is derived of a type, without comparing it where no value is compared, nor printing it but of errors."""
+        """What is derived of a type: comparing only of one that is compared, and printing only in a file of errors."""
         is_left = {"Debug": is_error, "Eq": name in COMPARED, "PartialEq": name in COMPARED}
         return ", ".join(word for word in re.findall(r"[\w:]+", words) if is_left.get(word, True))

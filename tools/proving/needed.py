@@ -114,8 +114,8 @@ class Needed:
         return more or (len(self.kept), len(functions)) > before
 
     def is_said(self, path, item):
-        """Whether an item is needed since its name is said. An `impl` is where its type and its trait are; of that of
-        methods all is needed with it but methods."""
+        """Whether an item is needed since its name is said. An `impl` is where its type and its trait are; where
+        it meets no trait, what it has besides methods is needed with it."""
         words = self.said.words
         if item.of:
             return item.of.is_needed and (item.kind != "fn" or item.name in self.said.methods)

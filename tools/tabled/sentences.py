@@ -141,7 +141,7 @@ CLAIMS = [
 README = ["runs up to {SLOT_COUNT:w} applications",
           "[{ASSUMPTIONS:w} assumptions](docs/headline.md#assumptions)", "the statements of {PORTED:w} ported crates",
           "`./tock` itself answers {NO_PROGRAM} where it has no program.",
-          "it first proves and builds ({LEAST_MINUTES} to {MOST_MINUTES} minutes on four processors)"]
+          "it first proves what it runs and builds it ({LEAST_MINUTES} to {MOST_MINUTES} minutes on four processors)"]
 
 # Numbers that no sentence needs: those of calls, which are compared by name, sizes of nothing, 32 bits; names, and
 # examples of lines.
