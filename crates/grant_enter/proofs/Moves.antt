@@ -1,8 +1,7 @@
 -- What a change of one seat, or of the RAM in its block, makes of what contracts see.
-use Rattle.std.proofs.Common.{◌≡◌, ◌≢◌, ℕ, ◌+◌, ◌-◌, ◌^◌, ◌<◌, ◌≤◌, ◌⊎◌, inl, inr, true, false, Bool, Result, Ok, Err}
+use Rattle.std.proofs.Common.{◌≡◌, ◌≢◌, ℕ, ◌+◌, ◌-◌, ◌^◌, ◌<◌, ◌≤◌, ◌⊎◌, inl, inr, true}
 use Rattle.std.proofs.Common.{not, slice_get, List, [], length, get_or, refl, sym, ap, ap₂, subst, ◌∙◌, arith}
-use Rattle.std.specs.Prelude.{nat_lt, slice_index_or, slice_set, All, OnOk, OnErr}
-use Rattle.std.specs.Bool.{OnTrue}
+use Rattle.std.specs.Prelude.{nat_lt, slice_index_or, slice_set, All}
 use Rattle.std.specs.Vec.{with_item}
 use Rattle.std.proofs.lemmas.Bool.Decides.{nat_tests}
 use Rattle.std.proofs.lemmas.List.{get_or-set_same, length-map, set-get_or}
@@ -118,7 +117,7 @@ module _ {h : Inside} {old : Homes} {slot index : ℕ} {seat : Seat} (r : Reads 
       (omega (arith, lies, r.home.short))
 
   -- the seat tells of the permissions of its object in flash
-  told : TellsPermissions h.memory.flash seat
+  pub told : TellsPermissions h.memory.flash seat
   told =
       subst (TellsPermissions h.memory.flash) (read_at h.seats.items slot index seat seat r.is r.read within)
       (r.home.permissions slot seat within)
@@ -264,15 +263,3 @@ module _ {h : Inside} {old : Homes} {slot index : ℕ} {seat : Seat} (r : Reads 
     still_shows P made =
         subst (λ (xs : List Seat). P old.flash (own_of old slot) (slice_index_or (owns_seated m.ram xs) slot nobody))
         same_items (reseated_shows m seat changed P made)
-
-pub on_ok : {A E P Q : Type 0} (r : Result A E) → (P → Q) → OnOk r P → OnOk r Q
-on_ok (Ok a) f p = f p
-on_ok (Err e) f p = tt
-
-pub on_err : {A E P Q : Type 0} (r : Result A E) → (P → Q) → OnErr r P → OnErr r Q
-on_err (Ok a) f p = tt
-on_err (Err e) f p = f p
-
-pub on_true : {P Q : Type 0} (b : Bool) → (P → Q) → OnTrue b P → OnTrue b Q
-on_true true f p = f p
-on_true false f p = tt

@@ -1,43 +1,30 @@
 //! The memory of all processes.
 ghost use Rattle.std.specs.Prelude.{◌≡◌, ◌≤◌, ◌<◌, ◌+◌, ◌%◌, ◌^◌, ℕ, nat_lt, slice_get};
-ghost use Rattle.std.specs.Prelude.{All, AllPairs, IsTrue, length, map, is_ok, IfOk, IfErr};
-ghost use Rattle.std.specs.Prelude.{OnOk, OnErr, OnSome, IfNone, is_some, vec_len};
-ghost use Rattle.std.specs.Bool.{OnTrue, OnFalse};
+ghost use Rattle.std.specs.Prelude.{All, AllPairs, length, map, IfOk};
+ghost use Rattle.std.specs.Prelude.{is_some, vec_len};
 ghost use Rattle.tk_base.specs.declared.limits.TheConstants.{FLASH_LIMIT};
-ghost use Rattle.process_layout.specs.Bounds.{permits_break};
 ghost use Rattle.board_memory.specs.Registers.{process_registers, Protect};
-ghost use Rattle.process_model.specs.Own.{block_of, kernel_break_of, layout_of, opened};
-ghost use Rattle.process_model.specs.Own.{with_moved_break, own_restarted, own_ended};
-ghost use Rattle.process_model.specs.Own.{with_inbox};
-ghost use Rattle.tk_base.specs.declared.upcall.Wait.TheVariants.{For};
+ghost use Rattle.process_model.specs.Own.{block_of, layout_of, opened};
+ghost use Rattle.process_model.specs.Own.{own_restarted, own_ended};
 ghost use Rattle.rv32_model.specs.declared.turn_end.TurnEnd.TheVariants.{Went};
-ghost use Rattle.upcall_queue.specs.Pending.{due, left_after, place_of, taken_at};
-ghost use Rattle.process_model.specs.Flag.{with_flag};
-ghost use Rattle.process_model.specs.Handed.{HoldsInPlace, handing, has_place, held};
-ghost use Rattle.process_model.specs.Handed.{may_share};
-ghost use Rattle.swap_tables.specs.Swaps.{CanHand};
+ghost use Rattle.upcall_queue.specs.Pending.{due};
+ghost use Rattle.process_model.specs.Handed.{HoldsInPlace};
 ghost use Rattle.grant_enter.specs.Homes.{own_of, is_life, living, ChangesOnly, IsInPlace};
 ghost use Rattle.grant_enter.specs.Homes.{IsStopped, CanMoveIn, FootprintBefore, MakesInstruction};
 ghost use Rattle.grant_enter.specs.Homes.{MakesAll};
 ghost use Rattle.process_seat.specs.Places.{has_permissions};
-ghost use Rattle.process_seat.specs.Seats.{TellsBreaks};
 
 use board_memory::{Memory, set_process};
 use grant_model::what_is_laid_is_read_back;
-use grant_region::NoRoom;
 use pmp_regions::Pmp;
 use process_layout::Layout;
 use process_model::Footprint;
-use process_seat::{
-    Seat, block_at, hand_at, instruction_laws, put_flag_at, restart_seat, turn_in, turns_in,
-};
+use process_seat::{Seat, block_at, instruction_laws, restart_seat, turn_in, turns_in};
 use rv32_model::{TurnEnd, sees_only_permitted, writes_are_permitted};
 use rv32_step::Stretch;
 use std::alloc::Global;
 use std::marker::Model;
-use swap_tables::Handover;
 use tk_base::{Addr, NoMemory, ProcessId, Regs, Slot, Upcall, Wait, a_store_is_put};
-use upcall_queue::Delivery;
 
 /// The memory of the processes, and what the kernel keeps of each beside its registers: where its
 /// memory lies, which life it is in, whether it lives, how many upcalls it missed (Levy et al.,
@@ -173,21 +160,6 @@ impl Home {
         self.memory.decode(layout.flash_start, layout.flash_end);
     }
 
-    /// Moves the break of the process in a slot to an address, rounded up to a multiple of 4 (TRD
-    /// 104, "Memop"), and says whether it did. It is refused where the rounded address is below the
-    /// block's start, above the kernel break, or below the mark; then nothing changes.
-    pub fn set_break(&mut self, slot: Slot, new: u32) -> bool
-        requires { slot < length self.old.owns }
-        ensures answer { result ≡ permits_break (own_of self.old slot).layout
-            (kernel_break_of (own_of self.old slot)) new }
-        ensures moved { OnTrue result
-            (own_of self.new slot ≡ with_moved_break new (own_of self.old slot)) }
-        ensures refused { OnFalse result (self.new ≡ self.old) }
-        ensures rest { ChangesOnly slot self.old self.new }
-    {
-        self.seats[slot.index()].layout.set_break(new)
-    }
-
     /// Starts the process in a slot again, with its first break (TRD 104, "Exit"): every byte of
     /// its block is 0, it has no grants, nothing is scheduled for it, its next life begins, and it
     /// lives. How many upcalls were dropped stays. Nothing of another slot changes.
@@ -217,32 +189,6 @@ impl Home {
         let seat = &mut self.seats[slot.index()];
         seat.inbox.clear();
         seat.lives = false;
-    }
-
-    /// Hands a pair of the process in a slot to a driver (TRD 104, "Subscribe", "Read-Only Allow",
-    /// "Read-Write Allow"). The answer is the former pair, at first (0, 0). The driver is entered;
-    /// a buffer in RAM that has bytes raises the mark; an upcall takes away the pending ones of its
-    /// driver and number. All else of the process, and all of another slot, stays.
-    ///
-    /// There is [`NoRoom`], and nothing changes, exactly where the driver is not entered and the
-    /// kernel break less the cost of its grant is below the break: it tells the two breaks.
-    pub fn hand(&mut self, slot: Slot, handover: Handover) -> Result<(u32, u32), NoRoom>
-        requires slot { slot < length self.old.owns }
-        requires pair { CanHand handover }
-        requires may { IsTrue
-            (may_share handover.kind (own_of self.old slot).layout handover.pair) }
-        ensures room { is_ok result ≡ has_place handover.driver (own_of self.old slot) }
-        ensures former { IfOk result (λ former. former
-            ≡ held handover.kind handover.driver handover.number (own_of self.old slot)) }
-        ensures handed { OnOk result (own_of self.new slot
-            ≡ handing handover.kind handover.driver handover.number handover.pair
-            (own_of self.old slot)) }
-        ensures refused { OnErr result (self.new ≡ self.old) }
-        ensures breaks { IfErr result (TellsBreaks (own_of self.old slot)) }
-        ensures rest { ChangesOnly slot self.old self.new }
-    {
-        let seat = &mut self.seats[slot.index()];
-        hand_at(&mut self.memory, seat, handover)
     }
 
     /// Whether a process was placed in a slot.
@@ -280,60 +226,6 @@ impl Home {
         ensures { result ≡ is_some (due (own_of self.now slot).inbox) }
     {
         self.seats[slot.index()].inbox.is_due()
-    }
-
-    /// Takes out the first upcall that waits for the process in a slot, for its delivery (TRD 104,
-    /// "Yield"). None exactly where none waits. Nothing else of the process changes, and nothing of
-    /// another slot.
-    pub fn take_pending(&mut self, slot: Slot) -> Option<Upcall>
-        requires { slot < length self.old.owns }
-        ensures first { result ≡ slice_get (own_of self.old slot).inbox.pending 0 }
-        ensures own { own_of self.new slot ≡ with_inbox (taken_at 0) (own_of self.old slot) }
-        ensures rest { ChangesOnly slot self.old self.new }
-    {
-        self.seats[slot.index()].inbox.pending.pop()
-    }
-
-    /// Takes out what is to be delivered to the process in a slot, once it has yielded (TRD 104,
-    /// "Yield"): the first upcall that waits for it, or the arguments of the upcall that it waited
-    /// for alone. None exactly where there is nothing. Nothing else of the process changes, and
-    /// nothing of another slot.
-    pub fn take_due(&mut self, slot: Slot) -> Option<Delivery>
-        requires { slot < length self.old.owns }
-        ensures delivery { result ≡ due (own_of self.old slot).inbox }
-        ensures own { own_of self.new slot
-            ≡ with_inbox (left_after (due (own_of self.old slot).inbox)) (own_of self.old slot) }
-        ensures rest { ChangesOnly slot self.old self.new }
-    {
-        self.seats[slot.index()].inbox.take_due()
-    }
-
-    /// Takes out the first upcall of a driver and number that waits for the process in a slot (TRD
-    /// 104, "Yield"); where none waits, the process waits for that upcall alone from now on.
-    /// Nothing else of the process changes, and nothing of another slot.
-    pub fn wait_for(&mut self, slot: Slot, driver: u32, number: u32) -> Option<Upcall>
-        requires { slot < length self.old.owns }
-        ensures first { result ≡ slice_get (own_of self.old slot).inbox.pending
-            (place_of driver number (own_of self.old slot).inbox.pending) }
-        ensures found { OnSome result (own_of self.new slot
-            ≡ with_inbox (taken_at (place_of driver number (own_of self.old slot).inbox.pending))
-            (own_of self.old slot)) }
-        ensures waits { IfNone result (own_of self.new slot
-            ≡ with_inbox (λ inbox. record inbox { wait = For driver number })
-            (own_of self.old slot)) }
-        ensures rest { ChangesOnly slot self.old self.new }
-    {
-        self.seats[slot.index()].inbox.wait_for(driver, number)
-    }
-
-    /// Writes the byte by which a yield of the process in a slot tells whether an upcall was
-    /// delivered (TRD 104, "Yield"), where it lies in accessible RAM; elsewhere nothing changes.
-    pub fn put_flag(&mut self, slot: Slot, at: Addr, flag: u8)
-        requires { slot < length self.old.owns }
-        ensures own { own_of self.new slot ≡ with_flag at flag (own_of self.old slot) }
-        ensures rest { ChangesOnly slot self.old self.new }
-    {
-        put_flag_at(&mut self.memory, &self.seats[slot.index()], at, flag);
     }
 
     /// The bytes of the block of the process in a slot: its own, and those of its grants.

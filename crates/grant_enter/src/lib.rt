@@ -4,9 +4,11 @@
 
 mod grant;
 mod home;
+mod lend;
 
 pub use grant::Grant;
 pub use home::Home;
+pub use lend::VisitSeat;
 pub use process_seat::{
     EnterError, Entered, Stale, Unvisited, Visit, a_buffer_is_written, buffers_are_whole,
     frames_join, put_from,

@@ -1,5 +1,5 @@
-pub mod Breaks
 pub mod Starts
 pub mod AtOnce
 pub mod Handed
 pub mod Drivers
+pub mod Lending

@@ -1,3 +1,5 @@
 pub mod Own
 pub mod Outcomes
 pub mod Given
+pub mod Called
+pub mod Lent

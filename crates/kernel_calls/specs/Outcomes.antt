@@ -1,17 +1,16 @@
 -- What serving a system call leaves, and what comes of it: TRD 104, "System Call API".
-use Rattle.std.specs.Prelude.{◌≡◌, ℕ, ◌<◌, ◌^◌, nat_lt, Bool, true, false, ◌&&◌, if◌then◌else◌, List, []}
-use Rattle.std.specs.Prelude.{length, Option, None, Some, Result, Ok, Err}
+use Rattle.std.specs.Prelude.{◌≡◌, ℕ, ◌^◌, nat_lt, Bool, true, false, ◌&&◌, if◌then◌else◌, List, []}
+use Rattle.std.specs.Prelude.{Option, None, Some, Result, Ok, Err}
 use Rattle.tk_base.specs.declared.call.CallRule.{CallRule}
 use Rattle.syscall_abi.specs.declared.form.CallForm.{CallForm}
 use Rattle.syscall_abi.specs.declared.form.CallForm.TheVariants.{Command}
-use Rattle.process_model.specs.Own.{Own}
 use Rattle.process_record.specs.declared.outcome.Outcome.{Outcome}
 use Rattle.process_record.specs.declared.outcome.Outcome.TheVariants.{Replied, ToDriver, Waits, Delivered, GoesOn}
 use Rattle.process_record.specs.declared.outcome.Outcome.TheVariants.{Ended, Again}
 use Rattle.process_record.specs.declared.process.Process.{Process}
 use Rattle.driver_model.specs.Commands.{BoardRequest, leaving_all}
 use Rattle.driver_model.specs.Drivers.{CommandContext, takes_commands}
-use Rattle.grant_enter.specs.Homes.{ChangesOnly, Homes, own_of}
+use Rattle.grant_enter.specs.Homes.{Homes, own_of}
 use Rattle.kernel_model.specs.Record.{Record}
 use Rattle.tk_base.specs.declared.upcall.Upcall.{Upcall}
 use Rattle.upcall_queue.specs.declared.inbox.Delivery.{Delivery}
@@ -21,7 +20,6 @@ use Rattle.kernel_model.specs.Calls.{Served, deliver, served}
 use Rattle.kernel_model.specs.Parts.{object_permits}
 use Rattle.process_model.specs.Flash.{object_in}
 use Rattle.kernel_calls.specs.Own.{Beside, record_in}
-use Rattle.process_restart.specs.Own.{IsOwn, KeepsObject, LivesOn}
 
 -- what the board is to do for a call that the kernel serves itself, by what comes of it: one whose process ends or
 -- starts again waits in no list any more
@@ -88,34 +86,10 @@ abbrev pub as_address : Option ℕ → Option ℕ
 as_address None = None
 as_address (Some n) = if nat_lt n (2 ^ 32) then Some n else None
 
--- nothing but the break of a process may have moved
-abbrev pub MovesBreak : Own → Own → Type 0
-MovesBreak old new = new ≡ record old { layout = record old.layout { brk = new.layout.brk } }
-
 -- the rule that an answer broke, if it broke one
 abbrev pub broken_by : {A : Type 0} → Result A CallRule → Option CallRule
 broken_by (Ok answer) = None
 broken_by (Err rule) = Some rule
-
--- the process is that of the slot, with what is its own
-pub record IsOfSlot (at : ℕ) (home : Homes) (process : Process) : Type 0 where
-  pub slot : at < length home.owns
-  pub own : IsOwn home.flash process (own_of home at)
-
--- what serving a call leaves: the process is still that of the slot, and no other slot's own has changed
-pub record KeepsSlot (slot : ℕ) (home : Homes) (process : Process) (home_after : Homes)
-    (process_after : Process) : Type 0 where
-  pub own : IsOwn home_after.flash process_after (own_of home_after slot)
-  pub stays : KeepsObject process process_after
-  pub lives_on : LivesOn (own_of home slot) (own_of home_after slot)
-  pub rest : ChangesOnly slot home home_after
-
--- what a definition of a call says of the process in a slot, whatever it has beside, is what serving it comes to
-abbrev pub ComesAt : ℕ → Homes → Process → (Record → Served) → Homes → Process → Outcome → Type 0
-ComesAt slot home process served home_after process_after outcome =
-    (beside : Beside) →
-    ServingComesTo (served (record_of_slot home slot process beside))
-    (record_of_slot home_after slot process_after beside) outcome
 
 -- a pending upcall of a process is delivered, if there is one
 abbrev pub first_delivered : Record → Option Upcall → Record

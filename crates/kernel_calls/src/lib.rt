@@ -2,8 +2,10 @@
 //! (TRD 104, "System Call API"); what a driver answers to a command; and the delivery of upcalls.
 #![tactic(auto)]
 
+mod caller;
 mod exits;
 mod headers;
+mod lent;
 mod memops;
 mod permissions;
 mod replies;

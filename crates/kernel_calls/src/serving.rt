@@ -2,20 +2,15 @@
 ghost use Rattle.std.specs.Prelude.{◌≡◌, ◌+◌, ◌<◌, ◌^◌, length, false, true};
 ghost use Rattle.driver_model.specs.Drivers.{CommandContext};
 ghost use Rattle.grant_enter.specs.Homes.{own_of, ChangesOnly};
-ghost use Rattle.kernel_model.specs.Calls.{by_form, memop};
-ghost use Rattle.process_restart.specs.Own.{IsOwn};
-ghost use Rattle.kernel_calls.specs.Outcomes.{is_taken, ComesAt, IsOfSlot, KeepsSlot};
-ghost use Rattle.process_restart.specs.Own.{LivesOn};
-ghost use Rattle.kernel_calls.specs.Outcomes.{ServesAt};
-ghost use Rattle.process_restart.specs.Own.{KeepsObject};
+ghost use Rattle.kernel_model.specs.Calls.{by_form};
+ghost use Rattle.process_restart.specs.Own.{IsOwn, KeepsObject, LivesOn};
+ghost use Rattle.kernel_calls.specs.Called.{CanRestart, Comes, Keeps, Serves};
+ghost use Rattle.kernel_calls.specs.Outcomes.{is_taken, ServesAt};
 ghost use Rattle.syscall_abi.specs.Forms.{form_of};
 
-use crate::exits::exit_call;
-use crate::memops::memop_call;
-use crate::permissions::is_permitted;
-use crate::replies::{failure, give, refuse};
-use crate::swaps::serve_swap;
-use crate::yields::yield_call;
+use crate::caller::Caller;
+use crate::lent::{Act, have_act};
+use crate::replies::failure;
 use grant_enter::Home;
 use grant_values::Driver;
 use kernel_model::no_call_is_left;
@@ -33,45 +28,66 @@ fn is_taken(form: &CallForm) -> bool
     }
 }
 
-/// Does an operation of memop for the process in a slot, and replies to it.
-fn serve_memop(
-    home: &mut Home,
-    process: &mut Process,
-    slot: Slot,
-    operation: u32,
-    argument: u32,
-) -> Outcome
-    requires { IsOfSlot slot home.old process.old }
-    ensures serves { ComesAt slot home.old process.old (λ r. memop r operation argument)
-        home.new process.new result }
-    ensures keeps { KeepsSlot slot home.old process.old home.new process.new }
-{
-    let answer = memop_call(home, process, slot, operation, argument);
-    give(process, answer)
+impl Caller<'_> {
+    /// Serves a call that is permitted and that no driver is to answer; a command that no driver
+    /// takes is refused.
+    #[tactic(auto, unfolding(kernel_model::specs::Calls::by_form))]
+    fn serve(&mut self, form: &CallForm) -> Outcome
+        requires lives { self.old.own.lives ≡ true }
+        requires rises { CanRestart self.old }
+        requires form { is_taken form.now ≡ false }
+        ensures serves { (around : CommandContext)
+            → Comes (λ r. by_form around r form.now) self.old self.new result }
+        ensures keeps { Keeps self.old self.new }
+    {
+        match *form {
+            CallForm::Yield { number, a1, a2 } => self.yields(number, a1, a2),
+            CallForm::Swap(swap) => self.swap(swap),
+            CallForm::Command { .. } => self.give(Err(CallRule::NoDriver)),
+            CallForm::Memop {
+                operation,
+                argument,
+            } => self.memop(operation, argument),
+            CallForm::Exit { kind, code } => self.exit(kind, code),
+        }
+    }
+
+    /// Serves a call that it makes.
+    fn call(&mut self, call: &Call, strict: bool) -> Outcome
+        requires lives { self.old.own.lives ≡ true }
+        requires rises { CanRestart self.old }
+        ensures serves { Serves strict (form_of call.now) self.old self.new result }
+        ensures keeps { Keeps self.old self.new }
+    {
+        no_call_is_left();
+        let form = call.form();
+        if !self.is_permitted(call, strict) {
+            return self.refuse(CallRule::Permission, failure(&form, CallRule::Permission));
+        }
+        if is_taken(&form) {
+            return Outcome::ToDriver;
+        }
+        self.serve(&form)
+    }
 }
 
-/// Serves a call that is permitted and that no driver is to answer; a command that no driver takes
-/// is refused.
-#[tactic(auto, unfolding(kernel_model::specs::Calls::by_form))]
-fn serve(home: &mut Home, process: &mut Process, slot: Slot, form: &CallForm) -> Outcome
-    requires at { IsOfSlot slot home.old process.old }
-    requires lives { (own_of home.old slot).lives ≡ true }
-    requires count { process.old.restarts + 1 < 2 ^ 32 }
-    requires life { (own_of home.old slot).life + 1 < 2 ^ 32 }
-    requires form { is_taken form.now ≡ false }
-    ensures serves { (around : CommandContext) → ComesAt slot home.old process.old
-        (λ r. by_form around r form.now) home.new process.new result }
-    ensures keeps { KeepsSlot slot home.old process.old home.new process.new }
-{
-    match *form {
-        CallForm::Yield { number, a1, a2 } => yield_call(home, process, slot, number, a1, a2),
-        CallForm::Swap(swap) => serve_swap(home, process, slot, swap),
-        CallForm::Command { .. } => give(process, Err(CallRule::NoDriver)),
-        CallForm::Memop {
-            operation,
-            argument,
-        } => serve_memop(home, process, slot, operation, argument),
-        CallForm::Exit { kind, code } => exit_call(home, process, slot, kind, code),
+/// A call, of the process that makes it.
+#[derive(Drop)]
+struct MakesCall<'a> {
+    call: &'a Call,
+    strict: bool,
+}
+
+impl Act for MakesCall<'_> {
+    type Answer = Outcome;
+
+    ghost asks = { λ made caller. (caller.own.lives ≡ true) × CanRestart caller };
+
+    ghost leaves = { λ made old outcome new.
+        Serves made.strict (form_of made.call.now) old new outcome };
+
+    fn run(self, caller: &mut Caller<'_>) -> Outcome {
+        caller.call(self.call, self.strict)
     }
 }
 
@@ -135,14 +151,5 @@ pub fn kernel_call(
     ensures lives_on { LivesOn (own_of home.old slot) (own_of home.new slot) }
     ensures rest { ChangesOnly slot home.old home.new }
 {
-    no_call_is_left();
-    let form = call.form();
-    if !is_permitted(home, slot, &process.object, strict, call) {
-        let failure = failure(&form, CallRule::Permission);
-        return refuse(process, CallRule::Permission, failure);
-    }
-    if is_taken(&form) {
-        return Outcome::ToDriver;
-    }
-    serve(home, process, slot, &form)
+    have_act(home, process, slot, MakesCall { call, strict })
 }
