@@ -2,12 +2,12 @@
 -- is due.
 use Rattle.std.proofs.Common.{◌≡◌, ◌≤◌, ◌<◌, ℕ, zero, suc, ◌+◌, ◌-◌, ◌*◌, ◌/◌, ◌==◌, Bool, true, false, cond, List, []}
 use Rattle.std.proofs.Common.{◌∷◌, find, Option, None, Some, is_some, slice_get, unwrap_or, refl, ap, sym, subst, ◌∙◌}
-use Rattle.std.proofs.Common.{◌⊎◌, inl, inr, arith, eqb-true, fold, min}
+use Rattle.std.proofs.Common.{◌⊎◌, inl, inr, arith, eqb-true, fold, min, nat_le, ◌%◌, ◌^◌}
 use Rattle.std.specs.Prelude.{All, IfSome, IsSomeAnd}
 use Rattle.std.proofs.lemmas.Bool.Decides.{nat_tests}
 use Rattle.std.specs.List.{range_with_len}
 use Rattle.std.specs.Option.{option_and_then, option_map, option_or}
-use Rattle.std.proofs.lemmas.Bool.{cases_lt, false≢true}
+use Rattle.std.proofs.lemmas.Bool.{cases_lt, false≢true, leb-true}
 use Rattle.std.proofs.lemmas.List.Elements.{All-nil, All-cons}
 use Rattle.std.proofs.lemmas.Option.{slice_get_within}
 use Rattle.tk_base.specs.declared.limits.TheConstants.{SLOT_COUNT}
@@ -16,9 +16,10 @@ use Rattle.tk_base.specs.declared.process.Choice.TheVariants.{Run, Device, Pass}
 use Rattle.tk_base.specs.declared.process.Dev.{Dev}
 use Rattle.tk_base.specs.declared.process.Dev.TheVariants as dev
 use Rattle.turn_scheduler.specs.RoundRobin.{choice, next_slot, ready_device}
+use Rattle.grant_values.specs.declared.alarm.Armed.{Armed}
 use Rattle.process_model.specs.Own.{Own}
 use Rattle.board_devices.specs.Arriving.{first_arrival_time}
-use Rattle.driver_model.specs.Alarm.{due_alarm, due_for, due_slot, has_due, left_for, nearer, next_left, ticks_left_in}
+use Rattle.driver_model.specs.Alarm.{alarm_in, due_alarm, due_for, due_slot, has_due, if_due, left_for, nearer, next_left, ticks_left_in}
 use Rattle.driver_model.specs.Alarm.{ticks_left_of}
 use Rattle.driver_model.specs.Parts.{nearer_with}
 use Rattle.driver_model.specs.Console as console
@@ -33,7 +34,7 @@ use Rattle.kernel_model.specs.Laws.{one_answered}
 use Rattle.kernel_model.specs.Run.{is_left, passes_to, next, next_time, ready_devices, ready_slots}
 use Rattle.kernel_model.proofs.Places.{of_stepped}
 use Rattle.kernel_model.proofs.Told.{edge_answer, of_device, told_labels, with_rest}
-use Rattle.kernel_laws.specs.Alarms.{AlarmsComeFirst, FiresWhenDue, NextIsTheLeast, NoneFiresEarly}
+use Rattle.kernel_laws.specs.Alarms.{AlarmsComeFirst, FiresWhenDue, IsDue, NextIsTheLeast, NoneFiresEarly}
 use Rattle.kernel_laws.specs.Alarms.{PassesStopAtAlarms, takes_time}
 use Rattle.kernel_laws.proofs.OneRun.{left_at, mapped_get, none_in_range}
 
@@ -44,7 +45,7 @@ no_device None rest c e takes = refl
 no_device (Some device) rest c e takes = let same : Device device ≡ c = cc in
     absurd (false≢true (ap takes_time same ∙ takes))
 
-none_ready : (w : World) (c : Choice) → next w ≡ Some c → takes_time c ≡ true → ready_device (ready_devices w) ≡ None
+pub none_ready : (w : World) (c : Choice) → next w ≡ Some c → takes_time c ≡ true → ready_device (ready_devices w) ≡ None
 unfolding next choice
 none_ready w c e takes =
     no_device (ready_device (ready_devices w))
@@ -115,6 +116,24 @@ is_due now owns (Some only) slot e = by_test (has_due now (slice_get owns only))
     by_test true is f = let same : only ≡ slot = cc in ap (λ (s : ℕ). has_due now (slice_get owns s)) (sym same) ∙ is
     by_test false is f = absurd (cc)
 
+-- that is, written out
+due_written : (now : ℕ) (r : Record) → is_some (due_alarm now r.own) ≡ true → IsDue now r
+due_written now r e = by_life r.own.lives refl (alarm_in r.own) refl e
+  where
+    by_passed : (alarm : Armed) (b : Bool)
+        → nat_le alarm.delta ((now + (2 ^ 32 - alarm.reference)) % 2 ^ 32) ≡ b
+        → is_some (cond b (Some alarm) None) ≡ true
+        → alarm.delta ≤ (now + (2 ^ 32 - alarm.reference)) % 2 ^ 32
+    by_passed alarm true is e = leb-true _ _ is
+    by_passed alarm false is e = absurd (false≢true e)
+
+    by_life : (lives : Bool) → r.own.lives ≡ lives → (armed : Option Armed) → alarm_in r.own ≡ armed
+        → is_some (cond lives (if_due now armed) None) ≡ true → IsDue now r
+    by_life false life armed is e = absurd (false≢true e)
+    by_life true life None is e = absurd (false≢true e)
+    by_life true life (Some alarm) is e =
+        record { lives = life; alarm = alarm; armed = is; passed = by_passed alarm _ refl e }
+
 module _ (w : World) where
   abbrev Fires : Stepped → Type 0
   Fires s = All (FiresWhenDue w) s.labels
@@ -151,9 +170,9 @@ module _ (w : World) where
         All-cons (FiresWhenDue w) (answer_label slot (alarmed w.settings w.clock.time w.devices).answer) []
         (λ now e. let same : now ≡ now_in w = cc in (
           same,
-          subst (λ (o : Option Record). IsSomeAnd o (λ r. is_some (due_alarm now r.own) ≡ true)) (sym is)
-              (ap (λ (n : ℕ). is_some (due_alarm n r.own)) same ∙ sym (due_there w slot r is)
-              ∙ is_due (now_in w) (owns_in w) (only_in w) slot first),
+          subst (λ (o : Option Record). IsSomeAnd o (IsDue now)) (sym is)
+              (due_written now r (ap (λ (n : ℕ). is_some (due_alarm n r.own)) same ∙ sym (due_there w slot r is)
+              ∙ is_due (now_in w) (owns_in w) (only_in w) slot first)),
         )) none;
     sends = λ slot r first is. other slot r (transmitting (lane_in w) w.clock.time w.devices slot r)
         (sent_apart (console.sent (flash_of r) r.own).completed);
@@ -178,15 +197,15 @@ pub none_fires_early : NoneFiresEarly
 none_fires_early w c = of_stepped (Fires w) w c (none w) (λ ready. of_choice w c)
 
 -- Time that passes ends no later than when the next alarm becomes due: what is nearest is no later than each.
-abbrev IsUpTo : ℕ → Option ℕ → Type 0
+abbrev pub IsUpTo : ℕ → Option ℕ → Type 0
 IsUpTo x o = IsSomeAnd o (λ k. k ≤ x)
 
-nearer_left : (a b : Option ℕ) (x : ℕ) → IsUpTo x a → IsUpTo x (nearer a b)
+pub nearer_left : (a b : Option ℕ) (x : ℕ) → IsUpTo x a → IsUpTo x (nearer a b)
 nearer_left None b x h = absurd h
 nearer_left (Some m) None x h = h
 nearer_left (Some m) (Some n) x h = omega (arith, h)
 
-nearer_right : (a b : Option ℕ) (x : ℕ) → IsUpTo x b → IsUpTo x (nearer a b)
+pub nearer_right : (a b : Option ℕ) (x : ℕ) → IsUpTo x b → IsUpTo x (nearer a b)
 nearer_right None b x h = h
 nearer_right (Some m) None x h = absurd h
 nearer_right (Some m) (Some n) x h = omega (arith, h)
@@ -274,17 +293,17 @@ next_is_the_least now owns = record {
         fold_finds now owns 0 SLOT_COUNT slot None left (omega arith) (omega (arith, below))
         (subst (IsUpTo left) (sym is) (omega arith))
 
-later_up_to : (time x : ℕ) (o : Option ℕ) → IsUpTo x o → IsUpTo (time + x) (option_map (λ left. time + left) o)
+pub later_up_to : (time x : ℕ) (o : Option ℕ) → IsUpTo x o → IsUpTo (time + x) (option_map (λ left. time + left) o)
 later_up_to time x None h = absurd h
 later_up_to time x (Some left) h = omega (arith, h)
 
 -- a pass leads to the next time
-record PassesTo (time ticks : ℕ) (o : Option ℕ) : Type 0 where
-  at : ℕ
-  is : o ≡ Some at
-  by : ticks ≡ at - time
+pub record PassesTo (time ticks : ℕ) (o : Option ℕ) : Type 0 where
+  pub at : ℕ
+  pub is : o ≡ Some at
+  pub by : ticks ≡ at - time
 
-chosen_pass : (time ticks : ℕ) (d : Option Dev) (q : Option ℕ) (o : Option ℕ)
+pub chosen_pass : (time ticks : ℕ) (d : Option Dev) (q : Option ℕ) (o : Option ℕ)
     → option_or (option_map Device d) (option_or (option_map Run q) (option_map (λ (at : ℕ). Pass (at - time)) o))
     ≡ Some (Pass ticks) → PassesTo time ticks o
 chosen_pass time ticks (Some device) q o e = absurd (cc)
@@ -292,7 +311,7 @@ chosen_pass time ticks None (Some slot) o e = absurd (cc)
 chosen_pass time ticks None None None e = absurd (cc)
 chosen_pass time ticks None None (Some at) e = record { at = at; is = refl; by = cc }
 
-passes_up_to : (w : World) (n x at : ℕ) → passes_to w n ≡ Some at → IsUpTo x (work_in w (only_in w)).next → at ≤ x
+pub passes_up_to : (w : World) (n x at : ℕ) → passes_to w n ≡ Some at → IsUpTo x (work_in w (only_in w)).next → at ≤ x
 passes_up_to w zero x at e h = subst (IsUpTo x) e h
 passes_up_to w (suc n) x at e h = by_left (is_left w) e
   where

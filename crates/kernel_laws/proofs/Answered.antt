@@ -65,11 +65,13 @@ overwrites bytes (Some written) k within = by_start (cases_lt k written.0)
     by_start (inr above) = by_end above (cases_lt k (written.0 + length written.1))
 
 -- what serving a request writes over the storage, where that does not fail, lies where a write asks for
-abbrev AsksFor : ℕ → StorageRequest → Type 0
-AsksFor k request = (request.kind ≡ Write) × (request.offset ≤ k) × (k < request.offset + request.length)
+abbrev AsksFor : Own → ℕ → StorageRequest → Type 0
+AsksFor own k request =
+    (request.kind ≡ Write) × (request.offset ≤ k)
+    × (k < request.offset + min request.length (held ReadOnly storage.storage 0 own).1)
 
 served_asks : (flash : ℕ → ℕ) (bytes : List ℕ) (request : StorageRequest) (own : Own) (k : ℕ) (kind : StorageKind)
-    → request.kind ≡ kind → Covers (storage.moving kind flash bytes request own).written k → AsksFor k request
+    → request.kind ≡ kind → Covers (storage.moving kind flash bytes request own).written k → AsksFor own k request
 served_asks flash bytes request own k Read is covers = absurd covers
 served_asks flash bytes request own k Write is covers =
     let buffer = held ReadOnly storage.storage 0 own in
@@ -79,14 +81,14 @@ served_asks flash bytes request own k Write is covers =
 
 answer_asks : (flash : ℕ → ℕ) (bytes : List ℕ) (own : Own) (k : ℕ)
     → Covers (storage.answered false flash bytes own).moved k
-    → IsSomeAnd (waiting_in storage.storages own) (AsksFor k)
+    → IsSomeAnd (waiting_in storage.storages own) (AsksFor own k)
 unfolding storage.answered
 answer_asks flash bytes own k = by_request (waiting_in storage.storages own)
   where
     by_request : (o : Option StorageRequest)
         → Covers (unwrap_or (option_map (λ request.
         storage.finished (storage.storage_served false flash bytes request own)) o)
-        (unanswered None own)).moved k → IsSomeAnd o (AsksFor k)
+        (unanswered None own)).moved k → IsSomeAnd o (AsksFor own k)
     by_request None covers = absurd covers
     by_request (Some request) covers = served_asks flash bytes request own k request.kind refl covers
 

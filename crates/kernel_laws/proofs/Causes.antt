@@ -1,6 +1,7 @@
 -- The cause of each change of a process's bytes: by its turn, by the end of its instruction and by its call.
 use Rattle.std.proofs.Common.{◌≡◌, ◌⊎◌, inl, inr, ℕ, ◌+◌, ◌==◌, Bool, true, false, cond, ◌&&◌, List, Option}
-use Rattle.std.proofs.Common.{None, Some, Result, Ok, Err, is_ok, is_some, slice_get, refl, ap, sym, subst, ◌∙◌}
+use Rattle.std.proofs.Common.{None, Some, Result, Ok, Err, is_ok, is_some, slice_get, slice_index, refl, ap, sym, subst}
+use Rattle.std.proofs.Common.{◌∙◌, ◌≤◌, arith, eqb-true, nat_le, option_and_then}
 use Rattle.std.specs.Prelude.{IsTrue}
 use Rattle.std.specs.List.{list_any}
 use Rattle.tk_base.specs.declared.access.Denial.{Denial}
@@ -45,15 +46,15 @@ use Rattle.kernel_model.specs.Parts.{object_permits}
 use Rattle.kernel_model.specs.Calls.{served, swap_by, swap_refusal, taken_by, yield_now}
 use Rattle.kernel_model.specs.Parts.{restarted_by, restarted_main}
 use Rattle.kernel_model.specs.Calls.{comes_to, yield_for, yielding}
-use Rattle.kernel_model.specs.Turn.{Turned, turn_counted, at_turn_end, faulted, yield_flag_of, idle}
+use Rattle.kernel_model.specs.Turn.{TurnTrace, Turned, turn_counted, at_turn_end, faulted, yield_flag_of, idle}
 use Rattle.kernel_model.specs.Parts.{calls, delivery}
 use Rattle.kernel_model.specs.Turn.{made, settled, surroundings, turn_in}
 use Rattle.kernel_model.specs.Parts.{instructed, unknown_call}
 use Rattle.kernel_model.specs.Histories.{ends_life}
 use Rattle.kernel_model.specs.Parts.{is_exit}
-use Rattle.kernel_model.specs.Causes.{IsDoneByTurn, TurnHasCauses, TurnsHaveCauses, showed_clock}
+use Rattle.kernel_model.specs.Causes.{IsDoneByTurn, IsFlagOfYield, TurnHasCauses, TurnsHaveCauses, showed_clock}
 use Rattle.process_model.specs.Permission.{denied}
-use Rattle.std.proofs.lemmas.Bool.{false≢true}
+use Rattle.std.proofs.lemmas.Bool.{and_parts, false≢true, leb-true}
 use Rattle.kernel_laws.proofs.Refused.{only_counts}
 use Rattle.kernel_laws.specs.Clock.{TurnsWithoutClockHaveCauses, asks_clock}
 use Rattle.process_record.specs.declared.emit.CallMade.{CallMade}
@@ -69,10 +70,20 @@ record Changes (r : Record) (flag : Option ℕ) (ends shown : Bool) (s : Record)
       ⊎ ((shown ≡ true) × IsInside (clock_buffer r.own) at))) r.own s.own
   storage : s.storage ≡ r.storage
 
+-- the flag of a call that broke no rule
+abbrev if_accepted : Option CallRule → Option ℕ → Option ℕ
+if_accepted None flag = flag
+if_accepted (Some rule) flag = None
+
 -- the same of a call
 abbrev Leaves : Record → Option ℕ → Served → Type 0
 Leaves r flag s =
-    let m = made r.process.regs s.outcome in Changes r flag (is_exit m) (showed_clock (Some m)) s.after
+    let m = made r.process.regs s.outcome in
+    Changes r (if_accepted m.rule flag) (is_exit m) (showed_clock (Some m)) s.after
+
+-- the flag that a turn told of such a call
+abbrev flag_in : TurnTrace → Option ℕ
+flag_in told = if_accepted (option_and_then (λ made. made.rule) told.call) told.flag
 
 -- none change
 kept : (r s : Record) (flag : Option ℕ) {ends shown : Bool} → KeepsBytes r.own s.own → s.storage ≡ r.storage
@@ -95,6 +106,15 @@ restarts_so r flag ends {shown} is = by_reading (header_reading r.object)
     by_reading : (h : Result Meaning HeaderFault) → Changes r flag ends shown (restarted_by r h)
     by_reading (Ok h) = by_main h h.main
     by_reading (Err fault) = kept r r flag (λ at before after. refl) refl
+
+-- registers that make a yield have its class, its number and its second argument
+yield_class : (regs : Registers) (number x y : ℕ) → call_of regs ≡ Some (forms.Yield number x y)
+    → (class regs ≡ 0) × ((a0 regs ≡ number) × (a1 regs ≡ x))
+yield_class regs number x y =
+    of_registers (λ (o : Option CallForm). o ≡ Some (forms.Yield number x y)
+    → (class regs ≡ 0) × ((a0 regs ≡ number) × (a1 regs ≡ x))) regs
+    (λ is e. (is, (cc, cc))) (λ kind is e. absurd (cc)) (λ is e. absurd (cc)) (λ is e. absurd (cc))
+    (λ is e. absurd (cc)) (λ e. absurd (cc))
 
 -- registers that make an exit have its class
 exit_class : (regs : Registers) (kind code : ℕ) → call_of regs ≡ Some (forms.Exit kind code) → class regs ≡ 6
@@ -261,7 +281,7 @@ module _ (law : OnlyWritesChangeBytes) (commands : CommandsWriteInBuffers) (of_e
     (settings : Settings) (time : ℕ) where
   -- a turn by the end of its instruction, once its effect stands
   abbrev Causes : Record → Turned → Type 0
-  Causes r t = Changes r t.told.flag (ends_life t.told) (showed_clock t.told.call) t.after
+  Causes r t = Changes r (flag_in t.told) (ends_life t.told) (showed_clock t.told.call) t.after
 
   of_calls : (r : Record) (accesses : List MemoryAccess) (call : Option CallForm) → call_of r.process.regs ≡ call
       → let t = calls settings time r accesses call in (asks_clock t.told.call ≡ true → IsWhole r.own) → Causes r t
@@ -283,6 +303,59 @@ module _ (law : OnlyWritesChangeBytes) (commands : CommandsWriteInBuffers) (of_e
   told_store r accesses ends.Went at went covers = covers
   told_store r accesses ends.Call at went covers = absurd (cc)
   told_store r accesses (ends.Trap denial) at went covers = absurd (cc)
+
+  -- a flag is told by an accepted yield that does not wait, and lies in accessible RAM
+  yield_told : (s : Record) (accesses : List MemoryAccess) (end : TurnEnd) (at : ℕ)
+      → let t = at_turn_end settings time s accesses end in flag_in t.told ≡ Some at → IsFlagOfYield s t.told at
+  yield_told s accesses ends.Went at e = absurd (cc)
+  yield_told s accesses ends.Call at e = by_call (call_of s.process.regs) refl e
+    where
+      by_rule : (call : CallForm) (m : CallMade) (rule : Option CallRule) → m.rule ≡ rule
+          → call_of s.process.regs ≡ Some call → m.class ≡ class s.process.regs
+          → slice_index m.args 0 ≡ a0 s.process.regs → slice_index m.args 1 ≡ a1 s.process.regs
+          → if_accepted rule (yield_flag_of s call) ≡ Some at
+          → IsFlagOfYield s (record { accesses = accesses; call = Some m; flag = yield_flag_of s call; denial = None })
+          at
+      by_rule call m (Some rule) broken is class_is first second e = absurd (cc)
+      by_rule (forms.Swap swap) m None kept is class_is first second e = absurd (cc)
+      by_rule (forms.Command driver n x y) m None kept is class_is first second e = absurd (cc)
+      by_rule (forms.Memop operation argument) m None kept is class_is first second e = absurd (cc)
+      by_rule (forms.Exit kind code) m None kept is class_is first second e = absurd (cc)
+      by_rule (forms.Yield number x y) m None kept is class_is first second e =
+          by_place (number == 0 && lies_in_ram s.own.layout x 1) refl e
+        where
+          same_place : ◌≡◌ {A = Option ℕ} (Some x) (Some at) → x ≡ at
+          same_place e = cc
+
+          by_place : (b : Bool) → (number == 0 && lies_in_ram s.own.layout x 1) ≡ b → cond b (Some x) None ≡ Some at
+              → IsFlagOfYield s (record {
+                accesses = accesses;
+                call = Some m;
+                flag = cond b (Some x) None;
+                denial = None;
+              }) at
+          by_place true test e =
+              let parts = and_parts (number == 0) (lies_in_ram s.own.layout x 1) test in
+              let bounds = and_parts (nat_le s.own.layout.start x) (nat_le (x + 1) s.own.layout.brk) parts.1 in
+              let at_is : x ≡ at = same_place e in
+              let from : s.own.layout.start ≤ x = leb-true _ _ bounds.0 in
+              let up_to : x + 1 ≤ s.own.layout.brk = leb-true _ _ bounds.1 in
+              let c = yield_class s.process.regs number x y is in
+              record {
+                flag = e;
+                made = (class_is ∙ c.0, first ∙ c.1.0 ∙ eqb-true number 0 parts.0, second ∙ c.1.1 ∙ at_is, kept);
+                from = omega (arith, from, at_is);
+                below = omega (arith, up_to, at_is);
+              }
+          by_place false test e = absurd (cc)
+
+      by_call : (call : Option CallForm) → call_of s.process.regs ≡ call
+          → let t = calls settings time s accesses call in flag_in t.told ≡ Some at → IsFlagOfYield s t.told at
+      by_call None is e = absurd (cc)
+      by_call (Some call) is e =
+          by_rule call (made s.process.regs (served settings.strict (surroundings settings time s) s call).outcome) _ refl
+          is refl refl refl e
+  yield_told s accesses (ends.Trap denial) at e = absurd (cc)
 
   of_instruction : (r : Record) → let t = instructed settings time r in
       (asks_clock t.told.call ≡ true → IsWhole r.own) → TurnHasCauses r t.after t.told
@@ -314,13 +387,16 @@ module _ (law : OnlyWritesChangeBytes) (commands : CommandsWriteInBuffers) (of_e
           → (own_byte s.own at ≡ own_byte r.own at)
           ⊎ ((t.end ≡ ends.Went) × IsTrue (list_any (stores_at at) t.accesses))
           → (own_byte u.after.own at ≡ own_byte s.own at)
-          ⊎ ((u.told.flag ≡ Some at)
+          ⊎ ((flag_in u.told ≡ Some at)
           ⊎ (((ends_life u.told ≡ true) × (u.after.process.restarts ≡ r.process.restarts + 1))
           ⊎ ((showed_clock u.told.call ≡ true) × IsInside (clock_buffer r.own) at)))
           → (own_byte u.after.own at ≡ own_byte r.own at) ⊎ IsDoneByTurn r u.after u.told at
       joined at (inr stored) then = inr (inl (told_store s t.accesses t.end at stored.0 stored.1))
       joined at (inl same) (inl later) = inl (later ∙ same)
-      joined at (inl same) (inr cause) = inr (inr cause)
+      joined at (inl same) (inr (inl flag)) =
+          let y = yield_told s t.accesses t.end at flag in
+          inr (inr (inl (record { flag = y.flag; made = y.made; from = y.from; below = y.below })))
+      joined at (inl same) (inr (inr cause)) = inr (inr (inr cause))
 
   of_idle : (r : Record) → TurnHasCauses r r (idle r).told
   of_idle r = record { own = λ at before after. inl refl; storage = refl }

@@ -456,5 +456,7 @@ each_is_scheduled_once u before counts =
     by_test_of true null room e f g counts = inl (e, refl)
     by_test_of false true room e f g (inl waits) = absurd (false≢true (sym e ∙ waits))
     by_test_of false true room e f g (inr some) = absurd (some (eqb-true u.function 0 f))
-    by_test_of false false true e f g counts = inr (inl refl)
-    by_test_of false false false e f g counts = inr (inr (grind (arith, nat_tests), refl))
+    by_test_of false false true e f g counts =
+        inr (inl ((e, λ null. false≢true (sym f ∙ eq-eqb u.function 0 null)), grind (arith, nat_tests), refl))
+    by_test_of false false false e f g counts =
+        inr (inr ((e, λ null. false≢true (sym f ∙ eq-eqb u.function 0 null)), grind (arith, nat_tests), refl))

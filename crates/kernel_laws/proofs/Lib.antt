@@ -7,7 +7,17 @@ mod Time
 mod Answered
 mod Caused
 pub mod OneRun
+pub mod Between
+pub mod Calling
+mod Registers
+mod Replies
+mod Delivered
+pub mod Asking
+mod Arming
+mod Withdrawing
+mod Restarting
 mod Alarms
+mod Passes
 mod Ready
 mod Queues
 mod Tables

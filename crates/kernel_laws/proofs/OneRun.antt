@@ -1,6 +1,6 @@
 -- The run by round robin and its choices, and when it is done.
 use Rattle.std.proofs.Common.{◌≡◌, ◌≤◌, ◌<◌, ℕ, zero, suc, ◌+◌, ◌-◌, ◌==◌, Bool, true, false, cond, not, ◌&&◌, nat_le}
-use Rattle.std.proofs.Common.{◌/◌, ◌||◌, ◌↔◌, if◌then◌else◌, is_some}
+use Rattle.std.proofs.Common.{◌⊎◌, inl, inr, ◌/◌, ◌||◌, ◌↔◌, if◌then◌else◌, is_some}
 use Rattle.std.proofs.Common.{nat_lt, List, [], ◌∷◌, length, map, fold, find, slice_get, slice_index_or, Option, None}
 use Rattle.std.proofs.Common.{Some, IfSome, IsTrue, option_and_then, option_map, refl, sym, ap, subst, ◌∙◌, arith}
 use Rattle.std.specs.List.{range_with_len}
@@ -24,7 +24,7 @@ use Rattle.driver_model.specs.Laws.{IsDueWhereNoneAreLeft}
 use Rattle.script_text.specs.Settings.{ScriptEvent as Arrival}
 use Rattle.board_devices.specs.Arriving.{first_arrival_time as arrival_time}
 use Rattle.process_model.specs.Own.{Own}
-use Rattle.driver_model.specs.Commands.{Writes}
+use Rattle.driver_model.specs.Commands.{Writes, Reads, Randoms, Stores}
 use Rattle.kernel_model.specs.Record.{Record}
 use Rattle.kernel_model.specs.Turn.{may_turn}
 use Rattle.kernel_model.specs.World.{World, after, is_ready, may_serve, now_in}
@@ -287,6 +287,24 @@ no_writes (slot ∷ rest) free e = absurd (none_waits (length (slot ∷ rest) ==
     none_waits true is f = let none : length (slot ∷ rest) ≡ 0 = grind (arith, nat_tests) in omega (arith, none)
     none_waits false is f = cc
 
+-- nobody waits where no test finds one, and nobody reads where none does or nothing came in
+none_waiting : (slots : List ℕ) → is_waited_for slots ≡ false → slots ≡ []
+none_waiting [] e = refl
+none_waiting (slot ∷ rest) e = by_length (length (slot ∷ rest) == 0) refl e
+  where
+    by_length : (b : Bool) → (length (slot ∷ rest) == 0) ≡ b → not b ≡ false → slot ∷ rest ≡ []
+    by_length true is f = let none : length (slot ∷ rest) ≡ 0 = grind (arith, nat_tests) in absurd (omega (arith, none))
+    by_length false is f = absurd (false≢true (sym f))
+
+no_reads : (slots ring : List ℕ) → (is_waited_for slots && not (length ring == 0)) ≡ false
+    → (slots ≡ []) ⊎ (ring ≡ [])
+no_reads slots ring e = by_slots (is_waited_for slots) refl e
+  where
+    by_slots : (b : Bool) → is_waited_for slots ≡ b → (b && not (length ring == 0)) ≡ false
+        → (slots ≡ []) ⊎ (ring ≡ [])
+    by_slots false is f = inl (none_waiting slots is)
+    by_slots true is f = inr (none_waiting ring f)
+
 within_or_beyond : (w : World) (slot : ℕ) (P : Option Record → Type 0) → length w.records ≤ SLOT_COUNT → P None
     → (slot < SLOT_COUNT → P (slice_get w.records slot)) → P (slice_get w.records slot)
 within_or_beyond w slot P few none some = by_side (nat_lt slot SLOT_COUNT) refl
@@ -299,7 +317,7 @@ within_or_beyond w slot P few none some = by_side (nat_lt slot SLOT_COUNT) refl
 
 -- no device step is ready exactly where none is the first that is
 module _ (ready : Dev → Bool) where
-  none_acts : ready_device (map ready device_order) ≡ None → (device : Dev) → ready device ≡ false
+  pub none_acts : ready_device (map ready device_order) ≡ None → (device : Dev) → ready device ≡ false
   unfolding ready_device
   none_acts e device =
       let event = passed_over (ready dev.Event) dev.Event _ e in
@@ -349,6 +367,7 @@ plainly_left u few e =
     (mapped_none (λ (at : ℕ). Pass (at - w.clock.time)) (next_time w) turn.1) in
     let later = nearer_none (alarm_time None w.clock.time (now_in w) (owns_in w)) (sending_time None
     w.devices) times.1 in
+    let acts = none_acts (work_of w).ready (mapped_none Device _ device.0) in
     let alarms = (folded_none (now_in w) (owns_in w) 0 SLOT_COUNT None
     (mapped_none (λ (left : ℕ). w.clock.time + left) (next_left (now_in w) (owns_in w)) later.0)).1 in
     record {
@@ -360,6 +379,9 @@ plainly_left u few e =
       alarms = λ slot. within_or_beyond w slot (λ o. IfSome o HasNoAlarm) few tt
           (λ h. no_alarm w slot (alarms slot (omega arith) (omega (arith, h))));
       writes = λ slot h. no_writes (slots_in Writes w.devices.waiting) (line_in 0 w.devices).free later.1;
+      reads = λ slot h. no_reads (slots_in Reads w.devices.waiting) (line_in 0 w.devices).ring (acts dev.Receive);
+      randoms = λ slot h. none_waiting (slots_in Randoms w.devices.waiting) (acts dev.Random);
+      stores = λ slot h. none_waiting (slots_in Stores w.devices.waiting) (acts dev.Store);
     }
 
 plainly_done : (u : World) → NothingIsLeft (at_window 0 u) → next (at_window 0 u) ≡ None
@@ -436,6 +458,12 @@ windows_left u n few e =
               (ticks_left_in (now_in w) (owns_in w) slot) (times slot h).0));
           writes = λ slot h. no_writes (may_serve (Some slot) (slots_in Writes w.devices.waiting))
               (line_in slot w.devices).free (times slot h).1;
+          reads = λ slot h. no_reads (may_serve (Some slot) (slots_in Reads w.devices.waiting))
+              (line_in slot w.devices).ring (none_acts (work_for w slot).ready (for_slot slot h).1.0 dev.Receive);
+          randoms = λ slot h. none_waiting (may_serve (Some slot) (slots_in Randoms w.devices.waiting))
+              (none_acts (work_for w slot).ready (for_slot slot h).1.0 dev.Random);
+          stores = λ slot h. none_waiting (may_serve (Some slot) (slots_in Stores w.devices.waiting))
+              (none_acts (work_for w slot).ready (for_slot slot h).1.0 dev.Store);
         }
 
 windows_done : (u : World) (n : ℕ) → NothingIsLeft (at_window (suc n) u) → next (at_window (suc n) u) ≡ None

@@ -1,148 +1,247 @@
 -- That queues are first come, first served, by what a turn, an answer and an operator's act do to them.
-use Rattle.std.proofs.Common.{◌≡◌, ℕ, ◌==◌, ◌&&◌, Bool, true, false, cond, not, List, [], ◌∷◌, ◌++◌, filter, Option}
-use Rattle.std.proofs.Common.{None, Some, slice_get, unwrap_or, refl, sym, ap, subst, ◌∙◌}
+use Rattle.std.proofs.Common.{◌≡◌, ◌⊎◌, inl, inr, ℕ, ◌==◌, Bool, true, false, cond, List, [], ◌∷◌, ◌++◌, Option}
+use Rattle.std.proofs.Common.{None, Some, slice_get, unwrap_or, refl, sym, ap, subst, ◌∙◌, arith}
 use Rattle.std.specs.Prelude.{All}
 use Rattle.std.specs.Option.{option_map}
-use Rattle.std.proofs.lemmas.List.{append-nil, append_assoc}
-use Rattle.std.proofs.lemmas.List.Elements.{All-nil, All-cons, filter-append}
+use Rattle.std.proofs.lemmas.Bool.{false≢true}
+use Rattle.std.proofs.lemmas.List.Elements.{All-nil, All-cons}
+use Rattle.tk_base.specs.declared.process.Verb.{Verb}
+use Rattle.tk_base.specs.declared.upcall.Upcall.{Upcall as Scheduled}
+use Rattle.grant_values.specs.declared.drivers.Driver.{Driver}
+use Rattle.grant_values.specs.declared.drivers.Driver.TheVariants.{Alarm, Buttons, Console, Leds, Random, Storage}
+use Rattle.process_model.specs.Own.{Own}
+use Rattle.process_record.specs.Operator.{ends_by}
+use Rattle.rv32_model.specs.Laws.{CallsAreOfEcall}
+use Rattle.upcall_queue.specs.Pending.{place_of}
+use Rattle.driver_model.specs.Asked.{AskTheirOwn, OneOf}
+use Rattle.driver_model.specs.Drivers.{CommandContext, CommandHandler, handler_by}
 use Rattle.tk_base.specs.declared.process.Choice.{Choice}
 use Rattle.tk_base.specs.declared.process.Choice.TheVariants.{Run, Device, Pass}
 use Rattle.tk_base.specs.declared.process.Dev.{Dev}
 use Rattle.driver_model.specs.Commands.{BoardRequest, QueueName, Writes, Reads, Randoms, Stores, Waits, Leaves, Lights}
-use Rattle.driver_model.specs.Commands.{is_same}
+use Rattle.driver_model.specs.Commands.{is_same, leaving_all, On, Off, Toggle, Switch}
 use Rattle.driver_model.specs.Console as console
 use Rattle.kernel_model.specs.Record.{Record, flash_of}
-use Rattle.kernel_model.specs.Turn.{NoWord, Taken, Word, WriteDone, turned}
-use Rattle.kernel_model.specs.World.{Answer, DeviceAnswer, Devices, Stepped, World, acted, after_answer, answer_label}
+use Rattle.kernel_model.specs.declared.settings.Settings.{Settings}
+use Rattle.kernel_model.specs.Calls.{yield_for, yield_now, yielding}
+use Rattle.kernel_model.specs.Turn.{NoWord, Taken, Word, WriteDone, surroundings, turn_counted, turned}
+use Rattle.kernel_model.specs.World.{Answer, DeviceAnswer, Devices, Label, Stepped, World, after_answer, answer_label}
 use Rattle.kernel_model.specs.World.{with_queue, carried_out, device_step_of, done, lane_in, operating, queue_without}
 use Rattle.kernel_model.specs.World.{ran, random_step, receive_step, routed, storing, telling_edge, transmitting}
 use Rattle.kernel_model.specs.World.{turn_label, only_in, may_serve}
 use Rattle.kernel_model.specs.Parts.{acts_of, alarmed}
 use Rattle.kernel_model.specs.Laws.{one_answered}
 use Rattle.kernel_model.specs.Named.{slots_in}
+use Rattle.kernel_model.proofs.Memops.{by_test}
 use Rattle.kernel_model.proofs.Places.{of_stepped, queue_with}
 use Rattle.kernel_model.proofs.Told.{edge_answer, of_device, told_labels, with_rest}
-use Rattle.kernel_laws.specs.Queues.{FirstAreServed, IsOfFirst, KeepsQueueOrder, QueuesKeepOrder, queue_for}
+use Rattle.kernel_laws.specs.Queues.{ChangesByOne, FirstAreServed, IsOfFirst, JoinsOrLeaves, QueuesKeepOrder, queue_for}
+use Rattle.kernel_laws.proofs.Between.{of_turn}
+use Rattle.kernel_laws.proofs.Calling.{of_served}
+use Rattle.kernel_laws.proofs.Commands.{handled}
 
--- a queue in which nobody came and none went has the order that it had
-all_stay : (xs : List ℕ) → filter (λ (s : ℕ). true) xs ≡ xs
-all_stay [] = refl
-all_stay (x ∷ xs) = ap (λ (ys : List ℕ). x ∷ ys) (all_stay xs)
+-- a queue in which nothing changed, or one slot came as the last one, or one went
+abbrev Moves : ℕ → List ℕ → List ℕ → Type 0
+Moves slot before later = (later ≡ before) ⊎ JoinsOrLeaves slot before later
 
-twice : (p q : ℕ → Bool) (xs : List ℕ) → filter p (filter q xs) ≡ filter (λ (s : ℕ). q s && p s) xs
-twice p q [] = refl
-twice p q (x ∷ xs) = by_test (q x) (twice p q xs)
+-- two names of queues that are the same are one
+same_name : (a b : QueueName) → is_same a b ≡ true → a ≡ b
+same_name Writes Writes e = refl
+same_name Writes Reads e = absurd (false≢true e)
+same_name Writes Randoms e = absurd (false≢true e)
+same_name Writes Stores e = absurd (false≢true e)
+same_name Reads Writes e = absurd (false≢true e)
+same_name Reads Reads e = refl
+same_name Reads Randoms e = absurd (false≢true e)
+same_name Reads Stores e = absurd (false≢true e)
+same_name Randoms Writes e = absurd (false≢true e)
+same_name Randoms Reads e = absurd (false≢true e)
+same_name Randoms Randoms e = refl
+same_name Randoms Stores e = absurd (false≢true e)
+same_name Stores Writes e = absurd (false≢true e)
+same_name Stores Reads e = absurd (false≢true e)
+same_name Stores Randoms e = absurd (false≢true e)
+same_name Stores Stores e = refl
+
+-- where one queue changes in such a way, each does
+changed : (queue name : QueueName) (change : List ℕ → List ℕ) (slot : ℕ) (d : Devices)
+    → Moves slot (slots_in name d.waiting) (change (slots_in name d.waiting))
+    → Moves slot (slots_in queue d.waiting) (slots_in queue (with_queue name change d).waiting)
+changed queue name change slot d moves =
+    subst (Moves slot (slots_in queue d.waiting)) (sym (queue_with queue name change d))
+    (by_test (is_same name queue) (λ same. same_name name queue same))
   where
-    by_test : (b : Bool) → filter p (filter q xs) ≡ filter (λ (s : ℕ). q s && p s) xs
-        → filter p (cond b (x ∷ filter q xs) (filter q xs))
-        ≡ cond (b && p x) (x ∷ filter (λ (s : ℕ). q s && p s) xs) (filter (λ (s : ℕ). q s && p s) xs)
-    by_test true later = ap (λ (ys : List ℕ). cond (p x) (x ∷ ys) ys) later
-    by_test false later = later
+    by_test : (b : Bool) → (b ≡ true → name ≡ queue)
+        → Moves slot (slots_in queue d.waiting)
+        (cond b (change (slots_in queue d.waiting)) (slots_in queue d.waiting))
+    by_test true same =
+        subst (λ (q : QueueName). Moves slot (slots_in q d.waiting) (change (slots_in q d.waiting))) (same refl) moves
+    by_test false same = inl refl
 
-same_order : (xs : List ℕ) → KeepsQueueOrder xs xs
-same_order xs =
-    record { stays = λ s. true; come = []; is = sym (append-nil (filter (λ (s : ℕ). true) xs) ∙ all_stay xs) }
+-- what a turn asks of the board moves it so, where it asks one thing at most, or leaves all queues
+abbrev MovesOne : List BoardRequest → Type 0
+MovesOne acts =
+    (queue : QueueName) (slot : ℕ) (d : Devices)
+    → Moves slot (slots_in queue d.waiting) (slots_in queue (routed slot acts d).waiting)
 
--- so has one in which one more waits now, and one in which fewer do
-more : (before later : List ℕ) (slot : ℕ) → KeepsQueueOrder before later → KeepsQueueOrder before (later ++ slot ∷ [])
-more before later slot k = record {
-  stays = k.stays;
-  come = k.come ++ slot ∷ [];
-  is = ap (λ (xs : List ℕ). xs ++ slot ∷ []) k.is ∙ append_assoc (filter k.stays before) k.come (slot ∷ []);
-}
+asks_none : MovesOne []
+asks_none queue slot d = inl refl
 
-fewer : (before later : List ℕ) (p : ℕ → Bool) → KeepsQueueOrder before later → KeepsQueueOrder before (filter p later)
-fewer before later p k = record {
-  stays = λ s. k.stays s && p s;
-  come = filter p k.come;
-  is = ap (filter p) k.is ∙ filter-append p (filter k.stays before) k.come
-      ∙ ap (λ (xs : List ℕ). xs ++ filter p k.come) (twice p k.stays before);
-}
+asks_waits : (name : QueueName) → MovesOne (Waits name ∷ [])
+asks_waits name queue slot d = changed queue name (λ slots. slots ++ slot ∷ []) slot d (inr (inl refl))
 
--- where one queue changes in such a way, each keeps its order
-changed : (before : List ℕ) (queue name : QueueName) (change : List ℕ → List ℕ) (d : Devices)
-    → ((xs : List ℕ) → KeepsQueueOrder before xs → KeepsQueueOrder before (change xs))
-    → KeepsQueueOrder before (slots_in queue d.waiting)
-    → KeepsQueueOrder before (slots_in queue (with_queue name change d).waiting)
-changed before queue name change d keeps k =
-    subst (KeepsQueueOrder before) (sym (queue_with queue name change d)) (by_test (is_same name queue))
-  where
-    by_test : (b : Bool)
-        → KeepsQueueOrder before (cond b (change (slots_in queue d.waiting)) (slots_in queue d.waiting))
-    by_test true = keeps (slots_in queue d.waiting) k
-    by_test false = k
+asks_leaves : (name : QueueName) → MovesOne (Leaves name ∷ [])
+asks_leaves name queue slot d = changed queue name (queue_without slot) slot d (inr (inr refl))
 
--- what a process asks of the board, and a device's answer to it, change queues in such ways alone
-act_keeps : (before : List ℕ) (queue : QueueName) (slot : ℕ) (act : BoardRequest) (d : Devices)
-    → KeepsQueueOrder before (slots_in queue d.waiting) → KeepsQueueOrder before
-    (slots_in queue (acted slot act d).waiting)
-act_keeps before queue slot (Waits name) d k =
-    changed before queue name (λ slots. slots ++ slot ∷ []) d (λ xs. more before xs slot) k
-act_keeps before queue slot (Leaves name) d k =
-    changed before queue name (queue_without slot) d (λ xs. fewer before xs (λ s. not (s == slot))) k
-act_keeps before queue slot (Lights led switch) d k = k
+asks_lights : (led : ℕ) (switch : Switch) → MovesOne (Lights led switch ∷ [])
+asks_lights led switch queue slot d = inl refl
 
-acts_keep : (before : List ℕ) (queue : QueueName) (slot : ℕ) (acts : List BoardRequest) (d : Devices)
-    → KeepsQueueOrder before (slots_in queue d.waiting) → KeepsQueueOrder before
-    (slots_in queue (routed slot acts d).waiting)
-acts_keep before queue slot [] d k = k
-acts_keep before queue slot (act ∷ acts) d k =
-    acts_keep before queue slot acts (acted slot act d) (act_keeps before queue slot act d k)
+leaves_all : MovesOne leaving_all
+leaves_all Writes slot d = inr (inr refl)
+leaves_all Reads slot d = inr (inr refl)
+leaves_all Randoms slot d = inr (inr refl)
+leaves_all Stores slot d = inr (inr refl)
 
-answer_keeps : (before : List ℕ) (queue name : QueueName) (completed : Bool) (slot : ℕ) (d : Devices)
-    → KeepsQueueOrder before (slots_in queue d.waiting)
-    → KeepsQueueOrder before (slots_in queue (after_answer name completed slot d).waiting)
-answer_keeps before queue name completed slot d =
-    changed before queue name (λ slots. cond completed (queue_without slot slots) slots) d
-    (λ xs k. by_test completed xs k)
-  where
-    by_test : (b : Bool) (xs : List ℕ) → KeepsQueueOrder before xs
-        → KeepsQueueOrder before (cond b (queue_without slot xs) xs)
-    by_test true xs k = fewer before xs (λ s. not (s == slot)) k
-    by_test false xs k = k
+so : (acts others : List BoardRequest) → acts ≡ others → MovesOne others → MovesOne acts
+so acts others same moves = subst MovesOne (sym same) moves
 
-module _ (w : World) (queue : QueueName) where
+module _ (asked : AskTheirOwn) where
+  of_driver : (d : Driver) (around : CommandContext) (number x y : ℕ) (own : Own)
+      → MovesOne (handler_by d around number x y own).acts
+  of_driver Alarm around number x y own = so _ [] (asked.alarm around.now number x y own) asks_none
+  of_driver Buttons around number x y own =
+      so _ [] (asked.buttons around.buttons around.pressed number x own) asks_none
+  of_driver Console around number x y own = by_one _ (asked.console number x own)
+    where
+      by_one : (acts : List BoardRequest)
+          → OneOf acts ([] ∷ (Waits Writes ∷ []) ∷ (Waits Reads ∷ []) ∷ (Leaves Reads ∷ []) ∷ []) → MovesOne acts
+      by_one acts (inl e) = so acts _ e asks_none
+      by_one acts (inr (inl e)) = so acts _ e (asks_waits Writes)
+      by_one acts (inr (inr (inl e))) = so acts _ e (asks_waits Reads)
+      by_one acts (inr (inr (inr (inl e)))) = so acts _ e (asks_leaves Reads)
+      by_one acts (inr (inr (inr (inr e)))) = absurd e
+  of_driver Leds around number x y own = by_one _ (asked.leds around.leds number x own)
+    where
+      by_one : (acts : List BoardRequest)
+          → OneOf acts ([] ∷ (Lights x On ∷ []) ∷ (Lights x Off ∷ []) ∷ (Lights x Toggle ∷ []) ∷ []) → MovesOne acts
+      by_one acts (inl e) = so acts _ e asks_none
+      by_one acts (inr (inl e)) = so acts _ e (asks_lights x On)
+      by_one acts (inr (inr (inl e))) = so acts _ e (asks_lights x Off)
+      by_one acts (inr (inr (inr (inl e)))) = so acts _ e (asks_lights x Toggle)
+      by_one acts (inr (inr (inr (inr e)))) = absurd e
+  of_driver Random around number x y own = by_one _ (asked.random number x own)
+    where
+      by_one : (acts : List BoardRequest) → OneOf acts ([] ∷ (Waits Randoms ∷ []) ∷ []) → MovesOne acts
+      by_one acts (inl e) = so acts _ e asks_none
+      by_one acts (inr (inl e)) = so acts _ e (asks_waits Randoms)
+      by_one acts (inr (inr e)) = absurd e
+  of_driver Storage around number x y own = by_one _ (asked.storage around.storage number x y own)
+    where
+      by_one : (acts : List BoardRequest) → OneOf acts ([] ∷ (Waits Stores ∷ []) ∷ []) → MovesOne acts
+      by_one acts (inl e) = so acts _ e asks_none
+      by_one acts (inr (inl e)) = so acts _ e (asks_waits Stores)
+      by_one acts (inr (inr e)) = absurd e
+
+  of_yield : (r : Record) (number x y : ℕ) → MovesOne (yielding r number x y).acts
+  unfolding yielding
+  of_yield r number x y =
+      by_test (λ s. MovesOne s.acts) (number == 0) _ _ (by_now (slice_get r.own.inbox.pending 0))
+      (by_test (λ s. MovesOne s.acts) (number == 1) _ _ asks_none
+      (by_test (λ s. MovesOne s.acts) (number == 2) _ _ (by_for (slice_get r.own.inbox.pending (place_of x y
+      r.own.inbox.pending))) asks_none))
+    where
+      by_now : (first : Option Scheduled) → MovesOne (yield_now r x first).acts
+      by_now None = asks_none
+      by_now (Some upcall) = asks_none
+
+      by_for : (first : Option Scheduled) → MovesOne (yield_for r x y first).acts
+      by_for None = asks_none
+      by_for (Some upcall) = asks_none
+
+  of_turns : CallsAreOfEcall → (settings : Settings) (time : ℕ) (r : Record) → MovesOne (turned settings time r).acts
+  of_turns of_ecall settings time r =
+      of_turn of_ecall settings time r (λ t. MovesOne t.acts) (record {
+        nothing = asks_none;
+        went = λ s accesses kept inbox. asks_none;
+        faults = λ s denial kept. leaves_all;
+        makes = λ accesses form is runs.
+            of_served (λ s. MovesOne s.acts) (surroundings settings time (turn_counted r)) (turn_counted r)
+            settings.strict form (record {
+              refused = λ rule. asks_none;
+              same = λ reply. asks_none;
+              moved = λ new reply. asks_none;
+              swapped = λ swap reply. asks_none;
+              yields = λ number x y same. of_yield (turn_counted r) number x y;
+              commands = λ driver number x y taker same there.
+                  handled (λ (t : CommandHandler). MovesOne (t (surroundings settings time (turn_counted r)) number x y
+                  r.own).acts) driver taker there
+                  (λ d is. of_driver d (surroundings settings time (turn_counted r)) number x y r.own);
+              ends = λ kind code same. leaves_all;
+              again = λ kind code same. leaves_all;
+            });
+        delivers = λ next is yielded. asks_none;
+      })
+
+-- so of the one label of a step
+named : (slot : ℕ) (label : Label) (before later : List ℕ) → label.slot ≡ slot → Moves slot before later
+    → ChangesByOne (label ∷ []) before later
+named slot label before later same (inl e) = inl e
+named slot label before later same (inr moves) =
+    inr (0, label, omega arith, refl, subst (λ (n : ℕ). JoinsOrLeaves n before later) (sym same) moves)
+
+module _ (asked : AskTheirOwn) (of_ecall : CallsAreOfEcall) (w : World) (queue : QueueName) where
   abbrev Keeps : Stepped → Type 0
-  Keeps s = KeepsQueueOrder (slots_in queue w.devices.waiting) (slots_in queue s.after.devices.waiting)
+  Keeps s =
+      ChangesByOne s.labels (slots_in queue w.devices.waiting) (slots_in queue s.after.devices.waiting)
 
-  same : KeepsQueueOrder (slots_in queue w.devices.waiting) (slots_in queue w.devices.waiting)
-  same = same_order (slots_in queue w.devices.waiting)
-
-  answered : (name : QueueName) (completed : Bool) (slot : ℕ)
-      → KeepsQueueOrder (slots_in queue w.devices.waiting)
+  answered : (name : QueueName) (completed : Bool) (slot : ℕ) (label : Label) → label.slot ≡ slot
+      → ChangesByOne (label ∷ []) (slots_in queue w.devices.waiting)
       (slots_in queue (after_answer name completed slot w.devices).waiting)
-  answered name completed slot =
-      answer_keeps (slots_in queue w.devices.waiting) queue name completed slot w.devices same
+  answered name completed slot label same =
+      named slot label _ _ same (changed queue name (λ slots. cond completed (queue_without slot slots) slots) slot
+      w.devices (by_test completed))
+    where
+      by_test : (b : Bool) → Moves slot (slots_in name w.devices.waiting)
+          (cond b (queue_without slot (slots_in name w.devices.waiting)) (slots_in name w.devices.waiting))
+      by_test true = inr (inr refl)
+      by_test false = inl refl
+
+  acting : (verb : Verb) (slot : ℕ) (r : Record) → MovesOne (acts_of verb r)
+  acting verb slot r = by_test_of (ends_by verb r.process)
+    where
+      by_test_of : (b : Bool) → MovesOne (cond b leaving_all [])
+      by_test_of true = leaves_all
+      by_test_of false = asks_none
 
   of_devices : (device : Dev) → Keeps (done w (device_step_of w device))
   of_devices device = of_device w Keeps (record {
-    none = same;
-    arrives = λ bytes rest. same;
-    edges = λ button pressed rest. same;
-    nobody = λ rest. same;
+    none = inl refl;
+    arrives = λ bytes rest. inl refl;
+    edges = λ button pressed rest. inl refl;
+    nobody = λ rest. inl refl;
     acts = λ verb rest slot r is.
-        acts_keep (slots_in queue w.devices.waiting) queue slot (acts_of verb r) (with_rest w.devices rest) same;
-    alarms = λ slot r first is. same;
-    sends = λ slot r first is. answered Writes (console.sent (flash_of r) r.own).completed slot;
-    receives = λ slot r first is. answered Reads _ slot;
-    draws = λ slot r first is. answered Randoms _ slot;
-    stores = λ slot r first is. answered Stores _ slot;
+        named slot _ _ _ refl (acting verb slot r queue slot (with_rest w.devices rest));
+    alarms = λ slot r first is. inl refl;
+    sends = λ slot r first is. answered Writes (console.sent (flash_of r) r.own).completed slot _ refl;
+    receives = λ slot r first is. answered Reads _ slot _ refl;
+    draws = λ slot r first is. answered Randoms _ slot _ refl;
+    stores = λ slot r first is. answered Stores _ slot _ refl;
   }) device
 
   of_ran : (slot : ℕ) (o : Option Record) → Keeps (ran w slot o)
-  of_ran slot None = same
+  of_ran slot None = inl refl
   of_ran slot (Some r) =
-      acts_keep (slots_in queue w.devices.waiting) queue slot (turned w.settings w.clock.time r).acts w.devices same
+      named slot _ _ _ refl (of_turns asked of_ecall w.settings w.clock.time r queue slot w.devices)
 
   of_choice : (choice : Choice) → Keeps (carried_out w choice)
   unfolding carried_out
   of_choice (Run slot) = of_ran slot (slice_get w.records slot)
   of_choice (Device device) = of_devices device
-  of_choice (Pass ticks) = same
+  of_choice (Pass ticks) = inl refl
 
-pub queues_keep_order : QueuesKeepOrder
-queues_keep_order w choice queue =
-    of_stepped (Keeps w queue) w choice (same w queue) (λ ready. of_choice w queue choice)
+pub queues_keep_order : AskTheirOwn → CallsAreOfEcall → QueuesKeepOrder
+queues_keep_order asked of_ecall w choice queue =
+    of_stepped (Keeps asked of_ecall w queue) w choice (inl refl) (λ ready. of_choice asked of_ecall w queue choice)
 
 -- who is served: a device tells one process something, and that is the first of its queue
 module _ (w : World) where

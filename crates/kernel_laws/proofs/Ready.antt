@@ -1,23 +1,27 @@
 -- That only such processes have turns as may have one, and that a turn of any other would do nothing.
-use Rattle.std.proofs.Common.{◌≡◌, ℕ, ◌&&◌, Bool, true, false, cond, not, [], Option, None, Some, is_some}
-use Rattle.std.proofs.Common.{slice_get, refl, sym, subst, ◌∙◌}
+use Rattle.std.proofs.Common.{◌≡◌, ◌⊎◌, inl, inr, ◌<◌, ℕ, ◌&&◌, Bool, true, false, cond, not, List, [], ◌∷◌, length}
+use Rattle.std.proofs.Common.{Option, None, Some, is_some, slice_get, refl, sym, subst, ◌∙◌, arith}
 use Rattle.std.specs.Prelude.{All, IsSomeAnd}
 use Rattle.std.proofs.lemmas.Bool.{false≢true}
-use Rattle.std.proofs.lemmas.List.Elements.{All-nil, All-cons}
+use Rattle.std.proofs.lemmas.List.Elements.{All-nil, All-cons, All-head, All-tail}
 use Rattle.tk_base.specs.declared.process.Choice.{Choice}
 use Rattle.tk_base.specs.declared.process.Choice.TheVariants.{Run, Device, Pass}
 use Rattle.upcall_queue.specs.declared.inbox.Delivery.{Delivery}
-use Rattle.upcall_queue.specs.Pending.{due}
+use Rattle.tk_base.specs.declared.upcall.Upcall.{Upcall as Scheduled}
+use Rattle.tk_base.specs.declared.upcall.Wait.{Wait}
+use Rattle.tk_base.specs.declared.upcall.Wait.TheVariants.{No, For, Given}
+use Rattle.upcall_queue.specs.Pending.{due, due_by}
 use Rattle.process_record.specs.declared.process.State.{State}
 use Rattle.process_record.specs.declared.process.State.TheVariants.{Running, Yielded, Faulted, Terminated}
 use Rattle.kernel_model.specs.Record.{Record}
 use Rattle.kernel_model.specs.Parts.{delivery}
-use Rattle.kernel_model.specs.Turn.{has_turn, idle, may_turn, turn_in, turned}
-use Rattle.kernel_model.specs.World.{Stepped, World, carried_out, is_ready, ran, turn_label}
+use Rattle.kernel_model.specs.Turn.{has_turn, idle, is_turn, may_turn, turn_in, turned}
+use Rattle.kernel_model.specs.World.{Label, Stepped, World, labels, carried_out, is_ready, ran, turn_label}
 use Rattle.kernel_model.proofs.Labels.{device_labels}
 use Rattle.kernel_model.specs.Named.{can_run}
-use Rattle.kernel_model.proofs.Places.{may_where_ready, of_stepped}
-use Rattle.kernel_laws.specs.Ready.{IsOfReady, TurnsAreOfReadyProcesses, UnreadyTurnsDoNothing}
+use Rattle.kernel_model.proofs.Places.{free_where_may, may_where_ready, of_stepped}
+use Rattle.kernel_laws.specs.Ready.{HasDue, IsOfReady, MayHaveTurn, TurnsAreOfReadyProcesses, TurnsAreOfThose}
+use Rattle.kernel_laws.specs.Ready.{UnreadyTurnsDoNothing}
 
 module _ (w : World) where
   of_ran : (slot : ℕ) (o : Option Record) → slice_get w.records slot ≡ o → can_run o ≡ true
@@ -57,3 +61,47 @@ unready_turns_do_nothing settings time r = by_held r.process.held
         → cond held (idle r) (turn_in settings time r.process.state r) ≡ idle r
     by_held true e = refl
     by_held false e = by_state r.process.state e
+
+-- one that may have a turn, written out
+may_have : (r : Record) → may_turn r ≡ true → MayHaveTurn r
+may_have r may = record { free = free_where_may r may; state = by_held r.process.held may }
+  where
+    by_pending : (pending : List Scheduled) → is_some (due_by No pending) ≡ true → 0 < length pending
+    by_pending [] e = absurd (false≢true e)
+    by_pending (upcall ∷ rest) e = omega arith
+
+    by_wait : (wait : Wait) → r.own.inbox.wait ≡ wait → is_some (due_by wait r.own.inbox.pending) ≡ true
+        → HasDue r.own.inbox
+    by_wait No is e = inl (is, by_pending r.own.inbox.pending e)
+    by_wait (For driver number) is e = absurd (false≢true e)
+    by_wait (Given args) is e = inr (args, is)
+
+    by_state : (state : State) → r.process.state ≡ state → has_turn state (due r.own.inbox) ≡ true
+        → (r.process.state ≡ Running) ⊎ ((r.process.state ≡ Yielded) × HasDue r.own.inbox)
+    by_state Running is e = inl is
+    by_state Yielded is e = inr (is, by_wait r.own.inbox.wait refl e)
+    by_state Faulted is e = absurd (false≢true e)
+    by_state (Terminated code) is e = absurd (false≢true e)
+
+    by_held : (held : Bool) → (not held && has_turn r.process.state (due r.own.inbox)) ≡ true
+        → (r.process.state ≡ Running) ⊎ ((r.process.state ≡ Yielded) × HasDue r.own.inbox)
+    by_held true e = absurd (false≢true e)
+    by_held false e = by_state r.process.state refl e
+
+module _ (w : World) where
+  abbrev IsOfThose : Label → Type 0
+  IsOfThose label = is_turn label.event ≡ true → IsSomeAnd (slice_get w.records label.slot) MayHaveTurn
+
+  by_there : (o : Option Record) → IsSomeAnd o (λ r. may_turn r ≡ true) → IsSomeAnd o MayHaveTurn
+  by_there None may = absurd may
+  by_there (Some r) may = may_have r may
+
+  each_of_those : (ls : List Label) → All (IsOfReady w) ls → All IsOfThose ls
+  each_of_those [] each = All-nil IsOfThose
+  each_of_those (label ∷ ls) each =
+      All-cons IsOfThose label ls
+      (λ turn. by_there (slice_get w.records label.slot) (All-head (IsOfReady w) label ls each turn))
+      (each_of_those ls (All-tail (IsOfReady w) label ls each))
+
+pub turns_are_of_those : TurnsAreOfThose
+turns_are_of_those w choice = each_of_those w (labels w choice) (turns_are_of_ready_processes w choice)

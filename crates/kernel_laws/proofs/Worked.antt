@@ -1,8 +1,7 @@
 -- Worked cases, computed from the definitions alone: for each cause for which a byte of a process may change a step in
--- which one does, so that no law of causes holds for want of a change. Words were put together by hand from the
+-- which one does, so that no law of causes holds for want of a change; and for the laws what they have and what they
+-- refuse. Words were put together by hand from the
 -- unprivileged RISC-V manual, TRD 104 and the Tock Binary Format.
-use Rattle.std.proofs.Common.{◌≡◌, inl, inr, ℕ, ◌+◌, List, [], ◌∷◌, Some, option_map, replicate, slice_get}
-use Rattle.std.proofs.Common.{unwrap_or, refl, arith}
 use Rattle.std.specs.Prelude.{IsSomeAnd}
 use Rattle.tk_base.specs.Regs.{with_register}
 use Rattle.tk_base.specs.declared.access.TheConstants.{FLASH_START, RAM_START}
@@ -43,6 +42,59 @@ use Rattle.kernel_model.specs.Record.{Record}
 use Rattle.kernel_model.specs.Turn.{apply, turned}
 use Rattle.kernel_model.specs.Worked.{board, standing}
 use Rattle.kernel_model.specs.World.{World, after, carried_out, labels, may_be_made, stepped, with_queue}
+use Rattle.std.proofs.Common.{◌≡◌, ◌⊎◌, inl, inr, ◌<◌, ◌≤◌, ℕ, zero, suc, ◌+◌, ◌-◌, ◌%◌, ◌^◌, List, [], ◌∷◌, None, Option, Some}
+use Rattle.std.proofs.Common.{option_map, replicate, slice_get, slice_index_or, unwrap_or, true, false, sym, ap, subst, refl, arith}
+use Rattle.std.specs.List.{Any}
+use Rattle.std.proofs.lemmas.Bool.{true≢false}
+use Rattle.tk_base.specs.Regs.{Registers, register}
+use Rattle.tk_base.specs.declared.call.CallRule.{CallRule}
+use Rattle.tk_base.specs.declared.upcall.Upcall.{Upcall as Scheduled}
+use Rattle.tk_base.specs.declared.upcall.Wait.TheVariants.{For, Given}
+use Rattle.upcall_queue.specs.declared.inbox.Inbox.{Inbox}
+use Rattle.syscall_abi.specs.Reply.{with_words}
+use Rattle.grant_values.specs.declared.alarm.Armed.{Armed}
+use Rattle.grant_values.specs.declared.console.WaitingWrite.{WaitingWrite}
+use Rattle.grant_values.specs.declared.storage.StorageRequest.{StorageRequest}
+use Rattle.process_model.specs.Handed.{own_entering}
+use Rattle.process_record.specs.declared.emit.CallMade.{CallMade}
+use Rattle.process_record.specs.declared.process.State.TheVariants.{Running, Yielded}
+use Rattle.kernel_model.specs.Calls.{memop, memops}
+use Rattle.kernel_model.specs.Causes.{IsFlagOfYield}
+use Rattle.kernel_model.specs.Edges.{IsScheduledOnce}
+use Rattle.kernel_model.specs.Named.{slots_in}
+use Rattle.kernel_model.specs.Turn.{Stored, Turn, TurnTrace, untraced}
+use Rattle.kernel_model.specs.World.{Label}
+use Rattle.kernel_model.specs.Worked.{asks, turn_of}
+use Rattle.driver_model.specs.Commands.{Writes}
+use Rattle.kernel_laws.specs.Alarms.{IsDue}
+use Rattle.kernel_laws.specs.Arming.{SetsAlarm, SetsBy, SetsButtons}
+use Rattle.kernel_laws.specs.OneRun.{NothingIsLeft}
+use Rattle.kernel_laws.specs.Passes.{NoneIsReadyBefore}
+use Rattle.tk_base.specs.Bits.{with_bit}
+use Rattle.kernel_laws.specs.Asking.{GoesOnAs, IsAskedBy, IsOfCommand}
+use Rattle.kernel_laws.specs.Delivered.{RunsFunction}
+use Rattle.kernel_laws.specs.Queues.{ChangesByOne, JoinsOrLeaves}
+use Rattle.kernel_laws.specs.Ready.{HasDue, MayHaveTurn}
+use Rattle.kernel_laws.specs.Replies.{CallIsSeen, ChangesByRefusal, ReplyStands}
+use Rattle.tk_base.specs.declared.call.CallRule.TheVariants.{Break}
+use Rattle.upcall_queue.specs.declared.inbox.Delivery.TheVariants.{Function}
+use Rattle.process_record.specs.Process.{delivery_regs}
+use Rattle.kernel_model.specs.Calls.{failure_of, refused_with}
+use Rattle.kernel_model.specs.Turn.{turn_counted}
+use Rattle.kernel_model.proofs.Classes.{memop_in}
+use Rattle.kernel_laws.specs.Restarting.{HasStartedAgain}
+use Rattle.kernel_laws.proofs.Delivered.{runs_function}
+use Rattle.kernel_laws.proofs.Registers.{words_beside}
+use Rattle.kernel_laws.proofs.Replies.{changes}
+use Rattle.std.proofs.lemmas.Bool.Decides.{nat_tests}
+use Rattle.tk_base.specs.declared.process.Dev.{Dev}
+use Rattle.upcall_queue.specs.declared.inbox.Delivery.TheVariants.{Arguments}
+use Rattle.driver_model.specs.Alarm.{due_slot}
+use Rattle.kernel_laws.specs.OneRun.{work_with}
+use Rattle.kernel_laws.specs.Delivered.{HasArguments}
+use Rattle.kernel_laws.proofs.Delivered.{has_arguments}
+use Rattle.kernel_laws.specs.Arming.{Becomes}
+use Rattle.kernel_laws.specs.Withdrawing.{SetsRequest}
 
 -- a process whose block has the byte 9 throughout, and whose object is an `ecall` after the header of an application;
 -- with registers that make a call of a class, or none
@@ -88,7 +140,19 @@ by_flag : Changes (board 1 (calls 0 0 RAM_START ∷ [])) (Run 0) RAM_START 9 0
 unfolding user_turn on_word executed fetched instr_of decoding instruction_table denied ram_after
     call_of class_table served by_form yielding turned stepped carried_out may_be_made header_reading meaning_of
     tlv_places_from
-by_flag = record { was = refl; is = refl; cause = (refl, inl (inr (inl refl))) }
+by_flag = record {
+  was = refl;
+  is = refl;
+  cause = (
+    refl,
+    inl (inr (inl (record {
+      flag = refl;
+      made = (refl, refl, refl, refl);
+      from = omega arith;
+      below = omega arith;
+    }))),
+  );
+}
 
 -- An exit with 1: the process starts again, its block zeroed.
 by_restart : Changes (board 1 (calls 6 1 0 ∷ [])) (Run 0) RAM_START 9 0
@@ -177,3 +241,296 @@ by_write : (stored_bytes (after (stores_bytes Write) (Device dev.Store)) ≡ 9 �
     IsSomeAnd (slice_get (labels (stores_bytes Write) (Device dev.Store)) 0) (λ label. Overwrites label.event r 1))
 unfolding stored_bytes apply stepped carried_out may_be_made counts_of drivers shape_of storage.answered
 by_write = (refl, (refl, omega arith, omega arith))
+
+-- What the laws refuse: a step of a wrong kernel for each, by computation, and beside it one that they have.
+
+-- A queue: who begins to wait comes last; a kernel that puts last comers first.
+abbrev named : ℕ → Label
+named slot = record { slot = slot; event = Turn 0; trace = untraced; printed = [] }
+
+only_one : {X : Type 0} (P : X → Type 0) (x : X) → Any P (x ∷ []) → P x
+only_one {X = X} P x one = by_place one.0 one.1 one.2 one.3 one.4
+  where
+    by_place : (k : ℕ) (y : X) → k < 1 → slice_index_or (x ∷ []) k y ≡ y → P y → P x
+    by_place zero y below is holds = subst P (sym is) holds
+    by_place (suc k) y below is holds = absurd (omega (arith, below))
+
+comes_last : ChangesByOne (named 0 ∷ []) (1 ∷ []) (1 ∷ 0 ∷ [])
+comes_last = inr (0, named 0, omega arith, refl, inl refl)
+
+one_leaves : ChangesByOne (labels reads (Device dev.Receive)) (slots_in Reads reads.devices.waiting)
+    (slots_in Reads (after reads (Device dev.Receive)).devices.waiting)
+unfolding reads apply stepped carried_out may_be_made counts_of drivers shape_of console.received
+one_leaves = inr (0, _, omega arith, refl, inr refl)
+
+none_comes_first : ChangesByOne (named 0 ∷ []) (1 ∷ []) (0 ∷ 1 ∷ []) → ⊥
+none_comes_first (inl same) = cc
+none_comes_first (inr one) = by_move (only_one _ (named 0) one)
+  where
+    by_move : JoinsOrLeaves 0 (1 ∷ []) (0 ∷ 1 ∷ []) → ⊥
+    by_move (inl last) = cc
+    by_move (inr gone) = cc
+
+-- A turn: of a process that runs; a kernel that gives one to a process which is held, or to one that has yielded and to
+-- which nothing is due.
+may_run : MayHaveTurn (calls 0 0 0)
+may_run = record { free = refl; state = inl refl }
+
+none_held : MayHaveTurn (record (calls 0 0 0) { process = record (calls 0 0 0).process { held = true } }) → ⊥
+none_held may = true≢false may.free
+
+none_undue : MayHaveTurn (record (calls 0 0 0) { process = record (calls 0 0 0).process { state = Yielded } }) → ⊥
+none_undue may = by_state may.state
+  where
+    by_state : (Yielded ≡ Running) ⊎ ((Yielded ≡ Yielded) × HasDue (calls 0 0 0).own.inbox) → ⊥
+    by_state (inl same) = cc
+    by_state (inr (e, inl due)) = omega (arith, due.1)
+    by_state (inr (e, inr given)) = let is = given.1 in cc
+
+-- An alarm that was armed at 0 for 5 ticks: it is due at 5; a kernel that fires it at 4.
+abbrev armed : Record
+armed = allows (calls 0 0 0) (λ at own.
+    alarm.with_alarm (Some (record { reference = 0; delta = 5 })) (own_entering alarm.alarm_driver own))
+
+due_at_five : IsDue 5 armed
+unfolding counts_of drivers shape_of
+due_at_five =
+    record { lives = refl; alarm = record { reference = 0; delta = 5 }; armed = refl; passed = omega arith }
+
+none_early : IsDue 4 armed → ⊥
+unfolding counts_of drivers shape_of
+none_early due = by_alarm due.alarm due.armed due.passed
+  where
+    by_alarm : (a : Armed) → ◌≡◌ {A = Option Armed} (Some (record { reference = 0; delta = 5 })) (Some a)
+        → a.delta ≤ (4 + (2 ^ 32 - a.reference)) % 2 ^ 32 → ⊥
+    by_alarm a is passed =
+        let same : record { reference = 0; delta = 5 } ≡ a = cc in
+        let five : 5 ≡ a.delta = ap (λ (x : Armed). x.delta) same in
+        let zero_is : 0 ≡ a.reference = ap (λ (x : Armed). x.reference) same in
+        omega (arith, passed, five, zero_is)
+
+-- A reply: memop 2 is answered by where the block starts; a kernel that tells that, and leaves the registers.
+abbrev told_start : CallMade
+told_start =
+    record { class = 5; args = 2 ∷ 0 ∷ 0 ∷ 0 ∷ []; reply = Some (129 ∷ RAM_START ∷ 0 ∷ 0 ∷ []); rule = None }
+
+start_stands : ReplyStands (asks 2 0) (turn_of (asks 2 0)).after 129 RAM_START 0 0
+unfolding user_turn on_word executed fetched instr_of decoding instruction_table denied ram_after
+    call_of class_table header_reading served by_form memop memops turned
+start_stands = record {
+  first = refl;
+  second = refl;
+  third = refl;
+  fourth = refl;
+  pc = refl;
+  others = beside;
+}
+  where
+    beside : (n : ℕ) → (n < 10) ⊎ (13 < n)
+        → register (with_words 10 (129 ∷ RAM_START ∷ []) (asks 2 0).process.regs) n
+        ≡ register (asks 2 0).process.regs n
+    beside n (inl below) = words_beside 10 (129 ∷ RAM_START ∷ []) (asks 2 0).process.regs n (inl below)
+    beside n (inr past) =
+        words_beside 10 (129 ∷ RAM_START ∷ []) (asks 2 0).process.regs n (inr (omega (arith, past)))
+
+none_only_told : CallIsSeen (asks 2 0) (asks 2 0) told_start → ⊥
+none_only_told seen = let first = (seen.reply 129 RAM_START 0 0 refl).first in omega (arith, first)
+
+-- nor may it be that of other arguments than its process's
+none_of_others : CallIsSeen (asks 3 0) (turn_of (asks 3 0)).after told_start → ⊥
+none_of_others seen = let args = seen.args in by_first args
+  where
+    by_first : ◌≡◌ {A = List ℕ} (2 ∷ 0 ∷ 0 ∷ 0 ∷ []) (3 ∷ 0 ∷ 0 ∷ 0 ∷ []) → ⊥
+    by_first e = cc
+
+-- A refusal, of a break 4 bytes below the block; a kernel that drops an upcall beside it.
+refused_so : let r = asks 1 (2 ^ 32 - 12) in
+    ChangesByRefusal r (refused_with (turn_counted r) Break (failure_of (memop_in r.process.regs) Break)).after Break
+unfolding call_of class_table
+refused_so = let r = asks 1 (2 ^ 32 - 12) in changes r (memop_in r.process.regs) Break refl refl
+
+none_drops : (s : Record) (rule : CallRule) → s.own.inbox.dropped ≡ 1 → ChangesByRefusal (asks 1 0) s rule → ⊥
+none_drops s rule dropped changes =
+    let none : s.own.inbox.dropped ≡ 0 = ap (λ (o : Own). o.inbox.dropped) changes.own in
+    omega (arith, dropped, none)
+
+-- A delivery: a kernel that leaves bit 0 of the function in pc, or forgets to say where to go back to.
+abbrev upcall : Scheduled
+upcall = record { driver = 0; number = 0; function = 0x20001; app = 9; args = 1 ∷ 2 ∷ 3 ∷ [] }
+
+runs_it : let regs = (asks 2 0).process.regs in RunsFunction upcall FLASH_START regs (delivery_regs (Function upcall) regs)
+runs_it = runs_function upcall (asks 2 0).process.regs refl refl
+
+none_odd : (before later : Registers) → later.pc ≡ 0x20001 → RunsFunction upcall 4 before later → ⊥
+none_odd before later is runs = let pc = runs.pc in omega (arith, is, pc)
+
+none_without_ra : (before later : Registers) → register later 1 ≡ 0 → RunsFunction upcall 4 before later → ⊥
+none_without_ra before later is runs = let ra = runs.ra in omega (arith, is, ra)
+
+-- A request: command 1 of the console for 7 bytes; a kernel that asks for one byte more, and one that keeps a read of
+-- the storage as a write.
+abbrev commands : List ℕ → CallMade
+commands args = record { class = 2; args = args; reply = None; rule = None }
+
+asks_for_seven : IsOfCommand Writes None (Some (commands (1 ∷ 1 ∷ 7 ∷ 0 ∷ []))) (record { length = 7; taken = 0 })
+asks_for_seven = inr (refl, record { class = refl; accepted = refl; asks = ((refl, refl), refl) })
+
+none_for_more : IsOfCommand Writes None (Some (commands (1 ∷ 1 ∷ 7 ∷ 0 ∷ []))) (record { length = 8; taken = 0 }) → ⊥
+none_for_more (inl waits) = cc
+none_for_more (inr (none, asked)) = let length = ap (λ (q : WaitingWrite). q.length) asked.asks.1 in omega (arith, length)
+
+none_writes : IsOfCommand Stores None (Some (commands (0x50001 ∷ 2 ∷ 0 ∷ 4 ∷ [])))
+    (record { kind = Write; offset = 0; length = 4 }) → ⊥
+none_writes (inl waits) = cc
+none_writes (inr (none, asked)) = by_kind asked.asks
+  where
+    by_kind : IsAskedBy Stores (record { kind = Write; offset = 0; length = 4 }) (0x50001 ∷ 2 ∷ 0 ∷ 4 ∷ []) → ⊥
+    by_kind (inl reading) = let kind = ap (λ (q : StorageRequest). q.kind) reading.1 in cc
+    by_kind (inr writing) = let number = writing.0.1 in omega (arith, number)
+
+-- while it waits more is taken of it; a kernel whose device shortens it
+more_taken : GoesOnAs Writes (record { length = 7; taken = 0 }) (record { length = 7; taken = 2 })
+more_taken = refl
+
+none_shorter : GoesOnAs Writes (record { length = 7; taken = 0 }) (record { length = 6; taken = 2 }) → ⊥
+none_shorter goes = let length = ap (λ (q : WaitingWrite). q.length) goes in omega (arith, length)
+
+-- A byte of the storage, past what the buffer reaches that is held: the request is for two bytes, the buffer has one.
+abbrev holds_one : Record
+holds_one = allows (calls 0 0 0) (λ at own.
+    with_request storages (Some (record { kind = Write; offset = 0; length = 2 }))
+    (handing ReadOnly storage.storage 0 (at, 1) own))
+
+covers_first : Overwrites (Stored true) holds_one 0
+unfolding counts_of drivers shape_of
+covers_first = (refl, omega arith, omega arith)
+
+none_past_buffer : Overwrites (Stored true) holds_one 1 → ⊥
+unfolding counts_of drivers shape_of
+none_past_buffer covers = let below = covers.2 in omega (arith, below)
+
+-- A flag: told by a command, or above the break.
+abbrev tells : CallMade → ℕ → TurnTrace
+tells call at = record { accesses = []; call = Some call; flag = Some at; denial = None }
+
+none_by_command : IsFlagOfYield (calls 2 0 RAM_START) (tells (commands (0 ∷ RAM_START ∷ 0 ∷ 0 ∷ [])) RAM_START)
+    RAM_START → ⊥
+none_by_command flag = let class = flag.made.0 in omega (arith, class)
+
+none_above_break : (told : TurnTrace) → IsFlagOfYield (calls 0 0 (RAM_START + 8)) told (RAM_START + 8) → ⊥
+none_above_break told flag = let below = flag.below in omega (arith, below)
+
+-- An upcall that its process waits for alone: a kernel that puts it last.
+abbrev awaiting : Inbox
+awaiting = record { pending = []; dropped = 0; wait = For 0 0 }
+
+is_given : IsScheduledOnce upcall awaiting (record awaiting { wait = Given (1 ∷ 2 ∷ 3 ∷ []) })
+is_given = inl (refl, refl)
+
+none_awaited_last : IsScheduledOnce upcall awaiting (record awaiting { pending = upcall ∷ [] }) → ⊥
+none_awaited_last (inl given) = let wait = ap (λ (x : Inbox). x.wait) given.1 in cc
+none_awaited_last (inr (inl last)) = true≢false last.0.0
+none_awaited_last (inr (inr dropped)) = true≢false dropped.0.0
+
+-- A pass, where something comes in at 3: 3 ticks; a kernel that passes over that.
+abbrev arrives_at_three : World
+arrives_at_three =
+    let w = board 1 [] in
+    record w { devices = record w.devices { arrivals = record { time = 3; kind = script.Press 0 } ∷ [] } }
+
+none_passed_over : NoneIsReadyBefore arrives_at_three 5 → ⊥
+none_passed_over none = true≢false (none 3 dev.Event (omega arith))
+
+-- Nothing left to do; a kernel that is done though a request for random bytes waits.
+none_left_over : NothingIsLeft (waits Randoms (calls 0 0 0)) → ⊥
+none_left_over nothing = let none = nothing.randoms 0 (omega arith) in cc
+
+-- An alarm that command 5 arms for 9 ticks at 4; a kernel that arms it for none.
+arms_so : SetsBy SetsAlarm 4 None (Some (record { reference = 4; delta = 9 })) (commands (0 ∷ 5 ∷ 9 ∷ 0 ∷ []))
+arms_so = record { class = refl; accepted = refl; sets = (refl, inr (inl (refl, refl))) }
+
+none_arms_at_once : SetsBy SetsAlarm 4 None (Some (record { reference = 4; delta = 0 }))
+    (commands (0 ∷ 5 ∷ 9 ∷ 0 ∷ [])) → ⊥
+none_arms_at_once set = by_number set.sets.1
+  where
+    by_number : ((◌≡◌ {A = ℕ} 5 3) × (◌≡◌ {A = Option Armed} (Some (record { reference = 4; delta = 0 })) None))
+        ⊎ (((◌≡◌ {A = ℕ} 5 5) × (◌≡◌ {A = Option Armed} (Some (record { reference = 4; delta = 0 }))
+        (Some (record { reference = 4; delta = 9 }))))
+        ⊎ ((◌≡◌ {A = ℕ} 5 6) × (◌≡◌ {A = Option Armed} (Some (record { reference = 4; delta = 0 }))
+        (Some (record { reference = 9; delta = 0 }))))) → ⊥
+    by_number (inl three) = let n = three.0 in omega (arith, n)
+    by_number (inr (inl five)) =
+        some_delta (record { reference = 4; delta = 0 }) (record { reference = 4; delta = 9 }) five.1 refl refl
+      where
+        some_delta : (a b : Armed) → Some a ≡ Some b → a.delta ≡ 0 → b.delta ≡ 9 → ⊥
+        some_delta a b e zero_is nine = let same : a ≡ b = cc in
+            let delta : a.delta ≡ b.delta = ap (λ (x : Armed). x.delta) same in omega (arith, delta, zero_is, nine)
+    by_number (inr (inr six)) = let n = six.0 in omega (arith, n)
+
+-- Command 2 of the buttons; a kernel that leaves the process told of the button.
+none_disables_nothing : SetsBy SetsButtons 0 1 1 (commands (3 ∷ 2 ∷ 0 ∷ 0 ∷ [])) → ⊥
+none_disables_nothing set = by_number set.sets.1
+  where
+    by_number : ((◌≡◌ {A = ℕ} 2 1) × (1 ≡ with_bit 1 0 true)) ⊎ ((◌≡◌ {A = ℕ} 2 2) × (1 ≡ with_bit 1 0 false)) → ⊥
+    by_number (inl one) = let n = one.0 in omega (arith, n)
+    by_number (inr two) = let mask = two.1 in omega (arith, mask)
+
+-- An exit with 1; a kernel that ends the process instead, whose restarts stay.
+none_ends : (r s : Record) → s.process.restarts ≡ r.process.restarts → HasStartedAgain r s → ⊥
+none_ends r s same started = let more = started.restarts in omega (arith, same, more)
+
+starts_again : HasStartedAgain (calls 6 1 0) (restart (calls 6 1 0))
+unfolding restart header_reading meaning_of tlv_places_from
+starts_again = record { restarts = refl; life = refl; state = refl }
+
+-- And the instances that hold of those of which only a refused one stands above.
+passes_three : NoneIsReadyBefore arrives_at_three 3
+unfolding due_slot
+passes_three later dev.Event below = grind (arith, nat_tests)
+passes_three later dev.Alarm below = refl
+passes_three later dev.Uart below = refl
+passes_three later dev.Receive below = refl
+passes_three later dev.Random below = refl
+passes_three later dev.Store below = refl
+
+nothing_left : NothingIsLeft (board 1 [])
+unfolding due_slot
+nothing_left = record {
+  slots = λ slot. refl;
+  devices = λ slot below. none_ready;
+  arrivals = refl;
+  alarms = λ slot. tt;
+  writes = λ slot below. refl;
+  reads = λ slot below. inl refl;
+  randoms = λ slot below. refl;
+  stores = λ slot below. refl;
+}
+  where
+    none_ready : (device : Dev) → (work_with (board 1 []) 0).ready device ≡ false
+    none_ready dev.Event = refl
+    none_ready dev.Alarm = refl
+    none_ready dev.Uart = refl
+    none_ready dev.Receive = refl
+    none_ready dev.Random = refl
+    none_ready dev.Store = refl
+
+disables : SetsBy SetsButtons 0 1 0 (commands (3 ∷ 2 ∷ 0 ∷ 0 ∷ []))
+disables = record { class = refl; accepted = refl; sets = (refl, inr (refl, refl)) }
+
+-- A delivery of arguments alone; a kernel that runs something else.
+goes_on : let regs = (asks 2 0).process.regs in
+    HasArguments (1 ∷ 2 ∷ 3 ∷ []) FLASH_START regs (delivery_regs (Arguments (1 ∷ 2 ∷ 3 ∷ [])) regs)
+goes_on = has_arguments (1 ∷ 2 ∷ 3 ∷ []) (asks 2 0).process.regs refl refl
+
+none_elsewhere : (before later : Registers) → later.pc ≡ 0 → HasArguments (1 ∷ 2 ∷ 3 ∷ []) 4 before later → ⊥
+none_elsewhere before later is args = let pc = args.pc in omega (arith, is, pc)
+
+-- A read that command 3 of the console takes away; a kernel that loses a write in a turn without a call.
+takes_read : SetsBy (SetsRequest Reads) 0 (Some (record { length = 2 })) None (commands (1 ∷ 3 ∷ 0 ∷ 0 ∷ []))
+takes_read = record { class = refl; accepted = refl; sets = inr (refl, ((refl, refl), refl)) }
+
+none_lost : (r : Record)
+    → Becomes (SetsRequest Writes) None 0 untraced r r (Some (record { length = 7; taken = 0 })) None → ⊥
+none_lost r (inl same) = cc
+none_lost r (inr (inl set)) = set
+none_lost r (inr (inr again)) = let life = again.0 in omega (arith, life)

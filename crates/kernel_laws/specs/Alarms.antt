@@ -1,13 +1,15 @@
 -- That an alarm fires when it is due. The alarm is Tock's driver 0x0; that devices come before turns and passes is this
 -- board's own rule.
-use Rattle.std.specs.Prelude.{◌≡◌, ◌≤◌, ◌<◌, ℕ, Bool, true, false, length, List, Option, slice_get, Some, None, is_some}
+use Rattle.std.specs.Prelude.{◌≡◌, ◌≤◌, ◌<◌, ◌+◌, ◌-◌, ◌%◌, ◌^◌, ℕ, Bool, true, false, length, List}
+use Rattle.std.specs.Prelude.{Option, slice_get, Some, None}
 use Rattle.std.specs.Prelude.{All, IfSome}
 use Rattle.std.specs.Prelude.{IsSomeAnd}
 use Rattle.tk_base.specs.declared.limits.TheConstants.{SLOT_COUNT}
 use Rattle.tk_base.specs.declared.process.Choice.{Choice}
 use Rattle.tk_base.specs.declared.process.Choice.TheVariants.{Device, Pass}
+use Rattle.grant_values.specs.declared.alarm.Armed.{Armed}
 use Rattle.process_model.specs.Own.{Own}
-use Rattle.driver_model.specs.Alarm.{due_alarm, next_left, ticks_left_in, ticks_left_of}
+use Rattle.driver_model.specs.Alarm.{alarm_in, due_alarm, next_left, ticks_left_in, ticks_left_of}
 use Rattle.kernel_model.specs.Record.{Record}
 use Rattle.kernel_model.specs.Turn.{Alarmed}
 use Rattle.kernel_model.specs.World.{Label, World, is_let, labels, now_in, only_in}
@@ -33,12 +35,19 @@ PassesStopAtAlarms =
     slice_get w.records slot ≡ Some r → is_let (only_in w) slot ≡ true →
     IfSome (ticks_left_of (now_in w) r.own) (λ left. ticks ≤ left)
 
--- an alarm that fires is due: of a process that lives and has one armed, whose delta has passed since its reference, by
--- the clock as it shows then, and as the process is told it
+-- An alarm that is due, when the clock shows a tick: its process lives and has armed it, and since its reference its
+-- delta has passed, by a clock of 32 bits.
+pub record IsDue (now : ℕ) (r : Record) : Type 0 where
+  pub lives : r.own.lives ≡ true
+  pub alarm : Armed
+  pub armed : alarm_in r.own ≡ Some alarm
+  pub passed : alarm.delta ≤ (now + (2 ^ 32 - alarm.reference)) % 2 ^ 32
+
+-- an alarm that fires is due, by the clock as it shows then, and as the process is told it
 abbrev pub FiresWhenDue : World → Label → Type 0
 FiresWhenDue w label =
     (now : ℕ) → label.event ≡ Alarmed now →
-    (now ≡ now_in w) × IsSomeAnd (slice_get w.records label.slot) (λ r. is_some (due_alarm now r.own) ≡ true)
+    (now ≡ now_in w) × IsSomeAnd (slice_get w.records label.slot) (IsDue now)
 
 -- no alarm fires before it is due, whoever makes the choice
 abbrev pub NoneFiresEarly : Type 0

@@ -9,3 +9,11 @@ pub mod Ready
 pub mod Queues
 pub mod Scheduled
 pub mod Windows
+pub mod Between
+pub mod Replies
+pub mod Delivered
+pub mod Asking
+pub mod Passes
+pub mod Arming
+pub mod Restarting
+pub mod Withdrawing

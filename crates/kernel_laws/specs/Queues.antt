@@ -1,22 +1,25 @@
 -- That the queues of the board are first come, first served, which is this board's own rule.
-use Rattle.std.specs.Prelude.{◌≡◌, ℕ, Bool, List, ◌++◌, filter, slice_get, All, Option, None, Some}
+use Rattle.std.specs.Prelude.{◌≡◌, ◌⊎◌, ℕ, List, [], ◌∷◌, ◌++◌, slice_get, All, Option, None, Some}
+use Rattle.std.specs.List.{Any}
 use Rattle.tk_base.specs.declared.process.Choice.{Choice}
 use Rattle.driver_model.specs.Commands.{QueueName, Writes, Reads, Randoms, Stores}
 use Rattle.kernel_model.specs.Turn.{Event, Taken, WriteDone, Input, Word, NoWord, Stored}
-use Rattle.kernel_model.specs.World.{Label, World, after, labels, may_serve, only_in}
+use Rattle.kernel_model.specs.World.{Label, World, after, labels, may_serve, only_in, queue_without}
 use Rattle.kernel_model.specs.Named.{slots_in}
 
--- Of a queue before and later: those that stay stand in the order in which they stood, and whoever begins to wait comes
--- after them.
-pub record KeepsQueueOrder (before later : List ℕ) : Type 0 where
-  pub stays : ℕ → Bool
-  pub come : List ℕ
-  pub is : later ≡ filter stays before ++ come
+-- One slot joined a queue, as its last one, or left it, and each other slot stands where it stood.
+abbrev pub JoinsOrLeaves : ℕ → List ℕ → List ℕ → Type 0
+JoinsOrLeaves slot before later = (later ≡ before ++ slot ∷ []) ⊎ (later ≡ queue_without slot before)
+
+-- A queue before a step and later, by what the step tells: it is as it was; or a label names the one slot that joined it
+-- or left it.
+abbrev pub ChangesByOne : List Label → List ℕ → List ℕ → Type 0
+ChangesByOne told before later = (later ≡ before) ⊎ Any (λ label. JoinsOrLeaves label.slot before later) told
 
 -- so it is with each queue in every step of every world
 abbrev pub QueuesKeepOrder : Type 0
 QueuesKeepOrder = (w : World) (choice : Choice) (queue : QueueName) →
-    KeepsQueueOrder (slots_in queue w.devices.waiting) (slots_in queue (after w choice).devices.waiting)
+    ChangesByOne (labels w choice) (slots_in queue w.devices.waiting) (slots_in queue (after w choice).devices.waiting)
 
 -- the queue whose device tells a process something
 abbrev pub queue_for : Event → Option QueueName

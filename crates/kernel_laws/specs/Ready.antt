@@ -1,7 +1,10 @@
 -- Which processes have turns (TRD 104, "Yield", "Exit"). That one which an operator holds has none is this board's own
 -- rule.
-use Rattle.std.specs.Prelude.{◌≡◌, ℕ, true, false, All, slice_get, IsSomeAnd}
+use Rattle.std.specs.Prelude.{◌≡◌, ◌⊎◌, ◌<◌, ℕ, List, length, true, false, All, slice_get, IsSomeAnd}
 use Rattle.tk_base.specs.declared.process.Choice.{Choice}
+use Rattle.tk_base.specs.declared.upcall.Wait.TheVariants.{No, Given}
+use Rattle.process_record.specs.declared.process.State.TheVariants.{Running, Yielded}
+use Rattle.upcall_queue.specs.declared.inbox.Inbox.{Inbox}
 use Rattle.kernel_model.specs.Record.{Record}
 use Rattle.kernel_model.specs.declared.settings.Settings.{Settings}
 use Rattle.kernel_model.specs.Turn.{idle, is_turn, may_turn, turned}
@@ -20,3 +23,21 @@ TurnsAreOfReadyProcesses = (w : World) (choice : Choice) → All (IsOfReady w) (
 abbrev pub UnreadyTurnsDoNothing : Type 0
 UnreadyTurnsDoNothing = (settings : Settings) (time : ℕ) (r : Record) →
     may_turn r ≡ false → turned settings time r ≡ idle r
+
+-- Something is due to a process that has yielded: it waits for any upcall, and one is pending; or it waited for one alone,
+-- which came.
+abbrev pub HasDue : Inbox → Type 0
+HasDue inbox =
+    ((inbox.wait ≡ No) × (0 < length inbox.pending)) ⊎ ((args : List ℕ) × (inbox.wait ≡ Given args))
+
+-- A process that may have a turn: no operator holds it; and it runs, or it has yielded and something is due to it.
+pub record MayHaveTurn (r : Record) : Type 0 where
+  pub free : r.process.held ≡ false
+  pub state : (r.process.state ≡ Running) ⊎ ((r.process.state ≡ Yielded) × HasDue r.own.inbox)
+
+-- each turn that a step tells is that of such a process
+abbrev pub TurnsAreOfThose : Type 0
+TurnsAreOfThose =
+    (w : World) (choice : Choice) →
+    All (λ label. is_turn label.event ≡ true → IsSomeAnd (slice_get w.records label.slot) MayHaveTurn)
+    (labels w choice)

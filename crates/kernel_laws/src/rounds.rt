@@ -5,9 +5,10 @@ ghost use Rattle.kernel_laws.specs.Windows.{LanesAreAhead, NextIsOfTheWindow};
 ghost use Rattle.kernel_laws.specs.Alarms.{AlarmsComeFirst, NextIsTheLeast, NoneFiresEarly};
 ghost use Rattle.kernel_laws.specs.Alarms.{PassesStopAtAlarms};
 ghost use Rattle.kernel_laws.specs.Fairness.{ReadyProcessesHaveTurns};
+ghost use Rattle.kernel_laws.specs.Passes.{PassesStopAtTheNearest};
 ghost use Rattle.kernel_laws.specs.OneRun.{ChosenAreReady, IsDoneWhereNothingIsLeft, OneRun};
 
-use driver_model::an_alarm_is_due_where_no_ticks_are_left;
+use driver_model::{an_alarm_is_due_where_no_ticks_are_left, no_alarm_is_due_before_the_next};
 use turn_scheduler::ready_has_turn;
 
 /// As long as a slot is the next choice, a run makes the instructions of its process, those that
@@ -42,7 +43,8 @@ pub fn ready_processes_have_turns()
 /// A run by the round robin is one run: it leads where its choices lead, and tells what their steps
 /// tell. Each of its choices is ready in its turn, below the limit of steps. On a board of no more
 /// processes than slots it is done exactly where no process and no device is ready, nothing is
-/// still to come in, no process that lives has an alarm armed, and no write waits.
+/// still to come in, no process that lives has an alarm armed, and no request waits but a read to
+/// which nothing came in.
 pub fn a_run_is_one_run()
     ensures one { OneRun }
     ensures ready { ChosenAreReady }
@@ -74,3 +76,12 @@ pub fn alarms_fire_when_due()
     ensures early { NoneFiresEarly }
     ensures least { NextIsTheLeast }
 {}
+
+/// Time passes no further than to the nearest time at which there is something to do: where the next
+/// choice, of the round robin or of the windows, is a pass, no device step of any device is ready
+/// at any time before it ends.
+pub fn passes_stop_at_the_nearest()
+    ensures { PassesStopAtTheNearest }
+{
+    no_alarm_is_due_before_the_next();
+}

@@ -3,14 +3,21 @@
 ghost use Rattle.kernel_model.specs.Laws.{DropsAtMostOne, GrantsChangeAtCalls, TurnsActAtCalls};
 ghost use Rattle.kernel_model.specs.Laws.{TurnsKeepLines};
 ghost use Rattle.kernel_model.specs.Refused.{RefusalsChangeLittle};
+ghost use Rattle.kernel_laws.specs.Arming.{AlarmsAndButtonsAreSetByCommands};
+ghost use Rattle.kernel_laws.specs.Asking.{RequestsAreAsAsked};
 ghost use Rattle.kernel_laws.specs.Clock.{TimeComesInByTheAlarm};
+ghost use Rattle.kernel_laws.specs.Delivered.{DeliveriesAreSeen};
 ghost use Rattle.kernel_laws.specs.Inputs.{InputIsKept};
 ghost use Rattle.kernel_laws.specs.Queues.{FirstAreServed, QueuesKeepOrder};
-ghost use Rattle.kernel_laws.specs.Ready.{TurnsAreOfReadyProcesses, UnreadyTurnsDoNothing};
+ghost use Rattle.kernel_laws.specs.Ready.{TurnsAreOfReadyProcesses, TurnsAreOfThose};
+ghost use Rattle.kernel_laws.specs.Ready.{UnreadyTurnsDoNothing};
+ghost use Rattle.kernel_laws.specs.Replies.{RefusalsAreSeen, RepliesStand};
+ghost use Rattle.kernel_laws.specs.Restarting.{RestartsAreMade};
 ghost use Rattle.kernel_laws.specs.Tables.{EachRowFitsAWord, SameDrivers};
+ghost use Rattle.kernel_laws.specs.Withdrawing.{RequestsAreNotLost};
 ghost use Rattle.kernel_laws.specs.Words.{WordsAreDrawnInOrder};
 
-use driver_model::events_tell_steps;
+use driver_model::{drivers_ask_for_their_own, drivers_keep_places_and_order, events_tell_steps};
 use kernel_model::{drivers_promise, refused_changes_nothing_else};
 use rv32_model::denials_are_due;
 
@@ -85,13 +92,85 @@ pub fn time_comes_in_by_the_alarm()
 /// turn of one that may have none would change nothing.
 pub fn only_ready_processes_have_turns()
     ensures ready { TurnsAreOfReadyProcesses }
+    ensures those { TurnsAreOfThose }
     ensures others { UnreadyTurnsDoNothing }
 {}
 
-/// The board's queues are first come, first served: in every step, whoever makes the choices, those
-/// that stay in a queue keep their order, whoever begins to wait comes last, and a device answers
-/// the first of those that may be served.
+/// The board's queues are first come, first served: in every step, whoever makes the choices, a
+/// queue stays as it was, or the one slot that the step names joins it as its last one or leaves
+/// it, so that all others stand as they stood; and a device answers the first of those that may be
+/// served.
 pub fn queues_are_first_come_first_served()
     ensures order { QueuesKeepOrder }
     ensures first { FirstAreServed }
-{}
+{
+    drivers_ask_for_their_own();
+    denials_are_due();
+}
+
+/// What a process gets of a call stands where it looks for it, in every step, whoever makes the
+/// choices: the call that a turn tells is that of the process's a4 and a0 to a3; its reply stands
+/// in a0 to a3 then, pc stands behind the `ecall`, and each other register is as it was (TRD 104,
+/// "System Call API", "Return Values"). A refused call changes nothing but a0 and a1, which have
+/// the failure and its error, pc, the count of turns and the recorded refusal; all else of the
+/// process, of each other one and of the devices is as it was.
+pub fn replies_stand_in_registers()
+    ensures replies { RepliesStand }
+    ensures refused { RefusalsAreSeen }
+{
+    refusals_change_little();
+    denials_are_due();
+}
+
+/// What is delivered to a process stands in its registers, in every step, whoever makes the
+/// choices: where the function of an upcall runs, a0 to a2 have its arguments, a3 the application
+/// data, ra the address to go back to, and pc is the function; where a process goes on with
+/// arguments alone, a0 to a2 have them. Each other register is as it was. It is the first upcall
+/// that waits, or the first of the driver and number for which the process asks (TRD 104,
+/// "Subscribe", "Yield").
+pub fn deliveries_stand_in_registers()
+    ensures { DeliveriesAreSeen }
+{
+    denials_are_due();
+}
+
+/// What a request of a process asks for is what its command said, in every step, whoever makes the
+/// choices: one that waits after a turn waited before it, and is the same, or the turn tells the
+/// accepted command of which it has the arguments; and while it waits no more of it changes than how
+/// much of it was done (TRD 104, "Command").
+pub fn requests_are_as_asked()
+    ensures { RequestsAreAsAsked }
+{
+    drivers_promise();
+    drivers_keep_places_and_order();
+    denials_are_due();
+}
+
+/// The alarm of a process, and the buttons of which it is told, are what its commands said: where a
+/// turn leaves another alarm, or other buttons, than before, it tells the accepted command of which
+/// they have the arguments, or the next life of the process begins, which has none (TRD 104,
+/// "Command"; Tock's drivers 0x0 and 0x3).
+pub fn alarms_and_buttons_are_set_by_commands()
+    ensures { AlarmsAndButtonsAreSetByCommands }
+{
+    denials_are_due();
+}
+
+/// A process starts again where it asks for that, or an operator does, in every step, whoever makes
+/// the choices: an accepted exit with 1, and an act that has it start again, make its restarts one
+/// more, and it runs in its next life, if its object is that of an application (TRD 104, "Exit").
+pub fn restarts_are_made()
+    ensures { RestartsAreMade }
+{
+    denials_are_due();
+}
+
+/// No request is lost, in every step, whoever makes the choices: a turn leaves each request that its
+/// process keeps as it is, or tells the accepted command that asks for it or takes it away, or the
+/// next life begins, which has none; and what a device or an operator does leaves it, but for the
+/// answers of its own device, and a start in a next life (TRD 104, "Command", "Exit").
+pub fn requests_are_not_lost()
+    ensures { RequestsAreNotLost }
+{
+    denials_are_due();
+}

@@ -11,8 +11,11 @@ mod Loads
 mod Ended
 mod OwnBuffers
 mod Requests
+mod Queues
 mod Begun
 mod StoredBytes
 mod Within
 mod Writing
 mod Writes
+mod Given
+mod Worked

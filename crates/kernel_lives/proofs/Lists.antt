@@ -54,7 +54,7 @@ use Rattle.kernel_model.specs.Laws.{edge_done, edge_heard, one_answered}
 use Rattle.kernel_model.proofs.Told.{of_device, with_rest}
 
 -- a list with one more, and without one
-joined : (slot : ℕ) (xs : List ℕ) → times_in slot (xs ++ slot ∷ []) ≡ times_in slot xs + 1
+pub joined : (slot : ℕ) (xs : List ℕ) → times_in slot (xs ++ slot ∷ []) ≡ times_in slot xs + 1
 joined slot [] = ap (λ (b : Bool). cond b (0 + 1) 0) (eq-eqb slot slot refl)
 joined slot (x ∷ xs) = by_test (x == slot) (joined slot xs)
   where
@@ -64,12 +64,12 @@ joined slot (x ∷ xs) = by_test (x == slot) (joined slot xs)
     by_test true later = ap (λ (n : ℕ). n + 1) later
     by_test false later = later
 
-joined_other : (slot other : ℕ) (xs : List ℕ) → (slot == other) ≡ false
+pub joined_other : (slot other : ℕ) (xs : List ℕ) → (slot == other) ≡ false
     → times_in other (xs ++ slot ∷ []) ≡ times_in other xs
 joined_other slot other [] apart = ap (λ (b : Bool). cond b (0 + 1) 0) apart
 joined_other slot other (x ∷ xs) apart = ap (λ (n : ℕ). cond (x == other) (n + 1) n) (joined_other slot other xs apart)
 
-gone_from : (slot : ℕ) (xs : List ℕ) → times_in slot (queue_without slot xs) ≡ 0
+pub gone_from : (slot : ℕ) (xs : List ℕ) → times_in slot (queue_without slot xs) ≡ 0
 gone_from slot [] = refl
 gone_from slot (x ∷ xs) = by_test (x == slot) refl (gone_from slot xs)
   where
@@ -79,7 +79,7 @@ gone_from slot (x ∷ xs) = by_test (x == slot) refl (gone_from slot xs)
     by_test false e later =
         ap (λ (b : Bool). let n = times_in slot (queue_without slot xs) in cond b (n + 1) n) e ∙ later
 
-gone_other : (slot other : ℕ) (xs : List ℕ) → (slot == other) ≡ false
+pub gone_other : (slot other : ℕ) (xs : List ℕ) → (slot == other) ≡ false
     → times_in other (queue_without slot xs) ≡ times_in other xs
 gone_other slot other [] apart = refl
 gone_other slot other (x ∷ xs) apart = by_test (x == slot) refl (gone_other slot other xs apart)

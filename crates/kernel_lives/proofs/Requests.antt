@@ -25,7 +25,8 @@ use Rattle.kernel_laws.specs.Queues.{FirstAreServed, IsOfFirst, queue_for}
 use Rattle.kernel_lives.proofs.Lists.{act_keeps}
 use Rattle.kernel_lives.proofs.Lives.{over_turn, same_some}
 use Rattle.kernel_lives.specs.Lists.{ListsAreOfRequests, ListsStay, once_if, times_in}
-use Rattle.kernel_lives.specs.Requests.{HasRequestsOfItsLife, RequestsCompleteOnce, RequestsEndWithTheirLife}
+use Rattle.kernel_lives.specs.Requests.{HasRequestsOfItsLife, RequestsAddUp, RequestsCompleteOnce}
+use Rattle.kernel_lives.specs.Requests.{RequestsEndWithTheirLife}
 use Rattle.kernel_lives.specs.Requests.{answers_for, asks_in}
 
 -- two names of queues that are the same are one
@@ -48,11 +49,11 @@ same_name Stores Randoms e = absurd (false≢true e)
 same_name Stores Stores e = refl
 
 -- the first of some slots is among them
-stands : (slot x : ℕ) (xs : List ℕ) → x ≡ slot → 1 ≤ times_in slot (x ∷ xs)
+pub stands : (slot x : ℕ) (xs : List ℕ) → x ≡ slot → 1 ≤ times_in slot (x ∷ xs)
 stands slot x xs e =
     subst (λ (b : Bool). 1 ≤ cond b (times_in slot xs + 1) (times_in slot xs)) (sym (eq-eqb x slot e)) (omega arith)
 
-stands_later : (slot x : ℕ) (xs : List ℕ) → 1 ≤ times_in slot xs → 1 ≤ times_in slot (x ∷ xs)
+pub stands_later : (slot x : ℕ) (xs : List ℕ) → 1 ≤ times_in slot xs → 1 ≤ times_in slot (x ∷ xs)
 stands_later slot x xs h = by_test (x == slot)
   where
     by_test : (b : Bool) → 1 ≤ cond b (times_in slot xs + 1) (times_in slot xs)
@@ -74,7 +75,7 @@ served_stands None slot [] e = absurd (cc)
 served_stands None slot (x ∷ xs) e = stands slot x xs (same_some x slot e)
 served_stands (Some only) slot xs e = first_stands (λ s. s == only) slot xs e
 
-counts : (b : Bool) (n : ℕ) → n ≡ once_if b → 1 ≤ n → b ≡ true
+pub counts : (b : Bool) (n : ℕ) → n ≡ once_if b → 1 ≤ n → b ≡ true
 counts true n e some = refl
 counts false n e some = absurd (omega (arith, e, some))
 
@@ -131,6 +132,28 @@ requests_complete_once serve stay w (choice ∷ choices) queue slot h =
     let later = requests_complete_once serve stay v choices queue slot (stay w (choice ∷ []) h) in
     let here =
     one_step (list_any (answers_for queue slot) (labels w choice)) (asks_in queue slot w) (asks_in queue slot v)
+    (told_asks w h queue slot (labels w choice) (serve w choice)) in
+    omega (arith, later, here)
+
+-- and exactly, with what is withdrawn
+step_adds : (told before later : Bool) → (told ≡ true → before ≡ true)
+    → once_if (not before && later) + once_if before
+    ≡ once_if (told && not later) + once_if later + once_if (before && (not later && not told))
+step_adds true true true h = refl
+step_adds true true false h = refl
+step_adds true false later h = absurd (false≢true (h refl))
+step_adds false true true h = refl
+step_adds false true false h = refl
+step_adds false false true h = refl
+step_adds false false false h = refl
+
+pub requests_add_up : FirstAreServed → ListsStay → RequestsAddUp
+requests_add_up serve stay w [] queue slot h = omega arith
+requests_add_up serve stay w (choice ∷ choices) queue slot h =
+    let v = after w choice in
+    let later = requests_add_up serve stay v choices queue slot (stay w (choice ∷ []) h) in
+    let here =
+    step_adds (list_any (answers_for queue slot) (labels w choice)) (asks_in queue slot w) (asks_in queue slot v)
     (told_asks w h queue slot (labels w choice) (serve w choice)) in
     omega (arith, later, here)
 

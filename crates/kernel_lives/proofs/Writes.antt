@@ -84,6 +84,7 @@ record Steps (r : Record) (printed : List ℕ) (told : Bool) (s : Record) : Type
   advances : Advances (write_at r) printed (write_at s)
   prints : IfSome (write_at r) (PrintsNext r printed)
   ends : told ≡ true → IfSome (write_at r) (Completes r s)
+  silent : told ≡ true → printed ≡ []
 
 none_taken : (write : WaitingWrite) → taken_more write 0 ≡ write
 none_taken write = ap (λ (n : ℕ). record write { taken = n }) (omega arith)
@@ -103,6 +104,7 @@ quietly r s h = record {
   advances = goes_advances (write_at r) (write_at s) h;
   prints = prints_none r (write_at r);
   ends = λ told. absurd (false≢true told);
+  silent = λ told. refl;
 }
 
 stays : (r : Record) → Steps r [] false r
@@ -184,6 +186,7 @@ module _ (settings : Settings) (r : Record) (whole : HasWholeOwn r) where
             subst (λ (o : Option WaitingWrite). IfSome o (Completes r
             (record_with_step r (console.write_completing r.own write)))) (sym is)
             (record { tells = refl; all = omega (arith, none) });
+        silent = λ told. refl;
       }
 
   takes_more : (write : WaitingWrite) → write_at r ≡ Some write
@@ -206,6 +209,7 @@ module _ (settings : Settings) (r : Record) (whole : HasWholeOwn r) where
               fits = λ few. omega (arith, as_many, few);
             });
         ends = λ told. absurd (false≢true told);
+        silent = λ told. absurd (false≢true told);
       }
 
   sent_steps :
@@ -571,6 +575,7 @@ module _ (keep : DriversKeep) (alone : OnlyDriversMoveLines) (stay : HoldsThroug
                 own = own_scheduled console.console 1 (n ∷ 0 ∷ 0 ∷ []) (with_request console_writes None r.own);
               }) total;
               no_more = omega (arith, empty, run.fits (omega (arith, empty)));
+              silent = steps.silent told;
               all = omega (arith, ends.all, total);
             };
       }

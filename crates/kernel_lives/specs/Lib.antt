@@ -5,3 +5,4 @@ pub mod OwnBuffers
 pub mod Requests
 pub mod StoredBytes
 pub mod Writes
+pub mod Given

@@ -2,7 +2,8 @@
 -- Requests wait in grants (Levy et al., SOSP 2017, section 4); their queues are this board's own rule.
 use Rattle.std.specs.Prelude.{◌≡◌, ◌≤◌, ℕ, ◌+◌, ◌==◌, ◌&&◌, Bool, true, false, not, List, [], ◌∷◌, slice_get}
 use Rattle.std.specs.Prelude.{slice_index, is_none, Some}
-use Rattle.std.specs.Prelude.{IfSome, option_map, unwrap_or}
+use Rattle.std.specs.Prelude.{IfSome, option_map, unwrap_or, All, filter, length, ◌++◌}
+use Rattle.kernel_model.specs.Named.{slots_in}
 use Rattle.std.specs.List.{list_any}
 use Rattle.tk_base.specs.declared.process.Choice.{Choice}
 use Rattle.driver_model.specs.Commands.{QueueName, order_of}
@@ -78,3 +79,38 @@ abbrev pub RequestsBeginByCommands : Type 0
 RequestsBeginByCommands = (w : World) (choice : Choice) (queue : QueueName) (slot : ℕ) →
     IfSome (slice_get w.records slot) LivesAsItRuns → begins_in queue slot w choice ≡ true →
     list_any (tells_asking queue slot) (labels w choice) ≡ true
+
+-- A queue before a step and later, by who has a request there: those that have one still stand in the order in which
+-- they stood, whoever has none any more is gone, and behind them all stands the one whose request begins to wait in this
+-- step, if one does.
+pub record FollowsRequests (queue : QueueName) (w v : World) (before later : List ℕ) : Type 0 where
+  pub come : List ℕ
+  pub is : later ≡ filter (λ slot. asks_in queue slot v) before ++ come
+  pub one : length come ≤ 1
+  pub begin : All (λ slot. (asks_in queue slot w ≡ false) × (asks_in queue slot v ≡ true)) come
+
+-- So it is with each queue in every step of a world in which the lists are those of requests.
+abbrev pub QueuesFollowRequests : Type 0
+QueuesFollowRequests = (w : World) (choice : Choice) (queue : QueueName) → ListsAreOfRequests w →
+    let v = after w choice in
+    FollowsRequests queue w v (slots_in queue w.devices.waiting) (slots_in queue v.devices.waiting)
+
+-- whether a request of it is withdrawn in a step: it has one before it, and none after it, and is told no answer for it
+abbrev pub withdraws_in : QueueName → ℕ → World → Choice → Bool
+withdraws_in queue slot w choice =
+    asks_in queue slot w
+    && (not (asks_in queue slot (after w choice)) && not (list_any (answers_for queue slot) (labels w choice)))
+
+-- and in how many of some steps one is
+abbrev pub requests_withdrawn : QueueName → ℕ → World → List Choice → ℕ
+requests_withdrawn queue slot w [] = 0
+requests_withdrawn queue slot w (choice ∷ choices) =
+    once_if (withdraws_in queue slot w choice) + requests_withdrawn queue slot (after w choice) choices
+
+-- After any choices: the requests of a process that began to wait, and the one that waited at first, are exactly those
+-- that an answer completed, the one that waits still, and those that were withdrawn.
+abbrev pub RequestsAddUp : Type 0
+RequestsAddUp = (w : World) (choices : List Choice) (queue : QueueName) (slot : ℕ) → ListsAreOfRequests w →
+    requests_begun queue slot w choices + once_if (asks_in queue slot w)
+    ≡ requests_completed queue slot w choices + once_if (asks_in queue slot (after_all w choices))
+    + requests_withdrawn queue slot w choices

@@ -54,13 +54,14 @@ BufferStays slot bytes = Throughout (λ v choice. option_map write_bytes (slice_
 -- A write of so many bytes that completes when so many were printed of it, from its process as it is before that to the
 -- process as it is after: upcall 1 is scheduled, whose first argument is how many were printed, and the write waits no
 -- more; no more were printed than it asked for, and at least the lesser of that and of what the buffer has that is held
--- then.
-pub record CompletesTruly (asked printed : ℕ) (r s : Record) : Type 0 where
+-- then; and the step in which it completes prints nothing of it.
+pub record CompletesTruly (asked printed : ℕ) (last : List ℕ) (r s : Record) : Type 0 where
   pub tells : s ≡ record r {
     own = own_scheduled console 1 (printed ∷ 0 ∷ 0 ∷ []) (with_request console_writes None r.own);
   }
   pub no_more : printed ≤ asked
   pub all : min asked (held ReadOnly console 1 r.own).1 ≤ printed
+  pub silent : last ≡ []
 
 -- Of a write that begins in a step, and waits after each of some choices: what these print of it are the first bytes of
 -- its buffer, in order, if that stays as it is; and if the next step tells its process that it completed, it does so
@@ -72,7 +73,7 @@ pub record WritesTruly (v : World) (choices : List Choice) (slot : ℕ) (write :
       let u = after_all v choices in
       slice_get u.records slot ≡ Some r → slice_get (after u choice).records slot ≡ Some s →
       list_any (completes slot) (labels u choice) ≡ true →
-      CompletesTruly write.length (length (written_by slot v choices)) r s
+      CompletesTruly write.length (length (written_by slot v choices)) (flat_map (written_in slot) (labels u choice)) r s
 
 -- so it is in every run of a world in which what is the processes' own is whole
 abbrev pub WritesCompleteTruly : Type 0

@@ -1,8 +1,10 @@
 //! Laws that a certifier asks for, each the contract of a function that does nothing.
 ghost use Rattle.kernel_lives.specs.Counts.{CountsAddUp};
 ghost use Rattle.kernel_lives.specs.Ended.{IsFreeOnceEnded};
+ghost use Rattle.kernel_lives.specs.Given.{AnswersAreGiven};
 ghost use Rattle.kernel_lives.specs.Lists.{ListsStay};
 ghost use Rattle.kernel_lives.specs.OwnBuffers.{WholeOwnsHoldTheirBuffers};
+ghost use Rattle.kernel_lives.specs.Requests.{QueuesFollowRequests, RequestsAddUp};
 ghost use Rattle.kernel_lives.specs.Requests.{RequestsBeginByCommands, RequestsCompleteOnce};
 ghost use Rattle.kernel_lives.specs.Requests.{RequestsEndWithTheirLife};
 ghost use Rattle.kernel_lives.specs.StoredBytes.{ReadsGiveStorage, ReadsInRunsGiveStorage};
@@ -34,6 +36,17 @@ pub fn processes_live_as_they_run()
     ensures ended { EndedStays }
 {
     drivers_keep_places_and_order();
+}
+
+/// First come, first served, by who asks: in every step of a world in which the lists are those of
+/// requests, those in a queue that have a request still stand in the order in which they stood, the
+/// others are gone, and behind them stands the one whose request begins to wait in the step, if one
+/// does.
+pub fn queues_follow_requests()
+    ensures { QueuesFollowRequests }
+{
+    queues_are_first_come_first_served();
+    lists_are_of_requests();
 }
 
 /// Whatever choices are made, where a process lies never changes: its object, its accessible flash
@@ -133,11 +146,13 @@ pub fn storage_is_memory()
 
 /// Whatever choices are made: the answers that completed a request of a process in a queue, and the
 /// one that waits still, are no more than its requests that began to wait there, and the one that
-/// waited at first, where the lists were those of requests then. No request outlives the life in
+/// waited at first, where the lists were those of requests then; and with those that were withdrawn,
+/// of which the process is told no answer, they are exactly these. No request outlives the life in
 /// which it waits; and one begins to wait by an accepted command to its driver alone, in a turn of a
 /// process that lives as it runs (TRD 104, "Command").
 pub fn requests_complete_once()
     ensures once { RequestsCompleteOnce }
+    ensures whole { RequestsAddUp }
     ensures life { RequestsEndWithTheirLife }
     ensures begin { RequestsBeginByCommands }
 {
@@ -156,7 +171,8 @@ pub fn requests_complete_once()
 /// the buffer that its process held meanwhile, in order, if that stayed as it was; and where the
 /// next step tells the process that it completed, its upcall's first argument is how many bytes
 /// these choices printed of it. These are no more than it asked for, and at least the lesser of
-/// that and of what the buffer has that is held then (TRD 104, "Read-Only Allow").
+/// that and of what the buffer has that is held then, and that step prints nothing more of it (TRD
+/// 104, "Read-Only Allow").
 pub fn writes_complete_truly()
     ensures { WritesCompleteTruly }
 {
@@ -164,3 +180,12 @@ pub fn writes_complete_truly()
     only_drivers_move_lines();
     owns_stay_whole();
 }
+
+/// What a device tells of a process is what the process gets, in every step, whoever makes the
+/// choices: bytes that came in stand in its buffer, no more than it asked for and the buffer has,
+/// and the bytes of a random word behind those written before; and the upcall by which a request
+/// completes, or an alarm fires, has the arguments of its driver, after which the request waits no
+/// more, or the alarm is not armed any more (Tock's drivers 0x0, 0x1, 0x40001 and 0x50001).
+pub fn answers_are_what_is_told()
+    ensures { AnswersAreGiven }
+{}

@@ -2,12 +2,12 @@
 -- 104, "Yield", "Exit", "Read-Write Allow"; the userspace-readable allow of Tock's kernel).
 use Rattle.std.specs.Prelude.{◌≡◌, ◌≢◌, ◌⊎◌, ◌≤◌, ◌<◌, ℕ, ◌+◌, ◌==◌, ◌&&◌, Bool, true, false, IsTrue, List, [], length}
 use Rattle.std.specs.Prelude.{slice_get}
-use Rattle.std.specs.Prelude.{slice_index, Option, Some, is_none, is_some, IfSome, IsSomeAnd, option_map, unwrap_or}
+use Rattle.std.specs.Prelude.{min, slice_index, Option, None, Some, is_none, is_some, IfSome, IsSomeAnd, option_map, unwrap_or}
 use Rattle.std.specs.List.{Any, list_any}
 use Rattle.tk_base.specs.declared.process.Choice.{Choice}
 use Rattle.tk_base.specs.declared.process.Choice.TheVariants.{Run}
 use Rattle.tk_base.specs.declared.process.Verb.TheVariants.{Restart}
-use Rattle.tk_base.specs.declared.kinds.PairKind.TheVariants.{ReadWrite}
+use Rattle.tk_base.specs.declared.kinds.PairKind.TheVariants.{ReadOnly, ReadWrite}
 use Rattle.rv32_model.specs.Laws.{stores_at}
 use Rattle.process_model.specs.Own.{Own}
 use Rattle.process_model.specs.Changes.{ChangesAt, IsInside, IsWhole}
@@ -36,13 +36,23 @@ showed_clock call =
     unwrap_or (option_map (λ made. made.class == 2
     && ((slice_index made.args 0 == alarm_driver && slice_index made.args 1 == 2) && is_none made.rule)) call) false
 
+-- The flag of a yield, which a turn told at an address: the turn told a call that broke no rule, which is a yield that
+-- does not wait, class 0 with 0 in a0, and its a1 has the address; and the byte there lies in accessible RAM, where the
+-- process may store it (TRD 104, "Yield").
+pub record IsFlagOfYield (r : Record) (told : TurnTrace) (at : ℕ) : Type 0 where
+  pub flag : told.flag ≡ Some at
+  pub made : IsSomeAnd told.call (λ call. (call.class ≡ 0) × (slice_index call.args 0 ≡ 0)
+      × (slice_index call.args 1 ≡ at) × (call.rule ≡ None))
+  pub from : r.own.layout.start ≤ at
+  pub below : at < r.own.layout.brk
+
 -- A cause in a process's own turn, by what the turn told and by the record before and after it: a store that covers the
 -- address; the flag of its yield; that it started again, where the turn told an exit or a denial; the clock that was
 -- shown in the buffer which the process held for it.
 abbrev pub IsDoneByTurn : Record → Record → TurnTrace → ℕ → Type 0
 IsDoneByTurn r s told at =
     IsTrue (list_any (stores_at at) told.accesses)
-    ⊎ ((told.flag ≡ Some at)
+    ⊎ (IsFlagOfYield r told at
     ⊎ (((ends_life told ≡ true) × (s.process.restarts ≡ r.process.restarts + 1))
     ⊎ ((showed_clock told.call ≡ true) × IsInside (clock_buffer r.own) at)))
 
@@ -55,11 +65,13 @@ buffer_for (Stored moved) own = held ReadWrite storage.storage 0 own
 buffer_for other own = (0, 0)
 
 -- an answer that writes over a place of the storage: it serves a request that waits in the process's grant, and does
--- not fail; and what that asks is to write so many bytes from an offset on, of which the place is one
+-- not fail; and what that asks is to write so many bytes from an offset on, of which the place is one, and one that the
+-- buffer reaches which the process then holds for it
 abbrev pub Overwrites : Event → Record → ℕ → Type 0
 Overwrites (Stored true) r k =
     IsSomeAnd (waiting_in storage.storages r.own) (λ request.
-    (request.kind ≡ Write) × (request.offset ≤ k) × (k < request.offset + request.length))
+    (request.kind ≡ Write) × (request.offset ≤ k)
+    × (k < request.offset + min request.length (held ReadOnly storage.storage 0 r.own).1))
 Overwrites other r k = ⊥
 
 -- A cause in what a process is told, or in what an operator does to it, by its record before that and after it: the

@@ -1,7 +1,7 @@
 -- What edges of buttons schedule, step by step (TRD 104, "Subscribe", "Yield"; the buttons are Tock's driver 0x3): an
 -- edge of which a process is told schedules one upcall for it, and nothing else schedules any. When edges come is this
 -- board's own rule.
-use Rattle.std.specs.Prelude.{◌≡◌, ◌≢◌, ◌≤◌, ◌⊎◌, ℕ, ◌+◌, Bool, true, if◌then◌else◌, List, [], ◌∷◌, ◌++◌, drop}
+use Rattle.std.specs.Prelude.{◌≡◌, ◌≢◌, ◌≤◌, ◌<◌, ◌⊎◌, ℕ, ◌+◌, Bool, true, false, if◌then◌else◌, List, [], ◌∷◌, ◌++◌, drop}
 use Rattle.std.specs.Prelude.{filter}
 use Rattle.std.specs.Prelude.{length, slice_get, Option, None, Some, IfSome, option_and_then, option_map, unwrap_or}
 use Rattle.std.specs.List.{cons_option}
@@ -87,13 +87,20 @@ ServesEdges w choice = OfEachProcess w choice (λ slot. ServesEdge w choice)
 abbrev pub StepsServeEdges : Type 0
 StepsServeEdges = (w : World) (choice : Choice) → ServesEdges w choice
 
--- One upcall that is scheduled is one of three: it is given to a process that waits for it alone; it is put last; or,
--- where as many are pending as may be, it is dropped, and counted.
+-- an upcall that is scheduled otherwise than for a process that waits for it alone, and that is not null
+abbrev pub IsQueued : Scheduled → Inbox → Type 0
+IsQueued u before = (awaits before.wait u ≡ false) × (u.function ≢ 0)
+
+-- One upcall that is scheduled is one of three, and no two: it is given to a process that waits for it alone; or it is
+-- another one, not null, and put last where fewer are pending than may be; or, where as many are, it is dropped, and
+-- counted.
 abbrev pub IsScheduledOnce : Scheduled → Inbox → Inbox → Type 0
 IsScheduledOnce u before now =
     ((awaits before.wait u ≡ true) × (now ≡ record before { wait = Given u.args }))
-    ⊎ ((now ≡ record before { pending = before.pending ++ u ∷ [] })
-    ⊎ ((PENDING_LIMIT ≤ length before.pending) × (now ≡ record before { dropped = before.dropped + 1 })))
+    ⊎ ((IsQueued u before × (length before.pending < PENDING_LIMIT)
+    × (now ≡ record before { pending = before.pending ++ u ∷ [] }))
+    ⊎ (IsQueued u before × (PENDING_LIMIT ≤ length before.pending)
+    × (now ≡ record before { dropped = before.dropped + 1 })))
 
 -- so it is of each upcall for which its process waits, or which is not null
 abbrev pub EachIsScheduledOnce : Type 0

@@ -1,10 +1,15 @@
 use Rattle.kernel_lives.proofs.Begun.{requests_begin_by_commands}
-use Rattle.kernel_lives.proofs.Requests.{requests_complete_once, requests_end_with_their_life}
+use Rattle.kernel_lives.proofs.Requests.{requests_add_up, requests_complete_once}
+use Rattle.kernel_lives.proofs.Requests.{requests_end_with_their_life}
 use Rattle.kernel_lives.proofs.certified.requests_complete_once.Goals as goal
 
 pub returns-clause-once : goal.returns-clause-once
 returns-clause-once c =
     requests_complete_once c.queues_are_first_come_first_served.ensures.first c.lists_are_of_requests.ensures
+
+pub returns-clause-whole : goal.returns-clause-whole
+returns-clause-whole c =
+    requests_add_up c.queues_are_first_come_first_served.ensures.first c.lists_are_of_requests.ensures
 
 pub returns-clause-life : goal.returns-clause-life
 returns-clause-life c =

@@ -1,0 +1,328 @@
+-- What a call gets stands in the registers of its process, and a refused one changes nothing else of it.
+use Rattle.std.proofs.Common.{◌≡◌, ◌≢◌, ◌⊎◌, inl, inr, ◌<◌, ◌≤◌, ℕ, ◌+◌, ◌%◌, ◌^◌, ◌==◌, Bool, true, false, cond, List, []}
+use Rattle.std.proofs.Common.{◌∷◌, length, Option, None, Some, Result, Ok, Err, IfSome, slice_get, refl, sym, ap, subst}
+use Rattle.std.proofs.Common.{◌∙◌, arith}
+use Rattle.std.specs.Prelude.{All}
+use Rattle.std.proofs.lemmas.List.Elements.{All-nil, All-cons, All-head, All-tail}
+use Rattle.tk_base.specs.Call.{code_of, error_of}
+use Rattle.tk_base.specs.Regs.{Registers, register, with_register}
+use Rattle.tk_base.specs.declared.call.CallRule.{CallRule}
+use Rattle.tk_base.specs.declared.kinds.PairKind.{PairKind}
+use Rattle.tk_base.specs.declared.kinds.PairKind.TheVariants.{Upcall, ReadOnly, ReadWrite, Readable}
+use Rattle.tk_base.specs.declared.upcall.Upcall.{Upcall as Scheduled}
+use Rattle.rv32_model.specs.Laws.{CallsAreOfEcall}
+use Rattle.upcall_queue.specs.Pending.{place_of}
+use Rattle.driver_model.specs.Commands.{BoardRequest}
+use Rattle.syscall_abi.specs.declared.form.CallForm.{CallForm}
+use Rattle.syscall_abi.specs.declared.form.CallForm.TheVariants as forms
+use Rattle.syscall_abi.specs.declared.reply.Reply.{Reply}
+use Rattle.syscall_abi.specs.declared.reply.Reply.TheVariants as replies
+use Rattle.syscall_abi.specs.declared.reply.Reply.TheVariants.{Failure, FailureU32U32}
+use Rattle.syscall_abi.specs.Call.{a2, a3, call_of, class}
+use Rattle.syscall_abi.specs.Reply.{put_reply, reply_words}
+use Rattle.process_record.specs.declared.outcome.Outcome.{Outcome}
+use Rattle.process_record.specs.declared.outcome.Outcome.TheVariants as outcomes
+use Rattle.process_record.specs.declared.outcome.Outcome.TheVariants.{Replied}
+use Rattle.process_record.specs.declared.process.Process.{Process}
+use Rattle.process_record.specs.Process.{after_call, after_reply, waiting}
+use Rattle.kernel_model.specs.Record.{Record}
+use Rattle.kernel_model.specs.declared.settings.Settings.{Settings}
+use Rattle.kernel_model.specs.Calls.{Served, comes_to, driver_answered, failure_of, refused_with, served, yield_for, yield_now}
+use Rattle.kernel_model.specs.Calls.{yielding}
+use Rattle.kernel_model.specs.Histories.{class_of}
+use Rattle.kernel_model.specs.Parts.{with_process}
+use Rattle.kernel_model.specs.Turn.{arguments, made, reply_shown, surroundings, turn_counted}
+use Rattle.kernel_model.specs.World.{Label, World, after, labels}
+use Rattle.kernel_model.specs.Refused.{IfRefused, RefusalsChangeLittle}
+use Rattle.kernel_model.proofs.Classes.{of_registers}
+use Rattle.kernel_model.proofs.Memops.{by_test}
+use Rattle.kernel_laws.specs.Replies.{CallIsSeen, ChangesByRefusal, IfRefusedSeen}
+use Rattle.kernel_laws.specs.Replies.{RefusalsAreSeen, RepliesStand, ReplyStands, is_swap_class}
+use Rattle.kernel_laws.proofs.Between.{of_each_turn, of_turn}
+use Rattle.kernel_laws.proofs.Calling.{of_served}
+use Rattle.kernel_laws.proofs.Registers.{as_many, register_again, register_beside, register_there}
+use Rattle.kernel_laws.proofs.Registers.{words_beside, words_pc}
+
+-- registers with a reply, and pc past the `ecall`
+abbrev past : Reply → Registers → Registers
+past reply regs = record (put_reply reply regs) { pc = (regs.pc + 4) % 2 ^ 32 }
+
+replied_regs : (p : Process) (reply : Reply) → (after_reply p reply).regs ≡ past reply p.regs
+replied_regs p reply =
+    ap (λ (pc : ℕ). record (put_reply reply p.regs) { pc = (pc + 4) % 2 ^ 32 }) (words_pc 10 (reply_words reply) p.regs)
+
+few_words : (reply : Reply) → length (reply_words reply) ≤ 4
+few_words (replies.Failure error) = omega arith
+few_words (replies.FailureU32 error first) = omega arith
+few_words (replies.FailureU32U32 error first second) = omega arith
+few_words (replies.FailureU64 error value) = omega arith
+few_words replies.Success = omega arith
+few_words (replies.SuccessU32 first) = omega arith
+few_words (replies.SuccessU32U32 first second) = omega arith
+few_words (replies.SuccessU64 value) = omega arith
+few_words (replies.SuccessU32U32U32 first second third) = omega arith
+few_words (replies.SuccessU32U64 first value) = omega arith
+
+-- what a call leaves in the registers that is replied to; and which calls have no reply
+module _ (r : Record) (form : CallForm) (is : call_of r.process.regs ≡ Some form) where
+  abbrev HasNone : Type 0
+  HasNone = (class r.process.regs ≡ 0) ⊎ (class r.process.regs ≡ 6)
+
+  record Gets (s : Served) : Type 0 where
+    reply : (reply : Reply) (rule : Option CallRule) → s.outcome ≡ Replied reply rule
+        → s.after.process.regs ≡ past reply r.process.regs
+    silent : reply_shown r.process.regs s.outcome ≡ None → HasNone
+
+  same_reply : (a b : Reply) (p q : Option CallRule) → Replied a p ≡ Replied b q → a ≡ b
+  same_reply a b p q e = cc
+
+  gets_reply : (s : Record) (acts : List BoardRequest) (reply : Reply) (rule : Option CallRule)
+      → s.process.regs ≡ past reply r.process.regs
+      → Gets (record { after = s; outcome = Replied reply rule; acts = acts })
+  gets_reply s acts reply rule stands = record {
+    reply = λ other q e.
+        stands ∙ ap (λ (x : Reply). past x r.process.regs) (same_reply reply other rule q e);
+    silent = λ e. absurd (cc);
+  }
+
+  gets_none : (s : Record) (acts : List BoardRequest) (outcome : Outcome)
+      → ((reply : Reply) (rule : Option CallRule) → outcome ≡ Replied reply rule → ⊥) → HasNone
+      → Gets (record { after = s; outcome = outcome; acts = acts })
+  gets_none s acts outcome apart has =
+      record { reply = λ reply rule e. absurd (apart reply rule e); silent = λ e. has }
+
+  by_answer : (s : Record) (acts : List BoardRequest) (answer : Result Reply CallRule)
+      → s.process ≡ r.process → Gets (record (driver_answered s answer) { acts = acts })
+  by_answer s acts (Ok reply) same =
+      gets_reply _ acts reply None (replied_regs s.process reply ∙ ap (λ (p : Process). past reply p.regs) same)
+  by_answer s acts (Err rule) same =
+      gets_reply _ acts (Failure (error_of rule)) (Some rule)
+      (replied_regs s.process (Failure (error_of rule))
+      ∙ ap (λ (p : Process). past (Failure (error_of rule)) p.regs) same)
+
+  is_yield : (number x y : ℕ) → form ≡ forms.Yield number x y → HasNone
+  is_yield number x y same =
+      inl (of_registers (λ (o : Option CallForm). o ≡ Some (forms.Yield number x y) → class r.process.regs ≡ 0)
+      r.process.regs (λ c e. c) (λ kind c e. absurd (cc)) (λ c e. absurd (cc)) (λ c e. absurd (cc))
+      (λ c e. absurd (cc)) (λ e. absurd (cc)) (is ∙ ap (λ (f : CallForm). Some f) same))
+
+  is_exit : (kind code : ℕ) → form ≡ forms.Exit kind code → HasNone
+  is_exit kind code same =
+      inr (of_registers (λ (o : Option CallForm). o ≡ Some (forms.Exit kind code) → class r.process.regs ≡ 6)
+      r.process.regs (λ c e. absurd (cc)) (λ kind c e. absurd (cc)) (λ c e. absurd (cc)) (λ c e. absurd (cc))
+      (λ c e. c) (λ e. absurd (cc)) (is ∙ ap (λ (f : CallForm). Some f) same))
+
+  by_now : (at : ℕ) (first : Option Scheduled) → HasNone → Gets (yield_now r at first)
+  by_now at None has = gets_none _ _ outcomes.GoesOn (λ reply rule e. cc) has
+  by_now at (Some upcall) has = gets_none _ _ outcomes.Delivered (λ reply rule e. cc) has
+
+  by_for : (driver number : ℕ) (first : Option Scheduled) → HasNone → Gets (yield_for r driver number first)
+  by_for driver number None has = gets_none _ _ outcomes.Waits (λ reply rule e. cc) has
+  by_for driver number (Some upcall) has = gets_none _ _ outcomes.Delivered (λ reply rule e. cc) has
+
+  by_yield : (number x y : ℕ) → HasNone → Gets (yielding r number x y)
+  unfolding yielding
+  by_yield number x y has =
+      by_test Gets (number == 0) _ _ (by_now x (slice_get r.own.inbox.pending 0) has)
+      (by_test Gets (number == 1) waits _ (gets_none waits.after [] outcomes.Waits (λ reply rule e. cc) has)
+      (by_test Gets (number == 2) _ goes_on
+      (by_for x y (slice_get r.own.inbox.pending (place_of x y r.own.inbox.pending)) has)
+      (gets_none goes_on.after [] outcomes.GoesOn (λ reply rule e. cc) has)))
+    where
+      waits : Served
+      waits = comes_to (with_process r (waiting r.process)) outcomes.Waits
+
+      goes_on : Served
+      goes_on = comes_to (with_process r (after_call r.process)) outcomes.GoesOn
+
+  gets : (settings : Settings) (time : ℕ) → Gets (served settings.strict (surroundings settings time r) r form)
+  gets settings time =
+      of_served Gets (surroundings settings time r) r settings.strict form (record {
+        refused = λ rule. gets_reply _ [] (failure_of form rule) (Some rule) (replied_regs r.process (failure_of form
+            rule));
+        same = λ reply. gets_reply _ [] reply None (replied_regs r.process reply);
+        moved = λ new reply. gets_reply _ [] reply None (replied_regs r.process reply);
+        swapped = λ swap reply. gets_reply _ [] reply None (replied_regs r.process reply);
+        yields = λ number x y same. by_yield number x y (is_yield number x y same);
+        commands = λ driver number x y taker same there. by_answer _ _ _ refl;
+        ends = λ kind code same. gets_none _ _ outcomes.Ended (λ reply rule e. cc) (is_exit kind code same);
+        again = λ kind code same. gets_none _ _ outcomes.Again (λ reply rule e. cc) (is_exit kind code same);
+      })
+
+-- so a reply that a call shows stands there
+some_words : (x y z u a b c d : ℕ) → Some (x ∷ y ∷ z ∷ u ∷ []) ≡ Some (a ∷ b ∷ c ∷ d ∷ [])
+    → (x ≡ a) × (y ≡ b) × (z ≡ c) × (u ≡ d)
+some_words x y z u a b c d e = (cc, cc, cc, cc)
+
+reply_stands : (r s : Record) (reply : Reply) (a b c d : ℕ) → s.process.regs ≡ past reply r.process.regs
+    → Some (arguments (put_reply reply r.process.regs)) ≡ Some (a ∷ b ∷ c ∷ d ∷ []) → ReplyStands r s a b c d
+reply_stands r s reply a b c d is shows =
+    let words = some_words _ _ _ _ a b c d shows in
+    record {
+      first = ap (λ (regs : Registers). register regs 10) is ∙ words.0;
+      second = ap (λ (regs : Registers). register regs 11) is ∙ words.1;
+      third = ap (λ (regs : Registers). register regs 12) is ∙ words.2;
+      fourth = ap (λ (regs : Registers). register regs 13) is ∙ words.3;
+      pc = ap (λ (regs : Registers). regs.pc) is;
+      others = λ n out. ap (λ (regs : Registers). register regs n) is ∙ beside n out;
+    }
+  where
+    beside : (n : ℕ) → (n < 10) ⊎ (13 < n) → register (past reply r.process.regs) n ≡ register r.process.regs n
+    beside n (inl below) = words_beside 10 (reply_words reply) r.process.regs n (inl below)
+    beside n (inr past_all) =
+        words_beside 10 (reply_words reply) r.process.regs n (inr (let few = few_words reply in omega (
+          arith,
+          past_all,
+          few,
+        )))
+
+call_seen : (r : Record) (form : CallForm) (is : call_of r.process.regs ≡ Some form) (s : Served) → Gets r form is s
+    → CallIsSeen r s.after (made r.process.regs s.outcome)
+call_seen r form is s gets = record {
+  class = refl;
+  args = refl;
+  reply = λ a b c d shows. by_outcome a b c d s.outcome refl shows;
+  silent = gets.silent;
+}
+  where
+    by_outcome : (a b c d : ℕ) (outcome : Outcome) → s.outcome ≡ outcome
+        → reply_shown r.process.regs outcome ≡ Some (a ∷ b ∷ c ∷ d ∷ []) → ReplyStands r s.after a b c d
+    by_outcome a b c d (Replied reply rule) same shows =
+        reply_stands r s.after reply a b c d (gets.reply reply rule same) shows
+    by_outcome a b c d outcomes.ToDriver same shows = absurd (cc)
+    by_outcome a b c d outcomes.Waits same shows = absurd (cc)
+    by_outcome a b c d outcomes.Delivered same shows = absurd (cc)
+    by_outcome a b c d outcomes.GoesOn same shows = absurd (cc)
+    by_outcome a b c d outcomes.Ended same shows = absurd (cc)
+    by_outcome a b c d outcomes.Again same shows = absurd (cc)
+
+pub replies_stand : CallsAreOfEcall → RepliesStand
+replies_stand of_ecall =
+    of_each_turn (λ r s told. IfSome told.call (CallIsSeen r s)) (λ settings time r.
+    of_turn of_ecall settings time r (λ t. IfSome t.told.call (CallIsSeen r t.after)) (record {
+      nothing = tt;
+      went = λ s accesses kept inbox. tt;
+      faults = λ s denial kept. tt;
+      makes = λ accesses form is runs.
+          let s = call_seen (turn_counted r) form is _ (gets (turn_counted r) form is settings time) in
+          record {
+            class = s.class;
+            args = s.args;
+            reply = λ a b c d shows. let stands = s.reply a b c d shows in record {
+              first = stands.first;
+              second = stands.second;
+              third = stands.third;
+              fourth = stands.fourth;
+              pc = stands.pc;
+              others = stands.others;
+            };
+            silent = s.silent;
+          };
+      delivers = λ next is yielded. tt;
+    }))
+
+-- The registers of a refused call.
+module _ (regs : Registers) (many : length regs.x ≡ 32) (rule : CallRule) where
+  code : ℕ
+  code = code_of (error_of rule)
+
+  record Refuses (after : Registers) : Type 0 where
+    variant : register after 10 ≡ cond (is_swap_class (class regs)) 2 0
+    error : register after 11 ≡ code_of (error_of rule)
+    registers : (n : ℕ) → n ≢ 10 → n ≢ 11 → register after n ≡ register regs n
+
+  two_words : (first : ℕ) → first ≡ cond (is_swap_class (class regs)) 2 0
+      → Refuses (with_register (with_register regs 10 first) 11 (code_of (error_of rule)))
+  two_words first is =
+      let within : 11 < length (with_register regs 10 first).x = omega (arith, as_many regs 10 first, many) in
+      record {
+        variant = register_beside (with_register regs 10 first) 11 10 (code_of (error_of rule)) (λ e. omega (arith, e))
+            ∙ register_there regs 10 first (omega arith) (omega (arith, many)) ∙ is;
+        error = register_there (with_register regs 10 first) 11 (code_of (error_of rule)) (omega arith) within;
+        registers = λ n ten eleven.
+            register_beside (with_register regs 10 first) 11 n (code_of (error_of rule)) eleven
+            ∙ register_beside regs 10 n first ten;
+      }
+
+  -- the pair that is handed back stands there still
+  pair_stands : (after : Registers) → register after 12 ≡ a2 regs → register after 13 ≡ a3 regs
+      → with_register (with_register after 12 (a2 regs)) 13 (a3 regs) ≡ after
+  pair_stands after third fourth =
+      ap (λ (x : ℕ). with_register (with_register after 12 x) 13 (a3 regs)) (sym third)
+      ∙ ap (λ (y : Registers). with_register y 13 (a3 regs)) (register_again after 12 (omega arith))
+      ∙ ap (λ (x : ℕ). with_register after 13 x) (sym fourth) ∙ register_again after 13 (omega arith)
+
+  plain : is_swap_class (class regs) ≡ false → Refuses (put_reply (Failure (error_of rule)) regs)
+  plain apart = two_words 0 (ap (λ (b : Bool). cond b 2 0) (sym apart))
+
+  swaps : is_swap_class (class regs) ≡ true
+      → Refuses (put_reply (FailureU32U32 (error_of rule) (a2 regs) (a3 regs)) regs)
+  swaps is =
+      let r = two_words 2 (ap (λ (b : Bool). cond b 2 0) (sym is)) in
+      subst Refuses (sym (pair_stands _ (r.registers 12 (λ e. omega (arith, e)) (λ e. omega (arith, e)))
+      (r.registers 13 (λ e. omega (arith, e)) (λ e. omega (arith, e))))) r
+
+  swap_class : (kind : PairKind) → is_swap_class (class_of kind) ≡ true
+  swap_class Upcall = refl
+  swap_class ReadOnly = refl
+  swap_class ReadWrite = refl
+  swap_class Readable = refl
+
+  IsRefusedBy : CallForm → Type 0
+  IsRefusedBy form = Refuses (put_reply (failure_of form rule) regs)
+
+  same_form : (form other : CallForm) → Some form ≡ Some other → form ≡ other
+  same_form form other e = cc
+
+  carried : (form other : CallForm) → Some form ≡ Some other → Refuses (put_reply (failure_of form rule) regs)
+      → Refuses (put_reply (failure_of other rule) regs)
+  carried form other e so =
+      subst (λ (f : CallForm). Refuses (put_reply (failure_of f rule) regs)) (same_form form other e) so
+
+  no_swap : (n : ℕ) → class regs ≡ n → is_swap_class n ≡ false → is_swap_class (class regs) ≡ false
+  no_swap n is apart = ap is_swap_class is ∙ apart
+
+  refuses : (form : CallForm) → call_of regs ≡ Some form → Refuses (put_reply (failure_of form rule) regs)
+  refuses form =
+      of_registers (λ (o : Option CallForm). o ≡ Some form → Refuses (put_reply (failure_of form rule) regs)) regs
+      (λ is e. carried _ form e (plain (no_swap 0 is refl)))
+      (λ kind is e. carried _ form e (swaps (ap is_swap_class is ∙ swap_class kind)))
+      (λ is e. carried _ form e (plain (no_swap 2 is refl))) (λ is e. carried _ form e (plain (no_swap 5 is refl)))
+      (λ is e. carried _ form e (plain (no_swap 6 is refl))) (λ e. absurd (cc))
+
+pub changes : (r : Record) (form : CallForm) (rule : CallRule) → call_of r.process.regs ≡ Some form
+    → length r.process.regs.x ≡ 32
+    → ChangesByRefusal r (refused_with (turn_counted r) rule (failure_of form rule)).after rule
+changes r form rule is many =
+    let so = refuses r.process.regs many rule form is in
+    record {
+      variant = so.variant;
+      error = so.error;
+      registers = so.registers;
+      pc = ap (λ (pc : ℕ). (pc + 4) % 2 ^ 32) (words_pc 10 (reply_words (failure_of form rule)) r.process.regs);
+      process = refl;
+      own = refl;
+      object = refl;
+      storage = refl;
+      pressed = refl;
+    }
+
+seen : (w v : World) (label : Label) → IfRefused w v label → IfRefusedSeen w v label
+seen w v label leaves rule e =
+    let l = leaves rule e in
+    record {
+      before = l.before;
+      later = _;
+      is_there = l.is_there;
+      process = λ many. changes l.before l.call rule l.is_made many;
+      world = l.world;
+    }
+
+all_seen : (w v : World) (ls : List Label) → All (IfRefused w v) ls → All (IfRefusedSeen w v) ls
+all_seen w v [] each = All-nil (IfRefusedSeen w v)
+all_seen w v (label ∷ ls) each =
+    All-cons (IfRefusedSeen w v) label ls (seen w v label (All-head (IfRefused w v) label ls each))
+    (all_seen w v ls (All-tail (IfRefused w v) label ls each))
+
+pub refusals_are_seen : RefusalsChangeLittle → RefusalsAreSeen
+refusals_are_seen law w choice = all_seen w (after w choice) (labels w choice) (law w choice)

@@ -1,0 +1,287 @@
+-- That no request is lost: by the rows of the drivers' tables, and by what each device's answer leaves.
+use Rattle.std.proofs.Common.{◌≡◌, ◌≢◌, ◌⊎◌, inl, inr, ℕ, ◌+◌, ◌==◌, Bool, true, false, cond, nat_le, [], ◌∷◌, Option}
+use Rattle.std.proofs.Common.{None, Some, Ok, unwrap_or, refl, sym, ap, subst, ◌∙◌, eqb-true}
+use Rattle.std.specs.Prelude.{IsSomeAnd}
+use Rattle.std.specs.Option.{option_map}
+use Rattle.std.proofs.lemmas.Bool.{false≢true}
+use Rattle.tk_base.specs.declared.call.CallRule.TheVariants.{NoCommand, NoRoom}
+use Rattle.tk_base.specs.declared.process.Verb.{Verb}
+use Rattle.tk_base.specs.declared.process.Verb.TheVariants as verbs
+use Rattle.grant_values.specs.declared.console.WaitingRead.{WaitingRead}
+use Rattle.grant_values.specs.declared.drivers.Driver.TheVariants.{Console, Random, Storage}
+use Rattle.grant_values.specs.declared.storage.StorageKind.TheVariants.{Read, Write}
+use Rattle.grant_values.specs.declared.storage.StorageRequest.{StorageRequest}
+use Rattle.grant_values.specs.Drivers.{drivers}
+use Rattle.grant_values.specs.Values.{KeptValue, fresh_value}
+use Rattle.rv32_model.specs.Laws.{CallsAreOfEcall}
+use Rattle.syscall_abi.specs.declared.reply.Reply.{Reply}
+use Rattle.syscall_abi.specs.declared.reply.Reply.TheVariants.{Success}
+use Rattle.process_model.specs.Handed.{has_place, own_entering}
+use Rattle.process_model.specs.Own.{Own, own_ended}
+use Rattle.process_model.specs.Served.{kept}
+use Rattle.process_record.specs.Process.{is_alive}
+use Rattle.driver_model.specs.Commands.{Commanded, QueueName, Writes, Reads, Randoms, Stores, by_number, is_same, refusing}
+use Rattle.driver_model.specs.Console as console
+use Rattle.driver_model.specs.Console.{console_reads}
+use Rattle.driver_model.specs.Drivers.{CommandContext, CommandHandler, handler_by, handler_of}
+use Rattle.driver_model.specs.Lines.{RequestOf, kind_in}
+use Rattle.driver_model.specs.Parts.{asking_beside}
+use Rattle.driver_model.specs.Random as random
+use Rattle.driver_model.specs.Requests.{asking, request_in}
+use Rattle.driver_model.specs.Steps.{own_after}
+use Rattle.driver_model.specs.Storage as storage
+use Rattle.kernel_model.specs.Record.{Record}
+use Rattle.kernel_model.specs.declared.settings.Settings.{Settings}
+use Rattle.kernel_model.specs.Turn.{Act, Alarmed, Edge, Event, Input, NoWord, Stored, Taken, Turn, Word, WriteDone, apply}
+use Rattle.kernel_model.specs.Turn.{is_turn, operated}
+use Rattle.kernel_model.specs.World.{now_in}
+use Rattle.kernel_model.proofs.Steps.{IsAnswer}
+use Rattle.kernel_laws.specs.Asking.{IsAskedBy}
+use Rattle.kernel_laws.specs.Queues.{queue_for}
+use Rattle.kernel_laws.specs.Withdrawing.{RequestsAreLeft, RequestsAreNotLost, RequestsAreSet, SetsRequest}
+use Rattle.kernel_laws.proofs.Arming.{of_turns}
+use Rattle.kernel_laws.proofs.Asking.{asks, beside_asks, begun, entered_asks, entering_asks, none_put, put_asks}
+use Rattle.kernel_laws.proofs.Asking.{read_by_done, read_by_write, same_taker, told, write_by_input}
+use Rattle.kernel_laws.proofs.Beside.{answers_beside, driver_answering, scheduled_keeps}
+use Rattle.kernel_laws.proofs.Between.{of_each_answer, of_turns_at}
+
+-- what a command leaves of the request of a queue
+module _ (queue : QueueName) (driver number x y : ℕ) (own : Own) where
+  abbrev Sets : Commanded → Type 0
+  Sets c =
+      (asks queue (own_after c.step) ≡ asks queue own)
+      ⊎ (((reply : Reply) × (c.answer ≡ Ok reply))
+      × SetsRequest queue 0 (asks queue own) (driver ∷ number ∷ x ∷ y ∷ []) (asks queue (own_after c.step)))
+
+  if_so : (b : Bool) (c d : Commanded) → Sets c → Sets d → Sets (cond b c d)
+  if_so true c d h k = h
+  if_so false c d h k = k
+
+  abbrev chosen : Option (ℕ × Commanded) → Commanded
+  chosen found = unwrap_or (option_map (λ row. row.1) found) (refusing NoCommand own)
+
+  row : (n : ℕ) (c : Commanded) (rest : Option (ℕ × Commanded)) → (number ≡ n → Sets c) → Sets (chosen rest)
+      → Sets (chosen (cond (n == number) (Some (n, c)) rest))
+  row n c rest here later = if_equal (n == number) refl
+    where
+      if_equal : (b : Bool) → (n == number) ≡ b → Sets (chosen (cond b (Some (n, c)) rest))
+      if_equal true e = here (sym (eqb-true n number e))
+      if_equal false e = later
+
+  sets_here : (request : RequestOf queue) → IsAskedBy queue request (driver ∷ number ∷ x ∷ y ∷ [])
+      → Sets (asking (kind_in queue) request own)
+  sets_here request asked = by_waiting (asks queue own) refl
+    where
+      by_waiting : (waiting : Option (RequestOf queue)) → asks queue own ≡ waiting
+          → Sets (asking_beside (kind_in queue) waiting request own)
+      by_waiting None none =
+          if_so (has_place (kind_in queue).driver own) (begun queue driver number x y own queue request)
+          (refusing NoRoom own)
+          (inr (
+            (Success, refl),
+            inl (
+              none,
+              subst (λ (o : Option (RequestOf queue)). IsSomeAnd o
+                  (λ q. IsAskedBy queue q (driver ∷ number ∷ x ∷ y ∷ []))) (sym (entered_asks queue (Some request) own)) asked,
+            ),
+          ))
+          (inl refl)
+      by_waiting (Some waiting) e = inl refl
+
+  sets_other : (here : QueueName) → is_same here queue ≡ false → (request : RequestOf here)
+      → Sets (asking (kind_in here) request own)
+  sets_other here apart request = by_waiting (asks here own)
+    where
+      by_waiting : (waiting : Option (RequestOf here)) → Sets (asking_beside (kind_in here) waiting request own)
+      by_waiting None =
+          if_so (has_place (kind_in here).driver own) (begun queue driver number x y own here request)
+          (refusing NoRoom own)
+          (inl (beside_asks here queue apart (Some request) (own_entering (kind_in here).driver own)
+          ∙ entering_asks queue (kind_in here).driver own)) (inl refl)
+      by_waiting (Some waiting) = inl refl
+
+module _ (number x y : ℕ) (own : Own) where
+  writes_set : Sets Writes console.console number x y own (by_number (console.commands x) number own)
+  unfolding console.commands
+  writes_set =
+      row Writes console.console number x y own 0 _ _ (λ is. inl refl)
+      (row Writes console.console number x y own 1 _ _
+      (λ is. sets_here Writes console.console number x y own (record { length = x; taken = 0 }) ((refl, is), refl))
+      (row Writes console.console number x y own 2 _ _
+      (λ is. if_so Writes console.console number x y own (x == 0) _ _ (inl refl)
+      (sets_other Writes console.console number x y own Reads refl (record { length = x })))
+      (row Writes console.console number x y own 3 _ _ (λ is. cancelled (request_in console_reads own)) (inl refl))))
+    where
+      cancelled : (read : Option WaitingRead) → Sets Writes console.console number x y own (console.cancelling read own)
+      cancelled None = inl refl
+      cancelled (Some read) =
+          inl (ap (told Writes) (scheduled_keeps console.console (console.dropping_read own))
+          ∙ beside_asks Reads Writes refl None own)
+
+  reads_set : Sets Reads console.console number x y own (by_number (console.commands x) number own)
+  unfolding console.commands
+  reads_set =
+      row Reads console.console number x y own 0 _ _ (λ is. inl refl)
+      (row Reads console.console number x y own 1 _ _
+      (λ is. sets_other Reads console.console number x y own Writes refl (record { length = x; taken = 0 }))
+      (row Reads console.console number x y own 2 _ _
+      (λ is. if_so Reads console.console number x y own (x == 0) _ _ (inl refl)
+      (sets_here Reads console.console number x y own (record { length = x }) ((refl, is), refl)))
+      (row Reads console.console number x y own 3 _ _ (λ is. cancelled is (request_in console_reads own)) (inl refl))))
+    where
+      cancelled : number ≡ 3 → (read : Option WaitingRead)
+          → Sets Reads console.console number x y own (console.cancelling read own)
+      cancelled is None = inl refl
+      cancelled is (Some read) =
+          inr (
+            (Success, refl),
+            inr (
+              refl,
+              (
+                (refl, is),
+                ap (told Reads) (scheduled_keeps console.console (console.dropping_read own))
+                    ∙ put_asks Reads None own ∙ none_put Reads (kept console.console own),
+              ),
+            ),
+          )
+
+  randoms_set : Sets Randoms random.random number x y own (by_number (random.commands x) number own)
+  unfolding random.commands
+  randoms_set =
+      row Randoms random.random number x y own 0 _ _ (λ is. inl refl)
+      (row Randoms random.random number x y own 1 _ _
+      (λ is. sets_here Randoms random.random number x y own (record { count = x; written = 0 }) ((refl, is), refl))
+      (inl refl))
+
+  stores_set : (size : ℕ)
+      → Sets Stores storage.storage number x y own (by_number (storage.commands size x y) number own)
+  unfolding storage.commands
+  stores_set size =
+      row Stores storage.storage number x y own 0 _ _ (λ is. inl refl)
+      (row Stores storage.storage number x y own 1 _ _ (λ is. inl refl)
+      (row Stores storage.storage number x y own 2 _ _
+      (λ is. if_fits (record { kind = Read; offset = x; length = y }) (inl ((refl, is), refl)))
+      (row Stores storage.storage number x y own 3 _ _
+      (λ is. if_fits (record { kind = Write; offset = x; length = y }) (inr ((refl, is), refl))) (inl refl))))
+    where
+      if_fits : (request : StorageRequest) → IsAskedBy Stores request (storage.storage ∷ number ∷ x ∷ y ∷ [])
+          → Sets Stores storage.storage number x y own (storage.requesting size request own)
+      if_fits request asked =
+          if_so Stores storage.storage number x y own (nat_le (request.offset + request.length) size) _ _
+          (sets_here Stores storage.storage number x y own request asked) (inl refl)
+
+SetsAt : QueueName → Type 0
+SetsAt queue =
+    (taker : CommandHandler) → handler_of (kind_in queue).driver ≡ Some taker → (around : CommandContext)
+    (number x y : ℕ) (own : Own) →
+    let c = taker around number x y own in
+    (asks queue (own_after c.step) ≡ asks queue own)
+    ⊎ (((reply : Reply) × (c.answer ≡ Ok reply))
+    × SetsRequest queue around.now (asks queue own) ((kind_in queue).driver ∷ number ∷ x ∷ y ∷ [])
+    (asks queue (own_after c.step)))
+
+sets_at : (queue : QueueName) → SetsAt queue
+unfolding drivers SetsAt
+sets_at Writes taker is around number x y own =
+    subst (λ (t : CommandHandler). Sets Writes console.console number x y own (t around number x y own))
+    (same_taker (handler_by Console) taker is) (writes_set number x y own)
+sets_at Reads taker is around number x y own =
+    subst (λ (t : CommandHandler). Sets Reads console.console number x y own (t around number x y own))
+    (same_taker (handler_by Console) taker is) (reads_set number x y own)
+sets_at Randoms taker is around number x y own =
+    subst (λ (t : CommandHandler). Sets Randoms random.random number x y own (t around number x y own))
+    (same_taker (handler_by Random) taker is) (randoms_set number x y own)
+sets_at Stores taker is around number x y own =
+    subst (λ (t : CommandHandler). Sets Stores storage.storage number x y own (t around number x y own))
+    (same_taker (handler_by Storage) taker is) (stores_set number x y own around.storage)
+
+blank : (q : QueueName) (o : Option KeptValue)
+    → told q (Some (unwrap_or o (fresh_value (kind_in q).driver))) ≡ told q o
+unfolding drivers
+blank q (Some value) = refl
+blank Writes None = refl
+blank Reads None = refl
+blank Randoms None = refl
+blank Stores None = refl
+
+-- what an answer leaves
+module _ (settings : Settings) (r : Record) where
+  other_left : (queue : QueueName) (event : Event) → IsAnswer event
+      → (driver_answering event == (kind_in queue).driver) ≡ false
+      → asks queue (apply settings event r).own ≡ asks queue r.own
+  other_left queue event is apart = ap (told queue) (answers_beside settings event r (kind_in queue).driver is apart)
+
+  left : (queue : QueueName) (event : Event) → IsAnswer event → queue_for event ≢ Some queue
+      → asks queue (apply settings event r).own ≡ asks queue r.own
+  unfolding apply
+  left queue (Turn time) is none = absurd (cc)
+  left queue (Act verb) is none = absurd (cc)
+  left Writes (Alarmed now) is none = other_left Writes (Alarmed now) is refl
+  left Writes (Edge button pressed) is none = other_left Writes (Edge button pressed) is refl
+  left Writes Taken is none = absurd (none refl)
+  left Writes WriteDone is none = absurd (none refl)
+  left Writes (Input bytes) is none = write_by_input r.own bytes
+  left Writes (Word word) is none = other_left Writes (Word word) is refl
+  left Writes NoWord is none = other_left Writes NoWord is refl
+  left Writes (Stored moved) is none = other_left Writes (Stored moved) is refl
+  left Reads (Alarmed now) is none = other_left Reads (Alarmed now) is refl
+  left Reads (Edge button pressed) is none = other_left Reads (Edge button pressed) is refl
+  left Reads Taken is none = read_by_write r.own r.own
+  left Reads WriteDone is none = read_by_done r.own
+  left Reads (Input bytes) is none = absurd (none refl)
+  left Reads (Word word) is none = other_left Reads (Word word) is refl
+  left Reads NoWord is none = other_left Reads NoWord is refl
+  left Reads (Stored moved) is none = other_left Reads (Stored moved) is refl
+  left Randoms (Alarmed now) is none = other_left Randoms (Alarmed now) is refl
+  left Randoms (Edge button pressed) is none = other_left Randoms (Edge button pressed) is refl
+  left Randoms Taken is none = other_left Randoms Taken is refl
+  left Randoms WriteDone is none = other_left Randoms WriteDone is refl
+  left Randoms (Input bytes) is none = other_left Randoms (Input bytes) is refl
+  left Randoms (Word word) is none = absurd (none refl)
+  left Randoms NoWord is none = absurd (none refl)
+  left Randoms (Stored moved) is none = other_left Randoms (Stored moved) is refl
+  left Stores (Alarmed now) is none = other_left Stores (Alarmed now) is refl
+  left Stores (Edge button pressed) is none = other_left Stores (Edge button pressed) is refl
+  left Stores Taken is none = other_left Stores Taken is refl
+  left Stores WriteDone is none = other_left Stores WriteDone is refl
+  left Stores (Input bytes) is none = other_left Stores (Input bytes) is refl
+  left Stores (Word word) is none = other_left Stores (Word word) is refl
+  left Stores NoWord is none = other_left Stores NoWord is refl
+  left Stores (Stored moved) is none = absurd (none refl)
+
+  act_left : (verb : Verb) → Act verb ≢ Act verbs.Restart → (queue : QueueName)
+      → asks queue (operated verb r).own ≡ asks queue r.own
+  act_left verbs.List apart queue = refl
+  act_left verbs.Stop apart queue = refl
+  act_left verbs.Start apart queue = refl
+  act_left verbs.Terminate apart queue = by_test_of (is_alive r.process.state)
+    where
+      by_test_of : (b : Bool) → asks queue (cond b (own_ended r.own) r.own) ≡ asks queue r.own
+      by_test_of true = refl
+      by_test_of false = refl
+  act_left verbs.Restart apart queue = absurd (apart refl)
+
+  leaves : (event : Event) → is_turn event ≡ false → RequestsAreLeft event r (apply settings event r)
+  unfolding apply
+  leaves (Turn time) no_turn apart queue none = absurd (false≢true (sym no_turn))
+  leaves (Act verb) no_turn apart queue none = act_left verb apart queue
+  leaves (Alarmed now) no_turn apart queue none = left queue (Alarmed now) refl none
+  leaves (Edge button pressed) no_turn apart queue none = left queue (Edge button pressed) refl none
+  leaves Taken no_turn apart queue none = left queue Taken refl none
+  leaves WriteDone no_turn apart queue none = left queue WriteDone refl none
+  leaves (Input bytes) no_turn apart queue none = left queue (Input bytes) refl none
+  leaves (Word word) no_turn apart queue none = left queue (Word word) refl none
+  leaves NoWord no_turn apart queue none = left queue NoWord refl none
+  leaves (Stored moved) no_turn apart queue none = left queue (Stored moved) refl none
+
+pub requests_are_not_lost : CallsAreOfEcall → RequestsAreNotLost
+unfolding SetsAt
+requests_are_not_lost of_ecall = record {
+  turns = λ w choice.
+      of_turns_at (RequestsAreSet (now_in w)) w (λ r. record {
+        each = λ queue.
+            of_turns (kind_in queue).driver (told queue) (SetsRequest queue) (blank queue) (sets_at queue) w.settings
+            w.clock.time r of_ecall;
+      }) choice;
+  answers = of_each_answer RequestsAreLeft (λ settings event r. leaves settings r event);
+}

@@ -1,0 +1,172 @@
+-- Worked cases, computed from the definitions: what laws of this crate have, and a step of a wrong kernel that each
+-- refuses.
+use Rattle.std.proofs.Common.{◌≡◌, ℕ, true, cond, List, [], ◌∷◌, ◌++◌, Some, refl}
+use Rattle.std.proofs.Common.{ap, ap₂, ◌∙◌, arith}
+use Rattle.tk_base.specs.declared.access.TheConstants.{FLASH_START, RAM_START}
+use Rattle.tk_base.specs.declared.kinds.PairKind.TheVariants.{ReadWrite, Upcall}
+use Rattle.tk_base.specs.declared.upcall.Upcall.{Upcall as Scheduled}
+use Rattle.upcall_queue.specs.declared.inbox.Inbox.{Inbox}
+use Rattle.upcall_queue.specs.Pending.{empty}
+use Rattle.grant_values.specs.Drivers.{counts_of, drivers}
+use Rattle.grant_model.specs.Grants.{shape_of}
+use Rattle.process_model.specs.Handed.{handing}
+use Rattle.process_record.specs.Parts.{cleared}
+use Rattle.driver_model.specs.Commands.{QueueName}
+use Rattle.driver_model.specs.Console as console
+use Rattle.driver_model.specs.Console.{console_reads}
+use Rattle.kernel_model.specs.Record.{Record, record_with_step}
+use Rattle.kernel_model.specs.Worked.{standing, worked_settings}
+use Rattle.kernel_model.specs.World.{World}
+use Rattle.kernel_lives.specs.Given.{AlarmIsGiven, InputIsGiven}
+use Rattle.kernel_lives.specs.Requests.{FollowsRequests, asks_in}
+use Rattle.kernel_lives.specs.Writes.{CompletesTruly}
+use Rattle.kernel_lives.proofs.Given.{input_given}
+use Rattle.driver_model.specs.Requests.{with_request}
+use Rattle.std.proofs.Common.{sym, ap, ◌⊎◌, inl, inr, ◌<◌, ◌≤◌, Bool, false, None}
+use Rattle.std.proofs.lemmas.List.Elements.{All-nil}
+use Rattle.grant_values.specs.declared.storage.StorageKind.TheVariants.{Read}
+use Rattle.process_model.specs.Served.{own_scheduled}
+use Rattle.driver_model.specs.Commands.{Writes}
+use Rattle.driver_model.specs.Console.{console_writes}
+use Rattle.driver_model.specs.Random as random
+use Rattle.driver_model.specs.Random.{randoms}
+use Rattle.kernel_lives.specs.Given.{NoWordIsGiven, StorageIsDone, WordIsGiven, WriteIsDone}
+use Rattle.kernel_lives.proofs.Given.{put_none, word_given}
+
+-- a process that holds a buffer of four bytes for what comes in, and a function for the alarm, at the start of its block
+abbrev holds : Record
+holds =
+    let r = standing (0x73 ∷ 0 ∷ 0 ∷ 0 ∷ []) 256 (cleared FLASH_START) in
+    record r { own = handing Upcall 0x0 0 (0x20000, 9) (handing ReadWrite 0x1 1 (RAM_START, 4) r.own) }
+
+-- Bytes that came in, for a read of two; a kernel that gives it three.
+gives_two : InputIsGiven (5 ∷ 6 ∷ []) (record { length = 2 }) holds
+    (record_with_step holds (console.reading_in (5 ∷ 6 ∷ []) holds.own (record { length = 2 })))
+unfolding counts_of drivers shape_of
+gives_two = input_given worked_settings holds (5 ∷ 6 ∷ 7 ∷ []) (Some (record { length = 2 }))
+
+none_gives_three : (r s : Record) → InputIsGiven (5 ∷ 6 ∷ 7 ∷ []) (record { length = 2 }) r s → ⊥
+none_gives_three r s given = let asked = given.asked in omega (arith, asked)
+
+-- An alarm that fires at 7, and expired at 5; a kernel that tells the two in the other order.
+abbrev told_with : List ℕ → Record
+told_with args = record holds {
+  own = record holds.own {
+    inbox = record empty {
+      pending = record { driver = 0; number = 0; function = 0x20000; app = 9; args = args } ∷ [];
+    };
+  };
+}
+
+tells_so : AlarmIsGiven 7 (record { reference = 0; delta = 5 }) holds (told_with (7 ∷ 5 ∷ 0 ∷ []))
+unfolding counts_of drivers shape_of
+tells_so = record { tells = refl; done = refl }
+
+none_tells_otherwise :
+    AlarmIsGiven 7 (record { reference = 0; delta = 5 }) holds (told_with (5 ∷ 7 ∷ 0 ∷ [])) → ⊥
+unfolding counts_of drivers shape_of
+none_tells_otherwise given = by_args (ap (λ (x : Inbox). first x.pending) given.tells)
+  where
+    first : List Scheduled → List ℕ
+    first [] = []
+    first (u ∷ rest) = u.args
+
+    by_args : ◌≡◌ {A = List ℕ} (5 ∷ 7 ∷ 0 ∷ []) (7 ∷ 5 ∷ 0 ∷ []) → ⊥
+    by_args e = cc
+
+-- A queue in which two wait still; a kernel that has them change places.
+none_change_places : (queue : QueueName) (w v : World) → asks_in queue 1 v ≡ true → asks_in queue 2 v ≡ true
+    → FollowsRequests queue w v (1 ∷ 2 ∷ []) (2 ∷ 1 ∷ []) → ⊥
+none_change_places queue w v one two follows =
+    by_first (follows.is ∙ ap₂ (λ (b c : _). cond b (1 ∷ cond c (2 ∷ []) []) (cond c (2 ∷ []) []) ++ follows.come) one two)
+  where
+    by_first : ◌≡◌ {A = List ℕ} (2 ∷ 1 ∷ []) (1 ∷ 2 ∷ follows.come) → ⊥
+    by_first e = cc
+
+-- A write that completes; a kernel that prints one byte more of it then.
+none_prints_more : (r s : Record) → CompletesTruly 4 4 (65 ∷ []) r s → ⊥
+none_prints_more r s completes = let silent = completes.silent in cc
+
+-- One that stays where it stood; and a write of four bytes that completes so.
+stays_there : (queue : QueueName) (w v : World) → asks_in queue 1 v ≡ true
+    → FollowsRequests queue w v (1 ∷ []) (1 ∷ [])
+stays_there queue w v asks = record {
+  come = [];
+  is = sym (ap (λ (b : Bool). cond b (1 ∷ []) [] ++ []) asks);
+  one = omega arith;
+  begin = All-nil (λ slot. (asks_in queue slot w ≡ false) × (asks_in queue slot v ≡ true));
+}
+
+completes_so : (r : Record) → CompletesTruly 4 4 [] r (record r {
+  own = own_scheduled 0x1 1 (4 ∷ 0 ∷ 0 ∷ []) (with_request console_writes None r.own);
+})
+completes_so r = record { tells = refl; no_more = omega arith; all = omega arith; silent = refl }
+
+-- A process with a request for four random bytes, a buffer for them, and a function for each driver.
+abbrev asks_four : Record
+asks_four = record holds {
+  own = with_request randoms (Some (record { count = 4; written = 0 }))
+      (handing Upcall 0x50001 0 (0x20000, 9) (handing Upcall 0x1 1 (0x20000, 9) (handing Upcall 0x40001 0 (0x20000, 9)
+      (handing ReadWrite 0x40001 0 (RAM_START, 4) holds.own))));
+}
+
+abbrev told_by : ℕ → ℕ → List ℕ → Record
+told_by driver number args = record asks_four {
+  own = record asks_four.own {
+    inbox = record empty {
+      pending = record { driver = driver; number = number; function = 0x20000; app = 9; args = args } ∷ [];
+    };
+  };
+}
+
+-- A random word; a kernel that draws one more where all bytes are written.
+gives_word : WordIsGiven 0x04030201 (record { count = 4; written = 0 }) asks_four
+    (record_with_step asks_four (random.advanced (random.progress (Some 0x04030201)
+    (record { count = 4; written = 0 }) asks_four.own)).step)
+unfolding counts_of drivers shape_of
+gives_word = word_given worked_settings asks_four 0x04030201 (record { count = 4; written = 0 }) refl (omega arith)
+
+none_draws_more : (word : ℕ) (r s : Record) → WordIsGiven word (record { count = 4; written = 4 }) r s → ⊥
+none_draws_more word r s given = let short = given.short in omega (arith, short)
+
+-- the arguments of the one upcall that waits
+first_args : List Scheduled → List ℕ
+first_args [] = []
+first_args (u ∷ rest) = u.args
+
+-- No word is left; a kernel that tells that all went well.
+none_without_word : NoWordIsGiven (record { count = 4; written = 0 }) asks_four (told_by 0x40001 0 (0 ∷ 0 ∷ 0 ∷ []))
+    → ⊥
+unfolding counts_of drivers shape_of first_args
+none_without_word given = by_outcome given.tells.0 given.tells.1 (ap (λ (x : Inbox). first_args x.pending) given.tells.2)
+  where
+    by_outcome : (outcome : ℕ) → ((outcome ≡ 0) × (4 ≤ 0)) ⊎ ((outcome ≡ 1) × (0 < 4))
+        → ◌≡◌ {A = List ℕ} (0 ∷ 0 ∷ 0 ∷ []) (outcome ∷ 0 ∷ 0 ∷ []) → ⊥
+    by_outcome outcome (inl all) e = omega (arith, all.1)
+    by_outcome outcome (inr some) e = let none : 0 ≡ outcome = cc in omega (arith, none, some.0)
+
+-- A write of which four bytes were taken; a kernel that tells five.
+none_tells_five : WriteIsDone (record { length = 8; taken = 4 }) asks_four (told_by 0x1 1 (5 ∷ 0 ∷ 0 ∷ [])) → ⊥
+unfolding counts_of drivers shape_of first_args
+none_tells_five done = by_args (ap (λ (x : Inbox). first_args x.pending) done.tells)
+  where
+    by_args : ◌≡◌ {A = List ℕ} (5 ∷ 0 ∷ 0 ∷ []) (4 ∷ 0 ∷ 0 ∷ []) → ⊥
+    by_args e = cc
+
+tells_four : (r : Record) → WriteIsDone (record { length = 8; taken = 4 }) r
+    (record_with_step r (console.write_completing r.own (record { length = 8; taken = 4 })))
+tells_four r = record { tells = refl; done = put_none Writes r.own }
+
+-- A read of the storage that failed; a kernel that tells that it went well.
+none_tells_well : StorageIsDone false (record { kind = Read; offset = 0; length = 2 }) asks_four
+    (told_by 0x50001 0 (0 ∷ 0 ∷ 0 ∷ [])) → ⊥
+unfolding counts_of drivers shape_of first_args
+none_tells_well done = by_args (ap (λ (x : Inbox). first_args x.pending) done.tells)
+  where
+    by_args : ◌≡◌ {A = List ℕ} (0 ∷ 0 ∷ 0 ∷ []) (0 ∷ 1 ∷ 0 ∷ []) → ⊥
+    by_args e = cc
+
+tells_fault : StorageIsDone false (record { kind = Read; offset = 0; length = 2 }) asks_four
+    (told_by 0x50001 0 (0 ∷ 1 ∷ 0 ∷ []))
+unfolding counts_of drivers shape_of
+tells_fault = record { tells = refl; done = refl }
