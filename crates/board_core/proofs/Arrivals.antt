@@ -64,7 +64,7 @@ module _ (b : BoardState) (home : Homes) (d : Drivers) (came : Arrives b.machine
       → act_meant (world_of b) ≡ None → DevicesAnswerOne
       → with_step b
       (map (record_of home.flash d.buttons.pressed) (zip (zip b.processes.items home.owns) d.stores.slots))
-      (devices_of d) (a_step_later b.machine.moment) b.present b.used
+      (devices_of d) (a_step_later b.machine.moment) b.present.slot b.present.used
       ≡ (carried_out (world_of b) (Device dev.Event)).after
   unfolding carried_out
   world_arrived may none law =

@@ -112,7 +112,7 @@ with_step b records devices m present used = record {
   records = records;
   unplaced = b.unplaced.items;
   settings = b.machine.moment.settings;
-  pace = record { slice = b.slice; window = b.machine.moment.window };
+  pace = record { slice = b.present.slice; window = b.machine.moment.window };
   devices = devices;
   clock = record { time = m.time; steps = m.steps };
   present = record { slot = present; used = used };
@@ -142,7 +142,7 @@ module _ (b : BoardState) (slot : ℕ) (x : Machine) (processes : List Process) 
       b.machine.drivers.stores.slots few
 
   -- the world after the turn
-  pub world_after : (used : ℕ) → used ≡ used_after b.present b.used b.slice slot
+  pub world_after : (used : ℕ) → used ≡ used_after b.present.slot b.present.used b.present.slice slot
       → with_step b (map (record_of x.home.flash x.drivers.buttons.pressed)
       (zip (zip processes x.home.owns) x.drivers.stores.slots)) (devices_of x.drivers)
       (turn_later b.machine.moment) (Some slot) used ≡ (carried_out (world_of b) (Run slot)).after

@@ -222,7 +222,8 @@ module _ (b : BoardState) (device : Dev) (slot : ℕ) (printed : List ℕ) (home
   pub world_told : DevicesAnswerOne
       → with_step b
       (map (record_of home.flash d.buttons.pressed) (zip (zip b.processes.items home.owns) d.stores.slots))
-      (devices_of d) (a_step_later b.machine.moment) b.present b.used ≡ (carried_out (world_of b) (Device device)).after
+      (devices_of d) (a_step_later b.machine.moment) b.present.slot b.present.used
+      ≡ (carried_out (world_of b) (Device device)).after
   unfolding carried_out told_at
   world_told law =
       let w = world_of b in
@@ -235,7 +236,8 @@ module _ (b : BoardState) (device : Dev) (slot : ℕ) (printed : List ℕ) (home
       t.serves.stores.slots
       ∙ changed_records slot b.machine.home home b.processes.items b.processes.items told_at pressed
       b.machine.drivers.stores.slots t.serves.bytes in
-      ap (λ (rs : List Record). with_step b rs (devices_of d) (a_step_later b.machine.moment) b.present b.used)
+      ap (λ (rs : List Record). with_step b rs (devices_of d) (a_step_later b.machine.moment) b.present.slot
+      b.present.used)
       (changed ∙ ap (slice_set w.records slot) (sym t.serves.tells))
       ∙ sym (ap (λ (s : Stepped). s.after) (answered_so law))
 

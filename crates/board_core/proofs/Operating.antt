@@ -235,7 +235,7 @@ module _ (b : BoardState) (slot : ℕ) (verb : Verb) (c : ActComes b.machine.dri
   pub world_operated : DevicesAnswerOne
       → with_step b
       (map (record_of x.home.flash x.drivers.buttons.pressed) (zip (zip processes x.home.owns) x.drivers.stores.slots))
-      (devices_of x.drivers) (a_step_later b.machine.moment) b.present b.used
+      (devices_of x.drivers) (a_step_later b.machine.moment) b.present.slot b.present.used
       ≡ (carried_out (world_of b) (Device dev.Event)).after
   unfolding carried_out apply
   world_operated law =
@@ -251,8 +251,9 @@ module _ (b : BoardState) (slot : ℕ) (verb : Verb) (c : ActComes b.machine.dri
       t.does.drives.bytes
       ∙ kept_records slot b.machine.home x.home b.processes.items processes t.at pressed b.machine.drivers.stores.slots
       ∙ ap (slice_set w.records slot) (sym tells) in
-      ap (λ (rs : List Record). with_step b rs (devices_of x.drivers) m b.present b.used) records
-      ∙ ap (λ (ds : Devices). with_step b (slice_set w.records slot (operated verb acted_on)) ds m b.present b.used)
+      ap (λ (rs : List Record). with_step b rs (devices_of x.drivers) m b.present.slot b.present.used) records
+      ∙ ap (λ (ds : Devices). with_step b (slice_set w.records slot (operated verb acted_on)) ds m b.present.slot
+      b.present.used)
       (drives_shown (id_of slot t.at.before.1) (verb_acts verb t.at.before.0) (let_in b.machine c.rest).drivers
       x.drivers
       t.does.drives)

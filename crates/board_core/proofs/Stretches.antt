@@ -2,9 +2,10 @@
 use Rattle.board_devices.specs.Clock.{clock_at}
 use Rattle.alarm_capsule.proofs.KeptTimes.{all_later, kept_tell}
 use Rattle.driver_model.specs.Laws.{TimeBringsNearer}
-use Rattle.std.proofs.Common.{◌≡◌, ℕ, zero, suc, ◌+◌, ◌-◌, ◌<◌, ◌≤◌, Bool, true, false, List, [], ◌∷◌, length, map}
+use Rattle.std.proofs.Common.{◌≡◌, ℕ, zero, suc, ◌+◌, ◌-◌, ◌%◌, ◌<◌, ◌≤◌, Bool, true, false, List, [], ◌∷◌, length, map}
 use Rattle.std.proofs.Common.{◌||◌, cond, find, is_some, slice_get, slice_set, All, Option, None, Some, refl, sym, ap}
-use Rattle.std.proofs.Common.{ap₂, subst, ◌∙◌, arith}
+use Rattle.std.proofs.Common.{ap₂, subst, ◌∙◌, arith, ◌==◌, ◌⊎◌, inl, inr, slice_index_or}
+use Rattle.std.proofs.Math.Nat.{mod-eq_of_lt, mod-lt}
 use Rattle.process_model.specs.Own.{Own}
 use Rattle.process_record.specs.declared.process.Process.{Process}
 use Rattle.rv32_model.specs.declared.turn_end.TurnEnd.{TurnEnd}
@@ -23,6 +24,7 @@ use Rattle.tk_base.specs.declared.process.Choice.TheVariants.{Run, Device, Pass}
 use Rattle.tk_base.specs.declared.process.Dev.{Dev}
 use Rattle.partition_turns.specs.Windows.{window_end}
 use Rattle.partition_turns.proofs.Found.{find_range-none}
+use Rattle.turn_scheduler.specs.Parts.{place_is_ready}
 use Rattle.turn_scheduler.specs.RoundRobin.{choice, device_order, next_slot, ready_device, used_after}
 use Rattle.process_record.specs.declared.process.State.{State}
 use Rattle.process_record.specs.declared.process.State.TheVariants.{Running, Yielded, Faulted, Terminated}
@@ -40,6 +42,9 @@ use Rattle.driver_model.specs.Alarm.{nearer}
 use Rattle.kernel_model.specs.World.{World, is_let, only_in, owns_in}
 use Rattle.kernel_model.specs.Parts.{work_of}
 use Rattle.kernel_model.specs.Named.{can_run}
+use Rattle.kernel_model.proofs.Places.{slice_get-set_other}
+use Rattle.kernel_laws.specs.Alone.{IsAlone, OneAloneGoesOn, OneAloneIsNext, used_through}
+use Rattle.kernel_laws.proofs.OneRun.{told_ready}
 use Rattle.kernel_laws.proofs.Turns.{turn_is_free, turn_is_let, turn_is_ready}
 use Rattle.board_drivers.specs.Calm.{AlarmsTell, HasCome, IsCalm, ServesNobody, only_of, work_then}
 use Rattle.board_core.specs.declared.state.BoardState.{BoardState}
@@ -62,13 +67,14 @@ use Rattle.board_core.proofs.Devices.{lost_where, still_lost_on}
 use Rattle.board_drivers.proofs.Lines.{line_after}
 use Rattle.board_drivers.proofs.Pairs.{get-firsts}
 use Rattle.board_drivers.proofs.Records.{reads_shown}
-use Rattle.board_core.proofs.Boards.{next_in_calm}
+use Rattle.board_core.proofs.Boards.{next_in_calm, resident_at, turns_shown}
 use Rattle.board_core.proofs.Ready.{calm_ready, devices_shown, next_shown, owns_in_world}
 use Rattle.board_turns.proofs.Quiet.{own_after, none_more, kept_own}
 use Rattle.board_turns.specs.declared.machine.Machine.{Machine}
 use Rattle.upcall_queue.specs.Pending.{due}
 use Rattle.kernel_model.specs.Turn.{has_turn}
-use Rattle.board_turns.specs.ReadySlots.{TurnsTell}
+use Rattle.board_turns.specs.ReadySlots.{TurnsTell, how_many}
+use Rattle.board_turns.proofs.Counted.{one_counted}
 use Rattle.board_turns.proofs.TurnsKept.{still_ready}
 
 -- drivers of which nothing is asked, and who waits, while a process's RAM changes and time passes
@@ -104,6 +110,10 @@ served_by_none false false false false false false none = (refl, refl, refl)
 -- the moment some turns later
 abbrev pub turns_later : ℕ → Moment → Moment
 turns_later k m = record m { time = m.time + k; steps = m.steps + k }
+
+-- who has the next turn where the round robin goes on: the present slot in its slice, and one that is alone
+abbrev StaysOn : Type 0
+StaysOn = PresentStaysOn × OneAloneIsNext
 
 -- what always holds of a board, after so many turns that left these processes and what is their own
 pub record StillHolds (b : BoardState) (k : ℕ) (home : Homes) (processes : List Process) : Type 0 where
@@ -203,6 +213,20 @@ module _ (b : BoardState) (board : IsBoard b) where
       board.machine.driven.slots) (λ p. refl))
       ∙ slice_get-map (λ (r : Resident). r.0) (residents b) slot
       ∙ sym (get-firsts b.processes.items b.machine.home.owns slot board.owns)
+
+  -- what is kept of which slots can have a turn, in the world
+  table_shown : (slot : ℕ) → slice_index_or b.machine.ready slot false ≡ can_run (slice_get (world_of b).records slot)
+  table_shown slot =
+      board.ready slot ∙ resident_at (residents b) slot
+      ∙ ap (λ (table : List Bool). place_is_ready table slot) (sym (turns_shown b board))
+      ∙ told_ready (world_of b).records slot
+
+  -- where one slot can, and it has the next turn, no other can
+  pub alone_shown : (slot : ℕ) → next (world_of b) ≡ Some (Run slot) → (how_many b.machine.ready == 1) ≡ true
+      → IsAlone (world_of b) slot
+  alone_shown slot f one other apart =
+      sym (table_shown other)
+      ∙ one_counted b.machine.ready slot other one (table_shown slot ∙ turn_is_ready (world_of b) slot f) apart
 
   -- while a stretch goes on something is left to do
   left_there : GoesOn (world_of b) → is_left (world_of b) ≡ true
@@ -348,7 +372,7 @@ module _ (b : BoardState) (board : IsBoard b) where
     state_is (Terminated code) e = cc
 
     -- no turns leave the world as it was
-    none_left : k ≡ 0 → present ≡ b.present → used ≡ b.used → world_then ≡ world_of b
+    none_left : k ≡ 0 → present ≡ b.present.slot → used ≡ b.present.used → world_then ≡ world_of b
     unfolding after_instructions
     none_left none p u =
         ap (λ (rs : List Record). with_step b rs (devices_of b.machine.drivers) (turns_later k b.machine.moment) present
@@ -359,55 +383,84 @@ module _ (b : BoardState) (board : IsBoard b) where
         ∙ ap₂ (λ (o : Option ℕ) (n : ℕ). with_step b (world_of b).records (devices_of b.machine.drivers)
         (turns_later k b.machine.moment) o n) p u
         ∙ ap (λ (n : ℕ). with_step b (world_of b).records (devices_of b.machine.drivers)
-        (turns_later n b.machine.moment) b.present
-        b.used) none
+        (turns_later n b.machine.moment) b.present.slot
+        b.present.used) none
         ∙ ap₂ (λ (time steps : ℕ). with_step b (world_of b).records (devices_of b.machine.drivers)
-        (record b.machine.moment { time = time; steps = steps }) b.present b.used) (none_more b.machine.moment.time)
+        (record b.machine.moment { time = time; steps = steps }) b.present.slot b.present.used)
+        (none_more b.machine.moment.time)
         (none_more b.machine.moment.steps)
 
-    -- some are a stretch
+    -- some are a stretch, which lasts up to the end of the slice, or beyond it where no other slot can have a turn
     module _ (f : next (world_of b) ≡ Some (Run slot)) (runs : is_running q.at.before.0.state ≡ true) (first : ℕ)
-        (begins : first ≡ used_after b.present b.used b.slice slot - 1) (lasts : first + k ≤ b.slice)
+        (begins : first ≡ used_after b.present.slot b.present.used b.present.slice slot - 1) (last : ℕ)
+        (lasts : first + k ≤ last) (alone_or : (last ≡ b.present.slice) ⊎ IsAlone (world_of b) slot)
         (until : b.machine.moment.time + k ≤ b.machine.calm) (limit : b.machine.moment.steps + k ≤ STEP_LIMIT)
-        (none : k ≡ 0 → (present ≡ b.present) × (used ≡ b.used))
-        (some : 0 < k → (present ≡ Some slot) × (used ≡ first + k)) where
+        (none : k ≡ 0 → (present ≡ b.present.slot) × (used ≡ b.present.used))
+        (some : 0 < k → (present ≡ Some slot) × (used ≡ used_through b.present.slice first k)) where
       -- the process is not held, since it has the next turn
       free : before.process.held ≡ false
       free = turn_is_free (world_of b) slot before was_there f
 
-      stretched : RoundIsStretch → PresentIsNextOnTheWay → 0 < k → IsStretch k (world_of b) world_then
-      stretched law chooses more =
-          subst (IsStretch k (world_of b)) (sym same)
-          (law k slot (world_of b) before more limit f was_there (state_is q.at.before.0.state runs) lasts_so
-          (q.does.go pressed storage)
-          (chooses k slot (at_turn (world_of b) slot) before refl was_there (state_is q.at.before.0.state runs) free
-          lasts_so (lets_on f until) (none_acts until)))
-        where
-          lasts_so : (at_turn (world_of b) slot).present.used + k ≤ b.slice
-          lasts_so = subst (λ (n : ℕ). n + k ≤ b.slice) begins lasts
+      within : slot < SLOT_COUNT
+      within = omega (
+        arith,
+        board.few,
+        slice_get_within b.processes.items slot before.process (sym (process_there slot)
+            ∙ ap (option_map (λ (r : Record). r.process)) was_there),
+      )
 
-          same : world_then ≡ after_stretch k (at_turn (world_of b) slot) slot (after_instructions k before)
-          same =
+      -- in one slice each turn counts
+      in_slice : last ≡ b.present.slice → 0 < k → used ≡ first + k
+      in_slice is more = (some more).1 ∙ whole (mod-eq_of_lt (omega (arith, lasts, is, more)))
+        where
+          whole : (first + k - 1) % b.present.slice ≡ first + k - 1 → used_through b.present.slice first k ≡ first + k
+          whole e = omega (arith, e, more)
+
+      stretched : RoundIsStretch → PresentIsNextOnTheWay → OneAloneGoesOn → 0 < k
+          → IsStretch k (world_of b) world_then
+      stretched law chooses law_alone more = by_slice alone_or
+        where
+          same : (n : ℕ) → used ≡ n
+              → world_then ≡ record (after_stretch k (at_turn (world_of b) slot) slot (after_instructions k before)) {
+                present = record { slot = Some slot; used = n };
+              }
+          same n is =
               ap (λ (rs : List Record). with_step b rs (devices_of b.machine.drivers) (turns_later k b.machine.moment)
               present used)
               (records_then ∙ ap (slice_set (world_of b).records slot) (q.does.leads pressed storage))
-              ∙ ap₂ (λ (o : Option ℕ) (n : ℕ). with_step b
+              ∙ ap₂ (λ (o : Option ℕ) (m : ℕ). with_step b
               (slice_set (world_of b).records slot (after_instructions k before)) (devices_of b.machine.drivers)
-              (turns_later k b.machine.moment) o n) (some more).0 ((some more).1 ∙ ap (λ (n : ℕ). n + k) begins)
+              (turns_later k b.machine.moment) o m) (some more).0 is
 
-      by_count : RoundIsStretch → PresentIsNextOnTheWay → NoneIsStretch → (n : ℕ) → n ≡ k
+          lasts_so : last ≡ b.present.slice → (at_turn (world_of b) slot).present.used + k ≤ b.present.slice
+          lasts_so is = subst (λ (n : ℕ). n + k ≤ b.present.slice) begins (subst (λ (n : ℕ). first + k ≤ n) is lasts)
+
+          by_slice : (last ≡ b.present.slice) ⊎ IsAlone (world_of b) slot → IsStretch k (world_of b) world_then
+          by_slice (inl is) =
+              subst (IsStretch k (world_of b)) (sym (same _ (in_slice is more ∙ ap (λ (n : ℕ). n + k) begins)))
+              (law k slot (world_of b) before more limit f was_there (state_is q.at.before.0.state runs) (lasts_so is)
+              (q.does.go pressed storage)
+              (chooses k slot (at_turn (world_of b) slot) before refl was_there (state_is q.at.before.0.state runs) free
+              (lasts_so is) (lets_on f until) (none_acts until)))
+          by_slice (inr alone) =
+              subst (IsStretch k (world_of b))
+              (sym (same _ ((some more).1 ∙ ap (λ (n : ℕ). used_through b.present.slice n k) begins)))
+              (law_alone k slot (world_of b) before more limit board.slice within f was_there
+              (state_is q.at.before.0.state runs) alone (q.does.go pressed storage) (lets_on f until) (none_acts until))
+
+      by_count : RoundIsStretch → PresentIsNextOnTheWay → OneAloneGoesOn → NoneIsStretch → (n : ℕ) → n ≡ k
           → IsStretch k (world_of b) world_then
-      by_count law chooses law_none zero e =
+      by_count law chooses law_alone law_none zero e =
           subst (λ (n : ℕ). IsStretch n (world_of b) world_then) e
           (law_none (world_of b) world_then (none_left (sym e) (none (sym e)).0 (none (sym e)).1))
-      by_count law chooses law_none (suc n) e = stretched law chooses (omega (arith, e))
+      by_count law chooses law_alone law_none (suc n) e = stretched law chooses law_alone (omega (arith, e))
 
       -- so the round robin's next steps are these turns
-      pub stretch_shown : (ticks : ℕ) (w : World) → RoundIsStretch → PresentIsNextOnTheWay → NoneIsStretch
-          → ticks ≡ k → world_of b ≡ w → IsStretch k w (world_after_ticks ticks)
-      stretch_shown ticks w law chooses law_none is shown =
+      pub stretch_shown : (ticks : ℕ) (w : World) → RoundIsStretch → PresentIsNextOnTheWay → OneAloneGoesOn
+          → NoneIsStretch → ticks ≡ k → world_of b ≡ w → IsStretch k w (world_after_ticks ticks)
+      stretch_shown ticks w law chooses law_alone law_none is shown =
           subst (λ (n : ℕ). IsStretch k w (world_after_ticks n)) (sym is)
-          (subst (λ (v : World). IsStretch k v world_then) shown (by_count law chooses law_none k refl))
+          (subst (λ (v : World). IsStretch k v world_then) shown (by_count law chooses law_alone law_none k refl))
 
       after_runs : after.process.state ≡ Running
       after_runs = ap (λ (r : Record). r.process.state) (q.does.leads pressed storage) ∙ still_runs k before
@@ -416,28 +469,44 @@ module _ (b : BoardState) (board : IsBoard b) where
       after_free : after.process.held ≡ false
       after_free = ap (λ (r : Record). r.process.held) (q.does.leads pressed storage) ∙ still_free k before ∙ free
 
+      -- no other slot can have a turn then
+      alone_then : IsAlone (world_of b) slot → IsAlone world_then slot
+      alone_then alone other apart =
+          ap (λ (rs : List Record). can_run (slice_get rs other)) records_then
+          ∙ ap can_run (slice_get-set_other (world_of b).records slot other after apart) ∙ alone other apart
+
       -- the slot is let then, where the window lasts
       still_let : b.machine.moment.time + k < b.machine.calm → is_let (only_in world_then) slot ≡ true
       still_let below =
           ap (λ (only : Option ℕ). is_let only slot)
           (board.machine.calm.same (b.machine.moment.time + k) (omega arith) below) ∙ turn_is_let (world_of b) slot f
 
-      -- who has the next turn then, where turns are left in the slice and the window lasts
-      turn_stays : PresentStaysOn → (n : ℕ) → n ≡ k → first + k < b.slice → b.machine.moment.time + k < b.machine.calm
+      -- the slot has the next turn then, where turns are left and the window lasts
+      turns_on : StaysOn → 0 < k → first + k < last → b.machine.moment.time + k < b.machine.calm
+          → next_slot (ready_slots world_then) present used b.present.slice ≡ Some slot
+      turns_on law more u below = by_slice alone_or
+        where
+          by_slice : (last ≡ b.present.slice) ⊎ IsAlone (world_of b) slot
+              → next_slot (ready_slots world_then) present used b.present.slice ≡ Some slot
+          by_slice (inl is) =
+              law.0 world_then slot after (some more).0 after_there after_runs after_free
+              (omega (arith, in_slice is more, u, is)) (still_let below)
+          by_slice (inr alone) =
+              law.1 world_then slot after within after_there after_runs after_free (alone_then alone) (still_let below)
+
+      -- so nobody else has it
+      turn_stays : StaysOn → (n : ℕ) → n ≡ k → first + k < last → b.machine.moment.time + k < b.machine.calm
           → (other : ℕ) → next world_then ≡ Some (Run other) → slot ≡ other
       turn_stays law zero e u below other g =
           let there = none (sym e) in
           same_slot slot other (sym f ∙ ap next (sym (none_left (sym e) there.0 there.1)) ∙ g)
       turn_stays law (suc n) e u below other g =
-          let there = some (omega (arith, e)) in
-          let stays : next_slot (ready_slots world_then) present used b.slice ≡ Some slot =
-          law world_then slot after there.0 after_there after_runs after_free (omega (arith, there.1, u))
-          (still_let below) in
+          let stays = turns_on law (omega (arith, e)) u below in
           let is : ◌≡◌ {A = Option ℕ} (Some slot) (Some other) = sym stays ∙ chosen_slot world_then other g in
           cc
 
       -- and it is the next choice, where no turns were made, or no device step is ready
-      stays_next : PresentStaysOn → (n : ℕ) → n ≡ k → (0 < k → first + k < b.slice)
+      stays_next : StaysOn → (n : ℕ) → n ≡ k → (0 < k → first + k < last)
           → (0 < k → b.machine.moment.time + k < b.machine.calm)
           → (0 < k → ready_devices world_then ≡ false ∷ false ∷ false ∷ false ∷ false ∷ false ∷ [])
           → Some (Run slot) ≡ next world_then
@@ -445,18 +514,15 @@ module _ (b : BoardState) (board : IsBoard b) where
           let there = none (sym e) in sym f ∙ ap next (sym (none_left (sym e) there.0 there.1))
       stays_next law (suc n) e u below calm =
           let more : 0 < k = omega (arith, e) in
-          let there = some more in
-          next_in_calm world_then (Some slot) (calm more)
-          (sym (law world_then slot after there.0 after_there after_runs after_free (omega (arith, there.1, u more))
-          (still_let (below more))))
+          next_in_calm world_then (Some slot) (calm more) (sym (turns_on law more (u more) (below more)))
 
-      pub next_stays : PresentStaysOn → (ticks left : ℕ) → ticks ≡ k → k ≤ left → (left ≤ k → left ≡ 0)
-          → first + left ≤ b.slice → b.machine.moment.time + left ≤ b.machine.calm
+      pub next_stays : StaysOn → (ticks left : ℕ) → ticks ≡ k → k ≤ left → (left ≤ k → left ≡ 0)
+          → first + left ≤ last → b.machine.moment.time + left ≤ b.machine.calm
           → (k < left → ready_devices (world_after_ticks ticks) ≡ false ∷ false ∷ false ∷ false ∷ false ∷ false ∷ [])
           → Some (Run slot) ≡ next (world_after_ticks ticks)
-      next_stays law ticks left is made ends last within calm =
+      next_stays law ticks left is made ends up_to in_calm calm =
           subst (λ (n : ℕ). Some (Run slot) ≡ next (world_after_ticks n)) (sym is)
-          (stays_next law k refl (λ more. omega (arith, last, fewer more)) (λ more. omega (arith, within, fewer more))
+          (stays_next law k refl (λ more. omega (arith, up_to, fewer more)) (λ more. omega (arith, in_calm, fewer more))
           (λ more. subst (λ (n : ℕ). ready_devices (world_after_ticks n)
           ≡ false ∷ false ∷ false ∷ false ∷ false ∷ false ∷ []) is (calm (fewer more))))
         where
@@ -467,26 +533,26 @@ module _ (b : BoardState) (board : IsBoard b) where
           fewer more = omega (arith, not_all more)
 
       -- where the turns are fewer than were left, the stretch does not go on
-      stops_there : PresentStaysOn → first + most ≤ b.slice → b.machine.moment.time + most ≤ b.machine.calm → k < most
+      stops_there : StaysOn → first + most ≤ last → b.machine.moment.time + most ≤ b.machine.calm → k < most
           → GoesOn world_then → ⊥
-      stops_there law last within fewer g =
-          let at : slot ≡ g.slot = turn_stays law k refl (omega (arith, last, fewer)) (omega (arith, within, fewer))
+      stops_there law up_to in_calm fewer g =
+          let at : slot ≡ g.slot = turn_stays law k refl (omega (arith, up_to, fewer)) (omega (arith, in_calm, fewer))
           g.slot g.chosen in
           let same : Some after ≡ Some g.before = sym after_there ∙ ap (slice_get world_then.records) at ∙ g.is_there in
           let is : after ≡ g.before = cc in
           q.does.stops fewer pressed storage (ap (λ (r : Record). (instruction r).end) is ∙ g.goes)
 
       -- nor where none were left
-      pub ends_shown : PresentStaysOn → (ticks asked until : ℕ) → ticks ≡ k → k ≤ most → (most ≤ k → most ≡ 0)
-          → first + most ≤ b.slice → b.machine.moment.time + most ≤ b.machine.calm → first < b.slice
+      pub ends_shown : StaysOn → (ticks asked until : ℕ) → ticks ≡ k → k ≤ most → (most ≤ k → most ≡ 0)
+          → first + most ≤ last → b.machine.moment.time + most ≤ b.machine.calm → first < last
           → b.machine.moment.time < until → 0 < asked
-          → (most < asked → first + most < b.slice → b.machine.moment.steps + most < STEP_LIMIT
+          → (most < asked → first + most < last → b.machine.moment.steps + most < STEP_LIMIT
           → b.machine.moment.time + most < until
           → ⊥)
           → GoesOn (world_after_ticks ticks) → ⊥
-      ends_shown law ticks asked until is made ends last within below ahead asks all g =
+      ends_shown law ticks asked until is made ends up_to in_calm below ahead asks all g =
           let goes : GoesOn world_then = subst (λ (n : ℕ). GoesOn (world_after_ticks n)) is g in
-          let not_fewer : k < most → ⊥ = λ h. stops_there law last within h goes in
+          let not_fewer : k < most → ⊥ = λ h. stops_there law up_to in_calm h goes in
           let zero_left : most ≡ 0 = ends (omega (arith, not_fewer)) in
           let limit : b.machine.moment.steps + k < STEP_LIMIT = goes.limit in
           all (omega (arith, zero_left, asks)) (omega (arith, zero_left, below)) (omega (arith, zero_left, made, limit))
@@ -557,10 +623,11 @@ module _ (b : BoardState) (board : IsBoard b) where
             ∙ ap (λ (o : Own). not q.at.before.0.held && has_turn q.at.before.0.state (due o.inbox)) kept
 
 -- what is used of a slice, after so many turns
-pub used_within : (before slice first k used : ℕ) → before ≤ slice → first + k ≤ slice → (k ≡ 0 → used ≡ before)
-    → (0 < k → used ≡ first + k) → used ≤ slice
-used_within before slice first zero used h lasts none some = omega (arith, h, none refl)
-used_within before slice first (suc k) used h lasts none some = omega (arith, lasts, some (omega arith))
+pub used_within : (before slice first k used : ℕ) → before ≤ slice → 1 ≤ slice → (k ≡ 0 → used ≡ before)
+    → (0 < k → used ≡ used_through slice first k) → used ≤ slice
+used_within before slice first zero used h one none some = omega (arith, h, none refl)
+used_within before slice first (suc k) used h one none some =
+    omega (arith, mod-lt (first + suc k - 1) {m = slice} one, some (omega arith))
 
 -- a slot whose process runs is one of the table's
 pub runs_within : (processes : List Process) (slot : ℕ) → slot_runs (slice_get processes slot) ≡ true

@@ -288,7 +288,7 @@ module _ (b a : BoardState) (slot : ℕ) (shown : Shown) (h : IsBoard b)
       → IsCalm b.machine.moment.settings.start b.machine.moment.window (b.machine.moment.time + 1) calm
       a.machine.home.owns a.machine.drivers
       → AlarmsTell (turn_later b.machine.moment) times a.machine.home.owns
-      → TurnsTell ready (zip a.processes.items a.machine.home.owns) → used ≤ b.slice
+      → TurnsTell ready (zip a.processes.items a.machine.home.owns) → used ≤ b.present.slice
       → IsBoard (record b {
         machine = record a.machine {
           moment = turn_later b.machine.moment;
@@ -297,8 +297,7 @@ module _ (b a : BoardState) (slot : ℕ) (shown : Shown) (h : IsBoard b)
           ready = ready;
         };
         processes = a.processes;
-        present = Some slot;
-        used = used;
+        present = record b.present { slot = Some slot; used = used };
       })
   turned_board calm used times ready drops keeps may quiet tell turns within = record {
     machine = record {

@@ -28,10 +28,10 @@ world_of b = record {
       (zip (zip b.processes.items b.machine.home.owns) b.machine.drivers.stores.slots);
   unplaced = b.unplaced.items;
   settings = b.machine.moment.settings;
-  pace = record { slice = b.slice; window = b.machine.moment.window };
+  pace = record { slice = b.present.slice; window = b.machine.moment.window };
   devices = devices_of b.machine.drivers;
   clock = record { time = b.machine.moment.time; steps = b.machine.moment.steps };
-  present = record { slot = b.present; used = b.used };
+  present = record { slot = b.present.slot; used = b.present.used };
 }
 
 -- what always holds of a board
@@ -41,5 +41,5 @@ pub record IsBoard (b : BoardState) : Type 0 where
   pub owns : length b.machine.home.owns ≡ length b.processes.items
   pub few : length b.processes.items ≤ SLOT_COUNT
   pub ready : TurnsTell b.machine.ready (residents b)
-  pub slice : 1 ≤ b.slice
-  pub used : b.used ≤ b.slice
+  pub slice : 1 ≤ b.present.slice
+  pub used : b.present.used ≤ b.present.slice

@@ -23,6 +23,7 @@ use crate::lines::summary;
 use crate::operator::{act_meant, operate};
 use crate::settings::settings_of;
 use crate::shown::{clear, show};
+use crate::slices::PresentSlot;
 use crate::state::BoardState;
 use crate::turns::make_turn;
 use alarm_capsule::AlarmTimes;
@@ -100,11 +101,8 @@ impl Situated for Board {
     }
 
     fn present(&self) -> Present {
-        Present {
-            slot: self.state.present,
-            used: self.state.used,
-            slice: self.state.slice,
-        }
+        let PresentSlot { slot, used, slice } = self.state.present;
+        Present { slot, used, slice }
     }
 }
 
@@ -134,7 +132,11 @@ impl Board {
             time: 0,
             steps: 0,
         };
-        let slice = script.slice;
+        let present = PresentSlot {
+            slot: None,
+            used: 0,
+            slice: script.slice,
+        };
         let drivers = Drivers::new(alloc, script)?;
         let alarms = AlarmTimes::new();
         let ready = ReadySlots::new();
@@ -154,9 +156,7 @@ impl Board {
                 machine,
                 processes,
                 unplaced: unplaced(&placed),
-                slice,
-                present: None,
-                used: 0,
+                present,
             },
         })
     }

@@ -182,9 +182,9 @@ impl Board {
             devices: devices_ready(&self.state),
             next: time_ahead(&self.state),
             time: self.state.machine.moment.time,
-            present: self.state.present,
-            used: self.state.used,
-            slice: self.state.slice,
+            present: self.state.present.slot,
+            used: self.state.present.used,
+            slice: self.state.present.slice,
             lanes: lanes(&self.state),
         };
         self.add_ready(&mut status.ready);

@@ -1,9 +1,10 @@
 //! What a board is made of.
 
+use crate::slices::PresentSlot;
 use arrayvec::ArrayVec;
 use board_turns::Machine;
 use process_record::Process;
-use tk_base::{OBJECT_LIMIT, PlaceFault, Slot};
+use tk_base::{OBJECT_LIMIT, PlaceFault};
 
 /// What a board is made of. A board promises of it that it is one (`IsBoard`), as functions over it
 /// ask, and shows its world (`world_of`).
@@ -16,10 +17,6 @@ pub(crate) struct BoardState {
     pub processes: Vec<Process>,
     /// The applications that have no place.
     pub unplaced: ArrayVec<(u32, PlaceFault), OBJECT_LIMIT>,
-    /// How many turns a process may have in a row while another is ready.
-    pub slice: u32,
-    /// The slot that had the last turn.
-    pub present: Option<Slot>,
-    /// How many turns of its slice that slot has used.
-    pub used: u32,
+    /// The slot that had the last turn, in its slice.
+    pub present: PresentSlot,
 }

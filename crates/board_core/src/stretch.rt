@@ -11,9 +11,9 @@ ghost use Rattle.board_core.specs.KnownEnds.{IsKnownOfChoice};
 ghost use Rattle.board_core.specs.Stretches.{EndsStretch};
 
 use crate::board::Board;
-use crate::slices::{is_over, present_after, running_in, turns_left, used_before};
+use crate::slices::{is_over, running_in, turns_left};
 use driver_model::time_brings_an_alarm_nearer;
-use kernel_laws::round_is_stretch;
+use kernel_laws::{one_alone_goes_on, round_is_stretch};
 use kernel_lives::steps_are_accounted_for;
 use kernel_model::next_is_ready;
 use rv32_model::TurnEnd;
@@ -40,8 +40,8 @@ pub struct QuietTurns {
 }
 
 impl Board {
-    /// A part of a stretch: turns of one process in its slice, at most so many, up to when a device
-    /// step may be ready.
+    /// A part of a stretch: turns of one process, at most so many, up to when a device step may be
+    /// ready, and in its slice; where no other process can have a turn, slice after slice.
     fn run_part(&mut self, most: u32) -> Part
         requires { 0 < most }
         ensures most { result.made ≤ most }
@@ -53,6 +53,7 @@ impl Board {
             → IfSome result.next_choice (IsKnownOfChoice self.new result.end) }
     {
         round_is_stretch();
+        one_alone_goes_on();
         next_is_ready();
         time_brings_an_alarm_nearer();
         let next_choice = self.next_choice();
@@ -73,10 +74,12 @@ impl Board {
                 end: TurnEnd::Went,
             };
         }
-        let before = used_before(self.state.present, self.state.used, self.state.slice, slot);
+        let before = self.state.present.used_before(slot);
+        let alone = self.state.machine.ready.has_one();
+        let last = self.state.present.last_turn(alone);
         let left = turns_left(
             before,
-            self.state.slice,
+            last,
             &self.state.machine.moment,
             self.state.machine.calm,
             most,
@@ -86,15 +89,7 @@ impl Board {
             .machine
             .turns_at(&mut self.state.processes, slot, left);
         let made = stretch.went;
-        let (present, used) = present_after(
-            self.state.present,
-            self.state.used,
-            slot,
-            before,
-            made,
-        );
-        self.state.present = present;
-        self.state.used = used;
+        self.state.present.go_on(slot, before, made);
         let ticks = u64::from(made);
         self.state.machine.moment.time += ticks;
         self.state.machine.moment.steps += ticks;

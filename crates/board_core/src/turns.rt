@@ -14,7 +14,6 @@ use kernel_laws::{grants_change_at_calls, turns_keep_lines};
 use process_record::Emit;
 use rv32_model::TurnEnd;
 use tk_base::{NotReady, STEP_LIMIT, Slot};
-use turn_scheduler::used_after;
 
 /// A turn of the process in a slot; `NotReady` where it can have none, and nothing has changed then.
 /// When its alarm becomes due is looked at again where the turn may have armed one, and when a
@@ -43,8 +42,7 @@ pub(crate) fn make_turn(
     clear(emit, Some(slot));
     state.machine.turn_at(&mut state.processes, slot, end, emit);
     state.machine.look_at(&state.processes, slot);
-    state.used = used_after(state.present, state.used, state.slice, slot);
-    state.present = Some(slot);
+    state.present.take_turn(slot);
     state.machine.moment.time += 1;
     state.machine.moment.steps += 1;
     state.machine.note_turn(slot, emit);

@@ -1,6 +1,7 @@
 -- How many flags of a table are set.
-use Rattle.std.proofs.Common.{◌≡◌, ℕ, zero, suc, ◌+◌, ◌<◌, ◌≤◌, Bool, true, false, List, [], ◌∷◌, refl, arith}
-use Rattle.std.proofs.Common.{length, nat_lt, slice_set, slice_index_or}
+use Rattle.std.proofs.Common.{◌≡◌, ◌≢◌, ℕ, zero, suc, ◌+◌, ◌<◌, ◌≤◌, ◌==◌, Bool, true, false, List, [], ◌∷◌, arith}
+use Rattle.std.proofs.Common.{refl, length, nat_lt, slice_set, slice_index_or, sym, ap, ◌∙◌, eqb-true}
+use Rattle.std.proofs.lemmas.Bool.{false≢true}
 use Rattle.std.proofs.lemmas.Bool.Decides.{nat_tests}
 use Rattle.board_turns.specs.ReadySlots.{how_many, NoneBeyond}
 
@@ -40,3 +41,20 @@ none_counted flags e = none_set flags (none (how_many flags) e)
   where
     none : (count : ℕ) → nat_lt 0 count ≡ false → count ≡ 0
     none count e = grind (arith, nat_tests)
+
+-- where one is, no other is set
+one_set : (flags : List Bool) (place other : ℕ) → how_many flags ≡ 1 → slice_index_or flags place false ≡ true
+    → other ≢ place → slice_index_or flags other false ≡ false
+one_set [] place other e is apart = refl
+one_set (true ∷ flags) zero zero e is apart = absurd (apart refl)
+one_set (true ∷ flags) zero (suc other) e is apart = none_set flags (omega (arith, e)) other (omega arith)
+one_set (true ∷ flags) (suc place) other e is apart =
+    absurd (false≢true (sym (none_set flags (omega (arith, e)) place (omega arith)) ∙ is))
+one_set (false ∷ flags) zero other e is apart = absurd (false≢true is)
+one_set (false ∷ flags) (suc place) zero e is apart = refl
+one_set (false ∷ flags) (suc place) (suc other) e is apart =
+    one_set flags place other e is (λ same. apart (ap suc same))
+
+pub one_counted : (flags : List Bool) (place other : ℕ) → (how_many flags == 1) ≡ true
+    → slice_index_or flags place false ≡ true → other ≢ place → slice_index_or flags other false ≡ false
+one_counted flags place other e = one_set flags place other (eqb-true (how_many flags) 1 e)

@@ -1,6 +1,6 @@
 //! Which processes can have a turn.
-ghost use Rattle.std.specs.Prelude.{◌≡◌, ◌<◌, ◌≤◌, false, length, replicate, slice_get, slice_index_or};
-ghost use Rattle.std.specs.Prelude.{nat_lt, slice_set};
+ghost use Rattle.std.specs.Prelude.{◌≡◌, ◌<◌, ◌≤◌, ◌==◌, false, length, replicate, slice_get};
+ghost use Rattle.std.specs.Prelude.{slice_index_or, nat_lt, slice_set};
 ghost use Rattle.std.specs.List.{zip};
 ghost use Rattle.tk_base.specs.declared.limits.TheConstants.{SLOT_COUNT};
 ghost use Rattle.board_drivers.specs.Residents.{can_turn_in};
@@ -75,6 +75,14 @@ impl ReadySlots {
         ensures { result ≡ nat_lt 0 (how_many self.now) }
     {
         self.count > 0
+    }
+
+    /// Whether the process in one slot alone can.
+    #[inline(always)]
+    pub fn has_one(&self) -> bool
+        ensures { result ≡ (how_many self.now == 1) }
+    {
+        self.count == 1
     }
 
     /// Notes whether the process in a slot can have a turn.

@@ -4,6 +4,7 @@ pub mod Turns
 mod Stretch
 pub mod Causes
 mod Time
+mod Alone
 mod Answered
 mod Caused
 pub mod OneRun

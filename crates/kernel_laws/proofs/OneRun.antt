@@ -94,7 +94,7 @@ chosen_are_ready law (suc n) w within = by_choice (next w) refl (λ c within. ch
         (later c (omega (arith, within, steps_at_most w c)))
 
 -- what the round robin reads of the records
-told_ready : (records : List Record) (s : ℕ)
+pub told_ready : (records : List Record) (s : ℕ)
     → slice_index_or (map may_turn records) s false ≡ can_run (slice_get records s)
 told_ready [] s = refl
 told_ready (r ∷ rs) zero = refl

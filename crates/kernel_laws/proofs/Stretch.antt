@@ -46,7 +46,7 @@ set-same (y ∷ ys) (suc i) x e = ap (λ zs. y ∷ zs) (set-same ys i x e)
 none_more : (n : ℕ) → n + 0 ≡ n
 none_more n = omega arith
 
-one_then : (n k : ℕ) → n + suc k ≡ n + 1 + k
+pub one_then : (n k : ℕ) → n + suc k ≡ n + 1 + k
 one_then n k = omega arith
 
 abbrev quiet_told : Record → TurnTrace
@@ -60,24 +60,38 @@ went s time r free runs e =
     free_turned s time r free ∙ ap (λ (state : State). turn_in s time state r) runs
     ∙ ap (at_turn_end s time (instruction_made r) (instruction r).accesses) e
 
+-- a slot whose process runs is ready where it is let
+pub runs_and_goes : (w : World) (slot : ℕ) (r : Record) → slice_get w.records slot ≡ Some r → r.process.state ≡ Running
+    → r.process.held ≡ false → is_let (only_in w) slot ≡ true → is_ready_at (ready_slots w) slot ≡ true
+runs_and_goes w slot r at runs free lets =
+    ready_goes (only_in w) (map may_turn w.records) slot lets
+    (get_or_from_slice_get (map may_turn w.records) slot true false
+    (slice_get-map may_turn w.records slot ∙ ap (option_map may_turn) at ∙ ap Some may))
+  where
+    may : may_turn r ≡ true
+    may = ap₂ (λ (held : Bool) (state : State). not held && has_turn state (due r.own.inbox)) free runs
+
 -- a present slot whose process runs goes on with its slice
 pub stays_on : PresentStaysOn
 unfolding next_slot
 stays_on w slot r p at runs free u lets =
     subst (λ (o : Option ℕ). next_slot (ready_slots w) o w.present.used w.pace.slice ≡ Some slot) (sym p)
     (ap (λ (g : Bool). if g then Some slot else find (is_ready_at (ready_slots w)) (slots_after (Some slot)))
-    (ap (λ (b : Bool). b && nat_lt w.present.used w.pace.slice) ready ∙ left))
+    (ap (λ (b : Bool). b && nat_lt w.present.used w.pace.slice) (runs_and_goes w slot r at runs free lets) ∙ left))
   where
-    may : may_turn r ≡ true
-    may = ap₂ (λ (held : Bool) (state : State). not held && has_turn state (due r.own.inbox)) free runs
-
-    ready : is_ready_at (ready_slots w) slot ≡ true
-    ready = ready_goes (only_in w) (map may_turn w.records) slot lets
-        (get_or_from_slice_get (map may_turn w.records) slot true false
-        (slice_get-map may_turn w.records slot ∙ ap (option_map may_turn) at ∙ ap Some may))
-
     left : (true && nat_lt w.present.used w.pace.slice) ≡ true
     left = grind (arith, nat_tests)
+
+-- the slot that has the next turn of a process is the next choice, where no device step is ready
+pub chosen_next : (w : World) (slot : ℕ) → ready_device (ready_devices w) ≡ None
+    → next_slot (ready_slots w) w.present.slot w.present.used w.pace.slice ≡ Some slot → next w ≡ Some (Run slot)
+unfolding next choice
+chosen_next w slot calm turn =
+    let passes : Option Choice = option_map (λ n. Pass (n - w.clock.time)) (next_time w) in
+    ap (λ (o : Option Dev). option_or (option_map Device o)
+    (option_or (option_map Run (next_slot (ready_slots w) w.present.slot w.present.used w.pace.slice)) passes))
+    calm
+    ∙ ap (λ (o : Option ℕ). option_or (option_map Run o) passes) turn
 
 -- a turn of a process that runs is ready below the limit of steps
 runs_ready : (w : World) (slot : ℕ) (r : Record) → slice_get w.records slot ≡ Some r → r.process.state ≡ Running
@@ -109,13 +123,7 @@ module _ (w : World) (slot : ℕ) (r : Record) (p : w.present.slot ≡ Some slot
   -- the present slot goes on
   goes_on_next : ready_device (ready_devices w) ≡ None → w.present.used < w.pace.slice
       → is_let (only_in w) slot ≡ true → next w ≡ Some (Run slot)
-  unfolding next choice
-  goes_on_next calm u lets =
-      let passes : Option Choice = option_map (λ n. Pass (n - w.clock.time)) (next_time w) in
-      ap (λ (o : Option Dev). option_or (option_map Device o)
-      (option_or (option_map Run (next_slot (ready_slots w) w.present.slot w.present.used w.pace.slice)) passes))
-      calm
-      ∙ ap (λ (o : Option ℕ). option_or (option_map Run o) passes) (stays_on w slot r p at runs free u lets)
+  goes_on_next calm u lets = chosen_next w slot calm (stays_on w slot r p at runs free u lets)
 
   used_more : w.present.used < w.pace.slice
       → used_after w.present.slot w.present.used w.pace.slice slot ≡ w.present.used + 1
@@ -151,7 +159,7 @@ module _ (w : World) (slot : ℕ) (r : Record) (p : w.present.slot ≡ Some slot
       made_by t = record { after = after_turn_of w slot t; labels = turn_label slot w.clock.time t.told ∷ [] }
 
   -- the stretch goes on with the rest from there
-  together : (k : ℕ) (later : Record)
+  pub together : (k : ℕ) (later : Record)
       → after_stretch k (after_stretch 1 w slot (instruction_made r)) slot later ≡ after_stretch (suc k) w slot later
   together k later =
       ap (λ (rs : List Record). record w {

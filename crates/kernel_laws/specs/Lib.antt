@@ -17,3 +17,4 @@ pub mod Passes
 pub mod Arming
 pub mod Restarting
 pub mod Withdrawing
+pub mod Alone

@@ -10,8 +10,8 @@ mod steps;
 pub use bytes::{answers_have_causes, steps_have_causes, turns_have_causes};
 pub use edges::edges_schedule_once;
 pub use rounds::{
-    a_run_is_one_run, alarms_fire_when_due, next_is_of_the_window, passes_stop_at_the_nearest,
-    ready_processes_have_turns, round_is_stretch, rounds_join,
+    a_run_is_one_run, alarms_fire_when_due, next_is_of_the_window, one_alone_goes_on,
+    passes_stop_at_the_nearest, ready_processes_have_turns, round_is_stretch, rounds_join,
 };
 pub use steps::{
     alarms_and_buttons_are_set_by_commands, deliveries_stand_in_registers, grants_change_at_calls,

@@ -2,6 +2,7 @@
 ghost use Rattle.kernel_model.specs.Stretch.{NoneIsStretch, PresentIsNextOnTheWay, PresentStaysOn};
 ghost use Rattle.kernel_model.specs.Stretch.{RoundIsStretch, RoundsJoin, StretchesJoin};
 ghost use Rattle.kernel_laws.specs.Windows.{LanesAreAhead, NextIsOfTheWindow};
+ghost use Rattle.kernel_laws.specs.Alone.{OneAloneGoesOn, OneAloneIsNext};
 ghost use Rattle.kernel_laws.specs.Alarms.{AlarmsComeFirst, NextIsTheLeast, NoneFiresEarly};
 ghost use Rattle.kernel_laws.specs.Alarms.{PassesStopAtAlarms};
 ghost use Rattle.kernel_laws.specs.Fairness.{ReadyProcessesHaveTurns};
@@ -21,6 +22,15 @@ pub fn round_is_stretch()
     ensures stays { PresentStaysOn }
     ensures none { NoneIsStretch }
     ensures join { StretchesJoin }
+{}
+
+/// Where the process in one slot alone can have a turn, and it runs, that slot has the next turn,
+/// whoever is present and however much of the slice is used. So as long as no device step is ready
+/// a run makes the instructions of its process, those that go, slice after slice.
+#[tactic(auto, using(crate::proofs::Alone::one_alone_is_next, crate::proofs::Alone::one_alone_goes_on))]
+pub fn one_alone_goes_on()
+    ensures next { OneAloneIsNext }
+    ensures stretch { OneAloneGoesOn }
 {}
 
 /// A run is one of its first steps, and then one of the others.

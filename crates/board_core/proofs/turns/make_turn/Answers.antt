@@ -1,10 +1,10 @@
 use Rattle.std.specs.List.{zip}
 use Rattle.process_record.specs.declared.process.Process.{Process}
-use Rattle.std.proofs.Common.{◌≡◌, ◌≤◌, ◌+◌, ◌*◌, ◌^◌, ◌<◌, Bool, List, [], true, None, Some, refl, ap, sym, subst, ◌∙◌}
-use Rattle.std.proofs.Common.{arith, length}
+use Rattle.std.proofs.Common.{◌≡◌, ◌≤◌, ◌+◌, ◌*◌, ◌^◌, ◌<◌, Bool, List, [], true, None, refl, ap, ap₂, sym, subst}
+use Rattle.std.proofs.Common.{◌∙◌, arith, length}
 use Rattle.tk_base.specs.declared.process.Choice.TheVariants.{Run}
 use Rattle.tk_base.specs.declared.limits.TheConstants.{STEP_LIMIT}
-use Rattle.kernel_model.specs.World.{carried_out, is_ready}
+use Rattle.kernel_model.specs.World.{is_ready}
 use Rattle.process_record.specs.declared.emit.Emit.{Emit}
 use Rattle.board_devices.specs.Clock.{clock_at}
 use Rattle.board_drivers.specs.Driven.{AreFreeSoon}
@@ -12,6 +12,7 @@ use Rattle.board_drivers.proofs.Lanes.{later_free, same_free}
 use Rattle.board_turns.specs.Turning.{told_in_emit, with_shown}
 use Rattle.board_turns.specs.declared.machine.Machine.{Machine}
 use Rattle.board_turns.specs.Machines.{IsCalmUntil, KeepsAlarms, KeepsOtherAlarms}
+use Rattle.board_core.specs.declared.slices.PresentSlot.{PresentSlot}
 use Rattle.board_core.specs.Shows.{IsBoard, world_of}
 use Rattle.board_core.proofs.Boards.{below_limit, ready_within}
 use Rattle.driver_model.specs.Alarm.{ticks_left_in}
@@ -186,20 +187,19 @@ returns-clause-board c =
     let left = record b { machine = t.new.self; processes = t.new.processes } in
     let calm = c.note_turn.new.self.calm in
     let is = noted a.After-note_turn (looked a.After-look_at) in
-    subst (λ (m : Machine). IsBoard (record b {
+    subst IsBoard (sym (ap₂ (λ (m : Machine) (p : PresentSlot). record b {
       machine = m;
       processes = t.new.processes;
-      present = Some c.args.slot;
-      used = c.used_after-state.result;
-    })) (sym is)
+      present = p;
+    }) is c.take_turn.ensures.turn))
     (turned_board b left c.args.slot (told_in_emit t.new.emit) c.requires.board t.ensures.turn calm
-    c.used_after-state.result c.note_turn.new.self.alarms c.look_at.new.self.ready
+    c.take_turn.new.self.used c.note_turn.new.self.alarms c.look_at.new.self.ready
     c.grants_change_at_calls.ensures.drops c.turns_keep_lines.ensures.lines (can_run_is a.After-clear)
     (subst (λ (m : Machine). IsCalmUntil m calm) is c.note_turn.ensures.calm)
     (subst KeepsAlarms is c.note_turn.ensures.tell)
     (subst (λ (ps : List Process). TurnsTell c.look_at.new.self.ready (zip ps t.new.self.home.owns))
     c.deref.ensures.value c.look_at.ensures.tell)
-    (c.used_after-state.ensures.within c.requires.board.slice c.requires.board.used))
+    (c.take_turn.ensures.within c.requires.board.slice c.requires.board.used))
 
 pub returns-clause-step : goal.returns-clause-step
 returns-clause-step c =
@@ -213,13 +213,11 @@ returns-clause-step c =
     c.requires.board.few c.requires.board.machine.driven.slots in
     made_so (world_of b) (world_of c.args.state.now) _ (Run c.args.slot) c.args.emit.now c.turn_at.new.emit refl
     (can_run_is a.After-clear)
-    (subst (λ (m : Machine). world_of (record b {
+    (ap world_of (ap₂ (λ (m : Machine) (p : PresentSlot). record b {
       machine = m;
       processes = processes;
-      present = Some c.args.slot;
-      used = c.used_after-state.result;
-    }) ≡ (carried_out (world_of b) (Run c.args.slot)).after) (sym (noted a.After-note_turn (looked a.After-look_at)))
-    (world_after b c.args.slot x processes.items shown t few c.used_after-state.result
-    c.used_after-state.ensures.value))
+      present = p;
+    }) (noted a.After-note_turn (looked a.After-look_at)) c.take_turn.ensures.turn)
+    ∙ world_after b c.args.slot x processes.items shown t few c.take_turn.new.self.used c.take_turn.ensures.used)
     (c.turn_at.ensures.emit ∙ ap (λ (e : Emit). with_shown e shown) c.clear.ensures
     ∙ turn_shown b c.args.slot x processes.items shown t few (record { items = [] }) refl)

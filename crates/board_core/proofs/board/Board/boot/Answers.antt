@@ -144,9 +144,7 @@ invariant_of-result c =
       machine = record m { calm = c.look_ahead.result };
       processes = c.in_ok-processes.field-0.processes;
       unplaced = c.unplaced.result;
-      slice = c.script.inside.slice;
-      present = None;
-      used = 0;
+      present = record { slot = None; used = 0; slice = c.script.inside.slice };
     })) (sym c.look_at_all.ensures.rest) (record {
       machine = record {
         lost = subst (λ (h : Homes). All (HasLost 0) h.owns) (sym home_is) (none_lost es);
@@ -232,9 +230,7 @@ returns-clause-world c =
       machine = record m { calm = c.look_ahead.result };
       processes = c.in_ok-processes.field-0.processes;
       unplaced = c.unplaced.result;
-      slice = script.slice;
-      present = None;
-      used = 0;
+      present = record { slot = None; used = 0; slice = script.slice };
     })) c.look_at_all.ensures.rest
     ∙ ap in_windows c.unwrap_or-window.ensures
     ∙ opening_shown said flash c.in-Ok.home es processes c.unplaced.result c.settings_of.result c.in_ok-drivers.drivers

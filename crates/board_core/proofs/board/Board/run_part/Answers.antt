@@ -1,5 +1,5 @@
 use Rattle.std.proofs.Common.{◌≡◌, ◌+◌, ◌<◌, ℕ, List, [], ◌∷◌, Option, Some, true, false, All}
-use Rattle.std.proofs.Common.{slice_get, sym, ap, subst, ◌∙◌, arith}
+use Rattle.std.proofs.Common.{slice_get, sym, ap, ap₂, subst, ◌∙◌, arith, refl, Bool, ◌⊎◌, inl, inr}
 use Rattle.std.specs.List.{zip}
 use Rattle.std.specs.Prelude.{IfSome}
 use Rattle.tk_base.specs.declared.process.Choice.{Choice}
@@ -7,19 +7,21 @@ use Rattle.tk_base.specs.declared.process.Choice.TheVariants.{Run}
 use Rattle.process_record.specs.declared.process.Process.{Process}
 use Rattle.kernel_model.specs.Run.{next, ready_devices}
 use Rattle.kernel_model.specs.Stretch.{GoesOn, IsStretch}
+use Rattle.kernel_laws.specs.Alone.{IsAlone}
 use Rattle.board_drivers.specs.Calm.{AlarmsTell, IsCalm}
 use Rattle.board_drivers.proofs.Lanes.{few_still}
 use Rattle.board_drivers.specs.Driven.{AreDriven}
 use Rattle.board_drivers.specs.Residents.{HasLost, IsResident}
 use Rattle.board_drivers.specs.declared.drivers.Drivers.{Drivers}
 use Rattle.board_turns.specs.declared.machine.Machine.{Machine}
+use Rattle.board_core.specs.declared.slices.PresentSlot.{PresentSlot}
 use Rattle.board_core.specs.declared.state.BoardState.{BoardState}
 use Rattle.board_core.specs.Shows.{IsBoard, world_of}
 use Rattle.board_core.specs.KnownEnds.{IsKnownOfChoice}
 use Rattle.board_core.specs.Running.{slot_runs}
 use Rattle.board_core.proofs.Ready.{calm_shown}
-use Rattle.board_core.proofs.Stretches.{end_known, ends_shown, looked_ahead, next_stays, nothing_comes, rests_there}
-use Rattle.board_core.proofs.Stretches.{runs_within, still, stretch_shown, turns_later, used_within}
+use Rattle.board_core.proofs.Stretches.{alone_shown, end_known, ends_shown, looked_ahead, next_stays, nothing_comes}
+use Rattle.board_core.proofs.Stretches.{rests_there, runs_within, still, stretch_shown, turns_later, used_within}
 use Rattle.board_core.proofs.Boards.{may_turn_on}
 use Rattle.board_core.proofs.board.Board.run_part.Goals as goal
 use Rattle.board_core.proofs.board.Board.run_part.Goals.{After-is_over}
@@ -75,9 +77,23 @@ same_machine c =
     ∙ ap (λ (d : Drivers). record old { home = new.home; guard = new.guard; drivers = d })
     c.turns_at-stretch.ensures.drivers
 
+-- the last turn is the slice's, or no other slot can have one
+alone_or : (c : After-is_over)
+    → (c.last_turn-last.result ≡ c.self.inside.state.present.slice)
+    ⊎ IsAlone (world_of c.self.inside.state) c.in-Some.slot
+alone_or c = by_alone c.has_one-alone.result refl
+  where
+    by_alone : (alone : Bool) → c.has_one-alone.result ≡ alone
+        → (c.last_turn-last.result ≡ c.self.inside.state.present.slice)
+        ⊎ IsAlone (world_of c.self.inside.state) c.in-Some.slot
+    by_alone true e =
+        inr (alone_shown c.self.inside.state c.self.invariant c.in-Some.slot (chosen c)
+        (sym c.has_one-alone.ensures ∙ e))
+    by_alone false e = inl (c.last_turn-last.ensures.slice e)
+
 -- a board with these turns made
-abbrev turned : After-is_over → Machine → BoardState
-turned c x = record c.self.inside.state {
+abbrev turned : After-is_over → Machine → PresentSlot → BoardState
+turned c x p = record c.self.inside.state {
   machine = record x {
     moment = record x.moment {
       time = x.moment.time + c.from-ticks.result;
@@ -85,12 +101,25 @@ turned c x = record c.self.inside.state {
     };
   };
   processes = c.turns_at-stretch.new.processes;
-  present = c.present_after-present.result.0;
-  used = c.present_after-present.result.1;
+  present = p;
 }
 
+abbrev turned_now : After-is_over → BoardState
+turned_now c = turned c c.turns_at-stretch.new.self c.go_on.new.self
+
+-- of which the machine and the present slot are those before, but for what the turns change
+abbrev turned_then : After-is_over → BoardState
+turned_then c = turned c (record c.self.inside.state.machine {
+  home = c.turns_at-stretch.new.self.home;
+  guard = c.turns_at-stretch.new.self.guard;
+  calm = c.calm_ahead-self-inside.result;
+}) (record c.self.inside.state.present { slot = c.go_on.new.self.slot; used = c.go_on.new.self.used })
+
+same_board : (c : After-is_over) → turned_now c ≡ turned_then c
+same_board c = ap₂ (turned c) (same_machine c) c.go_on.ensures.rest
+
 -- is a board
-board_then : (c : After-is_over) → IsBoard (turned c c.turns_at-stretch.new.self)
+board_then : (c : After-is_over) → IsBoard (turned_now c)
 board_then c =
     let b = looking_ahead c.self.inside.state c.calm_ahead-self-inside.result in
     let board = looked_ahead c.self.inside.state c.calm_ahead-self-inside.result c.self.invariant
@@ -100,10 +129,10 @@ board_then c =
     let processes = c.turns_at-stretch.new.processes.items in
     let left = c.turns_left-left.ensures in
     let ticks = c.from-ticks.ensures in
-    let present = c.present_after-present in
-    let holds = still b board c.in-Some.slot k c.turns_left-left.result present.result.1 present.result.0 x processes
+    let present = c.go_on.new.self in
+    let holds = still b board c.in-Some.slot k c.turns_left-left.result present.used present.slot x processes
     c.turns_at-stretch.ensures.quiet in
-    subst (λ (y : Machine). IsBoard (turned c y)) (sym (same_machine c)) (record {
+    subst IsBoard (sym (same_board c)) (record {
       machine = record {
         lost = subst (λ (n : ℕ). All (HasLost (b.machine.moment.steps + n)) x.home.owns) (sym ticks) holds.lost;
         guard = c.turns_at-stretch.ensures.quiet.leaves.guard;
@@ -126,9 +155,8 @@ board_then c =
       few = holds.few;
       ready = holds.ready;
       slice = board.slice;
-      used = used_within b.used b.slice c.used_before-before.result k present.result.1 board.used
-          (omega (arith, left.slice, c.turns_at-stretch.ensures.most)) (λ none. (present.ensures.none none).1)
-          (λ some. (present.ensures.some some).1);
+      used = used_within b.present.used b.present.slice c.used_before-before.result k present.used board.used
+          board.slice (λ none. (c.go_on.ensures.none none).1) (λ some. (c.go_on.ensures.some some).1);
     })
 
 pub invariant_of-self-2 : goal.invariant_of-self-2
@@ -136,10 +164,10 @@ invariant_of-self-2 c = board_then (goal.at.invariant_of-self-2 c).After-is_over
 
 -- where turns were left no device step is ready then
 calm_then : (c : After-is_over) → c.turns_at-stretch.result.went < c.turns_left-left.result
-    → ready_devices (world_of (turned c c.turns_at-stretch.new.self))
+    → ready_devices (world_of (turned_now c))
     ≡ false ∷ false ∷ false ∷ false ∷ false ∷ false ∷ []
 calm_then c fewer =
-    let b = turned c c.turns_at-stretch.new.self in
+    let b = turned_now c in
     let board = board_then c in
     let until = c.turns_left-left.ensures.until in
     let rest = c.turns_at-stretch.ensures.quiet.leaves.rest in
@@ -156,17 +184,18 @@ returns-clause-stretch c =
     c.calm_ahead-self-inside.ensures.calm in
     let left = c.turns_left-left.ensures in
     let most = c.turns_at-stretch.ensures.most in
-    let present = c.present_after-present in
+    let present = c.go_on.new.self in
     let q = c.turns_at-stretch.ensures.quiet in
-    subst (λ (y : Machine). IsStretch c.turns_at-stretch.result.went c.args.self.now (world_of (turned a y)))
-    (sym (same_machine a))
-    (stretch_shown b board c.in-Some.slot c.turns_at-stretch.result.went c.turns_left-left.result present.result.1
-    present.result.0 c.turns_at-stretch.new.self c.turns_at-stretch.new.processes.items q
+    subst (λ (y : BoardState). IsStretch c.turns_at-stretch.result.went c.args.self.now (world_of y))
+    (sym (same_board a))
+    (stretch_shown b board c.in-Some.slot c.turns_at-stretch.result.went c.turns_left-left.result present.used
+    present.slot c.turns_at-stretch.new.self c.turns_at-stretch.new.processes.items q
     (chosen c) (ap slot_runs (sym q.at.was) ∙ runs_there c) c.used_before-before.result
-    c.used_before-before.ensures.value (omega (arith, left.slice, most)) (omega (arith, left.until, most))
-    (omega (arith, left.limit, most)) present.ensures.none present.ensures.some
+    c.used_before-before.ensures.value c.last_turn-last.result (omega (arith, left.last, most)) (alone_or a)
+    (omega (arith, left.until, most))
+    (omega (arith, left.limit, most)) c.go_on.ensures.none c.go_on.ensures.some
     c.from-ticks.result c.args.self.now c.round_is_stretch.ensures.round
-    c.round_is_stretch.ensures.chosen c.round_is_stretch.ensures.none
+    c.round_is_stretch.ensures.chosen c.one_alone_goes_on.ensures.stretch c.round_is_stretch.ensures.none
     c.from-ticks.ensures c.self.view_is)
 
 pub returns-clause-ends : goal.returns-clause-ends
@@ -177,18 +206,20 @@ returns-clause-ends c e h g =
     c.calm_ahead-self-inside.ensures.calm in
     let left = c.turns_left-left.ensures in
     let most = c.turns_at-stretch.ensures.most in
-    let present = c.present_after-present in
+    let present = c.go_on.new.self in
     let q = c.turns_at-stretch.ensures.quiet in
-    ends_shown b board c.in-Some.slot c.turns_at-stretch.result.went c.turns_left-left.result present.result.1
-    present.result.0
+    ends_shown b board c.in-Some.slot c.turns_at-stretch.result.went c.turns_left-left.result present.used
+    present.slot
     c.turns_at-stretch.new.self c.turns_at-stretch.new.processes.items q
     (chosen c) (ap slot_runs (sym q.at.was) ∙ runs_there c) c.used_before-before.result
-    c.used_before-before.ensures.value (omega (arith, left.slice, most)) (omega (arith, left.until, most))
-    (omega (arith, left.limit, most)) present.ensures.none present.ensures.some
-    c.round_is_stretch.ensures.stays c.from-ticks.result c.args.most c.calm_ahead-self-inside.result
-    c.from-ticks.ensures most (c.is_over.ensures.over e) left.slice left.until c.used_before-before.ensures.within
+    c.used_before-before.ensures.value c.last_turn-last.result (omega (arith, left.last, most)) (alone_or a)
+    (omega (arith, left.until, most))
+    (omega (arith, left.limit, most)) c.go_on.ensures.none c.go_on.ensures.some
+    (c.round_is_stretch.ensures.stays, c.one_alone_goes_on.ensures.next) c.from-ticks.result c.args.most
+    c.calm_ahead-self-inside.result c.from-ticks.ensures most (c.is_over.ensures.over e) left.last left.until
+    (omega (arith, c.used_before-before.ensures.within, c.last_turn-last.ensures.within))
     (omega (arith, c.if-self.false)) c.requires left.all
-    (subst (λ (y : Machine). GoesOn (world_of (turned a y))) (same_machine a) g)
+    (subst (λ (y : BoardState). GoesOn (world_of y)) (same_board a) g)
 
 pub returns-clause-next : goal.returns-clause-next
 returns-clause-next c e =
@@ -198,19 +229,20 @@ returns-clause-next c e =
     c.calm_ahead-self-inside.ensures.calm in
     let left = c.turns_left-left.ensures in
     let most = c.turns_at-stretch.ensures.most in
-    let present = c.present_after-present in
+    let present = c.go_on.new.self in
     let q = c.turns_at-stretch.ensures.quiet in
     c.in-Some.ensures.turn
-    ∙ subst (λ (y : Machine). Some (Run c.in-Some.slot) ≡ next (world_of (turned a y))) (sym (same_machine a))
-    (next_stays b board c.in-Some.slot c.turns_at-stretch.result.went c.turns_left-left.result present.result.1
-    present.result.0 c.turns_at-stretch.new.self c.turns_at-stretch.new.processes.items q
+    ∙ subst (λ (y : BoardState). Some (Run c.in-Some.slot) ≡ next (world_of y)) (sym (same_board a))
+    (next_stays b board c.in-Some.slot c.turns_at-stretch.result.went c.turns_left-left.result present.used
+    present.slot c.turns_at-stretch.new.self c.turns_at-stretch.new.processes.items q
     (chosen a) (ap slot_runs (sym q.at.was) ∙ runs_there a) c.used_before-before.result
-    c.used_before-before.ensures.value (omega (arith, left.slice, most)) (omega (arith, left.until, most))
-    (omega (arith, left.limit, most)) present.ensures.none present.ensures.some
-    c.round_is_stretch.ensures.stays c.from-ticks.result c.turns_left-left.result c.from-ticks.ensures most
-    (c.is_over.ensures.over e) left.slice left.until
-    (subst (λ (y : Machine). c.turns_at-stretch.result.went < c.turns_left-left.result
-    → ready_devices (world_of (turned a y)) ≡ false ∷ false ∷ false ∷ false ∷ false ∷ false ∷ []) (same_machine a)
+    c.used_before-before.ensures.value c.last_turn-last.result (omega (arith, left.last, most)) (alone_or a)
+    (omega (arith, left.until, most))
+    (omega (arith, left.limit, most)) c.go_on.ensures.none c.go_on.ensures.some
+    (c.round_is_stretch.ensures.stays, c.one_alone_goes_on.ensures.next) c.from-ticks.result
+    c.turns_left-left.result c.from-ticks.ensures most (c.is_over.ensures.over e) left.last left.until
+    (subst (λ (y : BoardState). c.turns_at-stretch.result.went < c.turns_left-left.result
+    → ready_devices (world_of y) ≡ false ∷ false ∷ false ∷ false ∷ false ∷ false ∷ []) (same_board a)
     (calm_then a)))
 
 pub returns-clause-known : goal.returns-clause-known
@@ -220,10 +252,10 @@ returns-clause-known c e =
     let board = looked_ahead c.self.inside.state c.calm_ahead-self-inside.result c.self.invariant
     c.calm_ahead-self-inside.ensures.calm in
     let end = c.turns_at-stretch.result.end in
-    let present = c.present_after-present in
-    subst (λ (o : Option Choice). IfSome o (IsKnownOfChoice (world_of (turned a c.turns_at-stretch.new.self)) end))
+    let present = c.go_on.new.self in
+    subst (λ (o : Option Choice). IfSome o (IsKnownOfChoice (world_of (turned_now a)) end))
     (sym c.in-Some.ensures.turn)
-    (subst (λ (y : Machine). IsKnownOfChoice (world_of (turned a y)) end (Run c.in-Some.slot)) (sym (same_machine a))
-    (end_known b board c.in-Some.slot c.turns_at-stretch.result.went c.turns_left-left.result present.result.1
-    present.result.0 c.turns_at-stretch.new.self c.turns_at-stretch.new.processes.items
+    (subst (λ (y : BoardState). IsKnownOfChoice (world_of y) end (Run c.in-Some.slot)) (sym (same_board a))
+    (end_known b board c.in-Some.slot c.turns_at-stretch.result.went c.turns_left-left.result present.used
+    present.slot c.turns_at-stretch.new.self c.turns_at-stretch.new.processes.items
     c.turns_at-stretch.ensures.quiet c.from-ticks.result c.from-ticks.ensures))
