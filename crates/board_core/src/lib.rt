@@ -22,6 +22,3 @@ pub use play::PlayEnd;
 pub use stretch::QuietTurns;
 pub use tk_base::NotReady;
 pub use tk_outside::NoMemory;
-
-#[cfg(test)]
-mod tests;

@@ -23,6 +23,3 @@ pub use standard::Clock;
 pub use stores::Stores;
 pub use uart::Uart;
 pub use words::Words;
-
-#[cfg(test)]
-mod tests;

@@ -9,6 +9,3 @@ mod text;
 pub use buffer::{BUFFER_LEN, OutputBuffer};
 pub use laws::puts_compose;
 pub use text::Text;
-
-#[cfg(test)]
-mod tests;

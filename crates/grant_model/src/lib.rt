@@ -10,6 +10,3 @@ pub use laws::{
     what_is_laid_is_read_back,
 };
 pub use places::Area;
-
-#[cfg(test)]
-mod tests;

@@ -24,6 +24,3 @@ pub use laws::{
     verdicts_move, words_are_decoded,
 };
 pub use packs::{PackFault, pack_one};
-
-#[cfg(test)]
-mod tests;

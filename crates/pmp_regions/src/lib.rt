@@ -425,6 +425,3 @@ impl Span {
         }
     }
 }
-
-#[cfg(test)]
-mod tests;

@@ -188,6 +188,3 @@ impl Layout {
         self.flash_start <= at && u64::from(at) + u64::from(size) <= u64::from(self.flash_end)
     }
 }
-
-#[cfg(test)]
-mod tests;

@@ -345,6 +345,3 @@ pub fn decode16(parcel: u16) -> Option<Instr>
 {
     handle16(parcel, &mut ToInstr)
 }
-
-#[cfg(test)]
-mod tests;

@@ -340,6 +340,3 @@ pub fn decode32(word: u32) -> Option<Instr>
 {
     handle32(word, &mut ToInstr)
 }
-
-#[cfg(test)]
-mod tests;

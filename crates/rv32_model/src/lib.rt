@@ -22,6 +22,3 @@ pub use laws::{
     writes_are_permitted,
 };
 pub use turn_end::TurnEnd;
-
-#[cfg(test)]
-mod tests;

@@ -1,4 +1,3 @@
 pub mod Executed
 pub mod Fetched
-pub mod SmallMemory
 pub mod Near

@@ -20,6 +20,7 @@ use crate::execute::denial;
 use crate::near::{Near, Served};
 use crate::nothing_ahead::NothingAhead;
 use crate::processor::Hart;
+pub use operate::operate;
 use rv32_compressed::handle16;
 use rv32_decode::handle32;
 pub use rv32_model::TurnEnd;
@@ -271,6 +272,3 @@ pub fn turn<B: Bus>(regs: &mut Regs, bus: &mut B) -> TurnEnd
     let mut memory = NothingAhead { bus };
     turns(regs, &mut memory, 1).end
 }
-
-#[cfg(test)]
-mod tests;

@@ -19,6 +19,3 @@ pub use object::object_at;
 pub use perms::Perms;
 pub use program::Main;
 pub use tlv::{NAME, first_tlv};
-
-#[cfg(test)]
-mod tests;

@@ -1,6 +1,6 @@
 //! Objects of flash for the tests of the crates above (Tock Binary Format, "TBF Header" and "TLV
 //! Elements"), so that they name fields where they would paste bytes. The readers are judged
-//! by these, and these by the bytes of one object from outside, in the tests of `tbf_headers`.
+//! by these, and these by the bytes of one object from outside, in `unit_tests`.
 #![tactic(auto)]
 
 ghost use Rattle.std.specs.Prelude.{◌≤◌, length};

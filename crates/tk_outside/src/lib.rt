@@ -22,6 +22,3 @@ pub use shelf::Shelf;
 pub use sink::Sink;
 pub use system::{FileShelf, OutSink};
 pub use tk_base::NoMemory;
-
-#[cfg(test)]
-mod tests;

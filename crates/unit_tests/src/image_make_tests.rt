@@ -1,4 +1,4 @@
-use super::*;
+use image_make::*;
 use std::test::Fail;
 
 /// The word at an offset of an image.

@@ -1,6 +1,6 @@
-use super::*;
 use std::fs;
 use std::test::Fail;
+use tk_outside::*;
 
 fn put_samples<K: Sink>(out: &mut K) -> Result<(), Failed> {
     put_number(out, 18446744073709551615)?;

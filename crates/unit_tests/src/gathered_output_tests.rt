@@ -1,4 +1,4 @@
-use super::*;
+use gathered_output::*;
 use std::test::Fail;
 use tk_outside::{Failed, MemSink, Sink, put_pieces};
 

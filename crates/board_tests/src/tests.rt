@@ -1,6 +1,6 @@
 //! Two applications on one board, step by step. Each function makes few calls: the proof of a long
 //! one costs more than those of its parts.
-use super::*;
+use board_core::*;
 use process_record::{Emit, State};
 use script_text::{Script, read_script};
 use std::alloc::Global;

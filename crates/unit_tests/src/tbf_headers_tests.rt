@@ -1,5 +1,5 @@
-use super::*;
 use std::test::Fail;
+use tbf_headers::*;
 use test_objects::{Tlv, object};
 
 const MAIN: Tlv<'_> = Tlv::Main {

@@ -1,5 +1,7 @@
 //! Parcels as LLVM's assembler encodes them, and the expansions that the RISC-V manual gives.
-use super::*;
+use rv32_compressed::*;
+use rv32_model::{BranchTest, LoadKind, Op};
+use tk_base::Width;
 
 fn op_imm(op: Op, rd: u8, rs1: u8, imm: u32) -> Instr {
     Instr::OpImm { op, rd, rs1, imm }

@@ -1,7 +1,7 @@
 ghost use Rattle.std.specs.Prelude.{◌≡◌};
 ghost use Rattle.process_layout.specs.LayoutView.{extents_at_start};
 
-use super::*;
+use process_layout::*;
 
 /// A process with 256 bytes of RAM in a block of 1024, and 24 bytes of code after a header of 44.
 fn first_layout() -> Layout

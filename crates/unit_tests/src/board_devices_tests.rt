@@ -1,5 +1,5 @@
-use super::*;
 use arrayvec::ArrayVec;
+use board_devices::*;
 use std::test::Fail;
 use tk_base::Slot;
 

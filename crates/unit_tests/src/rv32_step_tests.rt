@@ -1,10 +1,11 @@
 //! Turns over a small memory, with values from the RISC-V unprivileged manual.
 
-use super::*;
-use crate::operate::operate;
 use rv32_model::{Op, Prefetch};
 use rv32_predecode::{Entry, Predecoded, entry_in};
-use tk_base::{Rule, Width, a_store_is_put, number_in, put_number};
+use rv32_step::{operate, *};
+use tk_base::{
+    Access, Addr, Bus, Denial, Regs, Rule, Width, a_store_is_put, number_in, put_number,
+};
 
 /// 64 bytes from address 0 on: the first 32 may be executed, the others written; all may be read. Its instructions may
 /// be known.
@@ -29,7 +30,7 @@ impl SmallMemory {
 
 impl Bus for SmallMemory {
     ghost use Rattle.std.specs.Prelude.{[], slice_index};
-    ghost use Rattle.rv32_step.specs.SmallMemory.{small_denies};
+    ghost use Rattle.unit_tests.specs.SmallMemory.{small_denies};
 
     ghost denies = { λ _. small_denies };
 

@@ -1,5 +1,7 @@
 //! Words as LLVM's assembler encodes them, and what they mean.
-use super::*;
+use rv32_decode::*;
+use rv32_model::{BranchTest, LoadKind, Op};
+use tk_base::Width;
 
 fn branch(test: BranchTest, rs1: u8, rs2: u8, offset: u32) -> Instr {
     Instr::Branch {

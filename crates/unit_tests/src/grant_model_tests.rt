@@ -6,7 +6,7 @@ ghost use Rattle.grant_model.specs.Grants.{entered, pair_of, grant_of, with_gran
 ghost use Rattle.grant_model.specs.Encoding.{encode_grants};
 
 /// The console is entered by an allow of its read-write buffer 1, of 8 bytes at `0x8000_0020`.
-#[tactic(auto, unfolding(crate::specs::Grants::shape_of, grant_values::specs::Drivers::counts_of, grant_values::specs::Drivers::drivers))]
+#[tactic(auto, unfolding(grant_model::specs::Grants::shape_of, grant_values::specs::Drivers::counts_of, grant_values::specs::Drivers::drivers))]
 fn a_buffer_of_the_console()
     ensures { encode_grants (with_grant 1 (with_pair ReadWrite 1 (0x80000020, 8)) (entered 1 []))
         ≡ (1 ∷ 0 ∷ 0 ∷ 0 ∷ 96 ∷ 0 ∷ 0 ∷ 0 ∷ []) ++ replicate 48 0
@@ -14,7 +14,7 @@ fn a_buffer_of_the_console()
 {}
 
 /// All drivers with a grant, in an order and the other way round: the one entered last is lowest.
-#[tactic(auto, unfolding(crate::specs::Grants::shape_of, grant_values::specs::Drivers::counts_of, grant_values::specs::Drivers::drivers))]
+#[tactic(auto, unfolding(grant_model::specs::Grants::shape_of, grant_values::specs::Drivers::counts_of, grant_values::specs::Drivers::drivers))]
 fn the_last_entered_is_lowest()
     ensures one_way { encode_grants (entered 0 (entered 0x50001 (entered 1 (entered 0x40001 []))))
         ≡ (0 ∷ 0 ∷ 0 ∷ 0 ∷ 48 ∷ 0 ∷ 0 ∷ 0 ∷ []) ++ replicate 40 0

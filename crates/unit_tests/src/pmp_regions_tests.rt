@@ -1,4 +1,5 @@
-use super::*;
+use pmp_regions::*;
+use tk_base::{Access, Addr, Rule, Width};
 
 /// Flash from 0x2000002C to 0x20000044, to be executed and read, and RAM from 0x80000000 to
 /// 0x80000100, to be read and written.

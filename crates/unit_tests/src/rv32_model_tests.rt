@@ -15,7 +15,7 @@ ghost use Rattle.rv32_model.specs.UserTurn.{loaded, operation};
 ghost use Rattle.rv32_model.specs.Worked.{worked_turn_of};
 
 /// `addi x1, x0, -1`, `sw x5, 40(x2)` and `fence.i`, which this processor does not have.
-#[tactic(auto, unfolding(crate::specs::Instructions::decoding, crate::specs::Instructions::instruction_table))]
+#[tactic(auto, unfolding(rv32_model::specs::Instructions::decoding, rv32_model::specs::Instructions::instruction_table))]
 fn words_by_the_table()
     ensures addi { decoding 0xfff00093 ≡ Some (instrs.OpImm ops.Add 1 0 0xffffffff) }
     ensures sw { decoding 0x02512423 ≡ Some (instrs.Store widths.Word 2 5 40) }
@@ -23,7 +23,7 @@ fn words_by_the_table()
 {}
 
 /// `c.li x10, -1`, and a shift with bit 12 set, which RV32 does not have.
-#[tactic(auto, unfolding(crate::specs::Compressed::decoding16, crate::specs::Compressed::compressed_table))]
+#[tactic(auto, unfolding(rv32_model::specs::Compressed::decoding16, rv32_model::specs::Compressed::compressed_table))]
 fn parcels_by_the_table()
     ensures li { decoding16 0x557d ≡ Some (instrs.OpImm ops.Add 10 0 0xffffffff) }
     ensures slli { decoding16 0x1502 ≡ None }
@@ -37,7 +37,7 @@ fn values_of_the_manual()
 {}
 
 /// `sw x0, 1(x11)` where nothing may be stored: it is misaligned first. `ecall` leaves pc.
-#[tactic(auto, unfolding(crate::specs::UserTurn::user_turn, crate::specs::UserTurn::on_word, crate::specs::UserTurn::executed, crate::specs::UserTurn::fetched, crate::specs::UserTurn::instr_of, crate::specs::Instructions::decoding, crate::specs::Instructions::instruction_table))]
+#[tactic(auto, unfolding(rv32_model::specs::UserTurn::user_turn, rv32_model::specs::UserTurn::on_word, rv32_model::specs::UserTurn::executed, rv32_model::specs::UserTurn::fetched, rv32_model::specs::UserTurn::instr_of, rv32_model::specs::Instructions::decoding, rv32_model::specs::Instructions::instruction_table))]
 fn turns_end()
     ensures store { (worked_turn_of 0x0005a0a3).end ≡ ends.Trap (record {
       access = accesses.Store;

@@ -1,8 +1,8 @@
 use Rattle.std.proofs.Common.{◌≡◌, ℕ, ◌+◌, ◌*◌, slice_index, subst, arith}
 use Rattle.rv32_predecode.specs.Decoded.{TellsFetched}
-use Rattle.rv32_step.specs.SmallMemory.{small_denies}
-use Rattle.rv32_step.proofs.SmallMemory.{below, is_known}
-use Rattle.rv32_step.proofs.tests.SmallMemoryPredecoded.entry.Goals as goal
+use Rattle.unit_tests.specs.SmallMemory.{small_denies}
+use Rattle.unit_tests.proofs.SmallMemory.{below, is_known}
+use Rattle.unit_tests.proofs.rv32_step_tests.SmallMemoryPredecoded.entry.Goals as goal
 
 pub returns-clause-tells : goal.returns-clause-tells
 returns-clause-tells c =

@@ -10,7 +10,7 @@ use Rattle.rv32_predecode.specs.declared.decoded.Entry.{Entry}
 use Rattle.rv32_predecode.specs.Entries.{entry_instr, entry_length, entry_reach, goes_straight, reach_of}
 use Rattle.rv32_predecode.specs.Decoded.{IsFetched, StandsIn, TellsFetched, TellsStanding, length_of, parcel_in}
 use Rattle.rv32_predecode.specs.Decoded.{word_in}
-use Rattle.rv32_step.specs.SmallMemory.{small_denies}
+use Rattle.unit_tests.specs.SmallMemory.{small_denies}
 
 parcel : (bytes : List ℕ) (at : ℕ) → at + 2 ≤ 32
     → parcel_at small_denies (slice_index bytes) at ≡ Ok (parcel_in bytes at)
