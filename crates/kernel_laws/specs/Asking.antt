@@ -42,6 +42,7 @@ abbrev pub IsOfCommand : (queue : QueueName) → Option (RequestOf queue) → Op
 IsOfCommand queue before call request =
     (before ≡ Some request) ⊎ ((before ≡ None) × IsSomeAnd call (AsksFor queue request))
 
+-- so it is of each queue of the board
 pub record RequestsAreOfCommands (r s : Record) (told : TurnTrace) : Type 0 where
   pub each : (queue : QueueName) →
       IfSome (waiting_in (kind_in queue) s.own) (IsOfCommand queue (waiting_in (kind_in queue) r.own) told.call)

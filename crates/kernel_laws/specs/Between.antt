@@ -1,5 +1,5 @@
 -- How laws of what happens to one process are said: of its record before a step and after it, and of what the step tells
--- of it.
+-- of it. What a step tells is this board's own rule.
 use Rattle.std.specs.Prelude.{◌≡◌, true, false, All, slice_get, IsSomeAnd}
 use Rattle.tk_base.specs.declared.process.Choice.{Choice}
 use Rattle.kernel_model.specs.Record.{Record}
@@ -24,5 +24,6 @@ OfAnswerIn Holds w v label =
 abbrev pub OfEachTurn : (Record → Record → TurnTrace → Type 0) → Type 0
 OfEachTurn Holds = (w : World) (choice : Choice) → All (OfTurnIn Holds w (after w choice)) (labels w choice)
 
+-- and so of what devices and operators do
 abbrev pub OfEachAnswer : (Event → Record → Record → Type 0) → Type 0
 OfEachAnswer Holds = (w : World) (choice : Choice) → All (OfAnswerIn Holds w (after w choice)) (labels w choice)

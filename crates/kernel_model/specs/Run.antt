@@ -1,4 +1,4 @@
--- Runs: a fold of steps by the round robin's choices. The order is that of Tock's round robin; passes of time are this
+-- Runs: a fold of steps by the round robin's choices. The order is after Tock's round robin; passes of time are this
 -- board's own rule, and so are time partitions.
 use Rattle.std.specs.Prelude.{ℕ, zero, suc, ◌+◌, ◌*◌, ◌/◌, Bool, false, ◌||◌, if◌then◌else◌, List, [], ◌++◌, find, map}
 use Rattle.std.specs.Prelude.{slice_get}

@@ -4,7 +4,7 @@
 mod execute;
 mod near;
 mod nothing_ahead;
-mod operate;
+pub mod operate;
 mod processor;
 
 ghost use Rattle.std.specs.Prelude.{◌≡◌, ◌≢◌, ◌-◌, ◌%◌, ◌<◌, ◌≤◌, ◌^◌, IfOk};
@@ -20,7 +20,6 @@ use crate::execute::denial;
 use crate::near::{Near, Served};
 use crate::nothing_ahead::NothingAhead;
 use crate::processor::Hart;
-pub use operate::operate;
 use rv32_compressed::handle16;
 use rv32_decode::handle32;
 pub use rv32_model::TurnEnd;

@@ -2,7 +2,8 @@
 
 use rv32_model::{Op, Prefetch};
 use rv32_predecode::{Entry, Predecoded, entry_in};
-use rv32_step::{operate, *};
+use rv32_step::operate::operate;
+use rv32_step::*;
 use tk_base::{
     Access, Addr, Bus, Denial, Regs, Rule, Width, a_store_is_put, number_in, put_number,
 };
