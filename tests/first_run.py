@@ -1,6 +1,6 @@
-"""The first run of ./tock, and those after a change, with a prover that stands in for the kit's: that it has proved
-what the program needs and no more, joined into one crate, and never runs a program that other sources or another
-prover made. `checks` gives each check with its name, for tests/run."""
+"""The first run of ./tock, and those after a change, with an `rt` that stands in for the kit's: that what the program
+needs is proved as it stands and no more, and that no program ever runs that other sources or another prover made.
+`checks` gives each check with its name, for tests/run."""
 
 import os
 import re
@@ -13,50 +13,58 @@ import time
 from common import TOCK, write
 from cases.case import REPOSITORY
 
-# Notes when it begins and ends; refuses what misses a file that it is told of, or has the word `wrong`, and makes a
-# program that tells of which sources it was made, where these are those that were proved.
-KIT = {
-    "rt": """#!/bin/sh
-case $1 in
-    version) echo "a prover, version %(version)s" ;;
-    doc) echo "%(kit)s/START-HERE.md" ;;
-    run)
-        echo "one by one" >>"$LOG"
-        mkdir -p out
-        { echo '#!/bin/sh'; echo 'echo made one by one for "$@"'; } >out/tock
-        chmod +x out/tock
-        out/tock ;;
-esac
-""",
-    "rattle": """#!/bin/sh
-for word; do
-    [ "$before" = --crate-checked ] && found=$word
-    before=$word made=$word
-done
-if [ "$1" = build ]; then
-    diff -r src "$found" || exit 1
-    { echo '#!/bin/sh'; echo "echo made of $(cat $(find src -name '*.rt') | tr '\\n' ' ')for \\"\\$@\\""; } >"$made"
-    exit
-fi
-echo begins >>"$LOG"
-[ -z "$KILLED" ] || kill -9 $$
-[ -z "$MISSED" ] || [ -f "$MISSED" ] || { echo "src/main.rt:1:1: error: no $MISSED"; exit 1; }
-echo "checked tock::one, 1 of 2"
-sleep ${SLEEP:-0}
-for wrong in $(grep -rl wrong src); do echo "$wrong:1:1: error: a wrong body"; done
-[ -z "$wrong" ] || exit 1
-rm -rf "$made" && cp -r src "$made"
-echo ends >>"$LOG"
-""",
-    "rattle-link": """#!/bin/sh
-while [ "$1" != -o ]; do shift; done
-cp "$3" "$2" && chmod +x "$2" && [ -z "$UNLINKED" ]
-""",
-}
+# Refuses a crate that has the word `wrong`, keeps what it passed, as the kit's does, and makes a program that tells of
+# which sources it was made. It notes what it does.
+RT = '''#!/usr/bin/env python3
+import hashlib, os, pathlib, sys, time
+
+def note(line):
+    with open(os.environ["LOG"], "a") as log:
+        print(line, file=log)
+
+def texts(name):
+    files = sorted(it for it in pathlib.Path("crates", name).rglob("*") if it.suffix in (".rt", ".antt"))
+    return {str(it): it.read_text() for it in files}
+
+def passes(name, below, kept):
+    sums[name] = hashlib.sha256(repr((texts(name), [sums[it] for it in below if it in sums])).encode()).hexdigest()
+    if (kept / sums[name]).exists():
+        print("rt: %s is kept: an earlier run on this machine proved the same" % name, flush=True)
+        return True
+    time.sleep(float(os.environ.get("SLEEP", "0")))
+    print("== %s" % name)
+    wrong = [path for path, text in texts(name).items() if "wrong" in text]
+    for path in wrong:
+        print("%s:1:1: error: a wrong body" % path.split("/", 2)[2])
+    print("fn %s::one: proved\\nrt: %s %s" % (name, name, "NOT PROVED" if wrong else "proved"), flush=True)
+    if not wrong:
+        note(name)
+        (kept / sums[name]).touch()
+    return not wrong
+
+if sys.argv[1] == "version":
+    print("a prover, version @VERSION@")
+    sys.exit()
+note("begins")
+kept, sums = pathlib.Path("@KIT@", "kept"), {}
+kept.mkdir(exist_ok=True)
+lines = [line.partition(":") for line in open("crates.txt")]
+passed = [passes(name, below.split(), kept) for name, _, below in lines]
+out = pathlib.Path("crates/tock/out")
+if all(passed):
+    out.mkdir()
+    said = " ".join(text.strip() for name in sums for path, text in texts(name).items() if path.endswith(".rt"))
+    (out / "tock").write_text('#!/bin/sh\\necho "made of %s for $@"\\n' % said)
+    (out / "tock").chmod(0o755)
+note("ends")
+is_whole = all(passed) and not os.environ.get("UNLINKED")
+print("%d passed, %d failed" % (is_whole, not is_whole))
+sys.exit(not is_whole)
+'''
 CRATES = """# the crates
 base:
 one: base
-other: base hex samples   # and a library of the kit, and one that no source but tests names
+other: base hex   # and a library of the kit
 samples: base
 
 middle: one other
@@ -65,21 +73,10 @@ tock: middle
 """
 NAMES = ("base", "one", "other", "samples", "middle", "beside", "tock")
 USES = {"one": "base", "other": "base", "middle": "one other", "tock": "middle"}
-NEEDED = ["base", "middle", "one", "other", "tock"]
+NEEDED = ["base", "one", "other", "middle", "tock"]
 ABOUT = r"(less than a minute|about a minute|about \d+ minutes)"
-BEGUN = (r"tock: proving what the program needs of the kernel's 5 crates, and building it, once; this takes %s\n"
-         % ABOUT)
-ONE_BY_ONE = ("tock: there is too little memory for all crates at once, so they are proved one by one, which takes "
-              "longer\n")
-TOLD = BEGUN + r"tock: proved 1 of 2 functions; %s left\ntock: proved; building the program\n" % ABOUT
-
-
-def read(path):
-    """What stands in a file; nothing where there is none."""
-    if not os.path.exists(path):
-        return None
-    with open(path, encoding="utf-8") as file:
-        return file.read()
+TOLD = (r"tock: proving the 5 crates that the program needs, and building it, once; this takes %s\n"
+        r"tock: proved 1 of 5 crates; %s left\ntock: proved 5 of 5 crates; less than a minute left\n" % (ABOUT, ABOUT))
 
 
 class Repository:
@@ -92,6 +89,7 @@ class Repository:
         for name in NAMES:
             self.writes(name, name, "main.rt" if name == "tock" else "lib.rt")
             write(self.top, os.path.join("crates", name, "specs", "Lib.antt"), USES.get(name, "") + "\n")
+            write(self.top, os.path.join("crates", name, "must-fail", "wrong.edit"), "wrong\n")
         write(self.top, "crates.txt", CRATES)
         write(self.top, "HANDLES", "Handles allowed: none.\n")
         shutil.copy(TOCK, self.top)
@@ -105,9 +103,7 @@ class Repository:
 
     def prover(self, version):
         kit = os.path.dirname(self.top)
-        for command, text in KIT.items():
-            text = text % {"version": version, "kit": kit} if command == "rt" else text
-            write(os.path.join(kit, "bin"), command, text, 0o755)
+        write(os.path.join(kit, "bin"), "rt", RT.replace("@VERSION@", str(version)).replace("@KIT@", kit), 0o755)
 
     def begins(self, tock="tock", words=("soak", "1"), **more):
         """./tock, running. An interrupt stops it, also where these tests run in the background of a shell that has
@@ -138,86 +134,93 @@ class Repository:
         return lines
 
 
-ONCE = ["begins", "ends"]
+def once(*names):
+    """What the prover notes where it proves these crates."""
+    return ["begins", *names, "ends"]
 
 
 def made(**texts):
     """What the program says that was made of such sources, of each crate its name where no other text is said."""
-    return sorted(("made of %s for soak 1" % " ".join(texts.get(name, name) for name in NEEDED)).split())
+    return "made of %s for soak 1\n" % " ".join(texts.get(name, name) for name in NEEDED)
 
 
 def first(repository):
     """It has proved what the program needs, once, and tells how far it is; a later run says nothing."""
     status, out, told = repository.runs()
     lines = repository.proved()
-    if (status, sorted(out.split())) != (0, made()) or not re.fullmatch(TOLD, told) or lines != ONCE:
+    if (status, out) != (0, made()) or not re.fullmatch(TOLD, told) or lines != once(*NEEDED):
         return "%d, %r, told %r, proved %s" % (status, out, told, lines)
     again = repository.runs(), repository.proved()
     return None if again == ((0, out, ""), []) else "a later run: %r" % (again,)
 
 
 def changed(repository):
-    """A source that is edited, added or deleted, and another prover, are noticed, and all is proved again; other times
-    and what the program does not need are not."""
+    """A source that is edited, added or deleted, another prover, and another way to have it proved, are noticed, and
+    what that reaches is proved again; other times and what the program does not need are not."""
     repository.runs()
     repository.proved()
     source = os.path.join(repository.top, "crates", "base", "src", "lib.rt")
-    for what, change, text, again in (
-            ("touched", lambda: os.utime(source), "base", []),
-            ("not needed", lambda: repository.writes("beside", "beside, changed"), "base", []),
-            ("edited", lambda: repository.writes("base", "basis"), "basis", ONCE),
-            ("added", lambda: repository.writes("base", "added", "added.rt"), "added basis", ONCE),
-            ("deleted", lambda: os.remove(source.replace("lib", "added")), "basis", ONCE),
-            ("another prover", lambda: repository.prover(2), "basis", ONCE),
-            ("the same prover", lambda: repository.prover(2), "basis", [])):
+    tool = os.path.join(repository.top, "tools", "proving", "copied.py")
+    basis = dict(base="basis", tock="tick")
+    for what, change, texts, again in (
+            ("touched", lambda: os.utime(source), {}, []),
+            ("not needed", lambda: repository.writes("beside", "beside, changed"), {}, []),
+            ("the program", lambda: repository.writes("tock", "tick", "main.rt"), dict(tock="tick"), once("tock")),
+            ("edited", lambda: repository.writes("base", "basis"), basis, once(*NEEDED)),
+            ("added", lambda: repository.writes("base", "more", "added.rt"), dict(basis, base="more basis"),
+             once(*NEEDED)),
+            ("deleted", lambda: os.remove(source.replace("lib", "added")), basis, once()),
+            ("another prover", lambda: repository.prover(2), basis, once()),
+            ("the same prover", lambda: repository.prover(2), basis, []),
+            ("another tool", lambda: open(tool, "a").write("# \n"), basis, once())):
         change()
         status, out, told = repository.runs()
         lines = repository.proved()
-        if (status, sorted(out.split())) != (0, made(base=text)) or lines != again:
-            return "%s: %d, %r, proved %s" % (what, status, out, lines)
+        if (status, out, lines) != (0, made(**texts), again):
+            return "%s: %d, %r, told %r, proved %s" % (what, status, out, told, lines)
     return None
 
 
 def refused(repository):
-    """Where something is refused, or the linker fails, the answer is 1, with all that the prover said, under the
-    crates' own files; once it is mended the program is built."""
+    """Where something is refused, or the program is not linked, the answer is 1, with all that was said of what was
+    refused, under the crates' own files; once it is mended the program is built, and what was proved is kept."""
     repository.runs()
     repository.proved()
     repository.writes("other", "wrong")
     status, out, told = repository.runs()
-    if (status, out) != (1, "") or "\ncrates/other/src/lib.rt:1:1: error: a wrong body\n" not in told:
+    if (status, out) != (1, "") or "== other\ncrates/other/src/lib.rt:1:1: error: a wrong body\n" not in told:
         return "%d, %r, told %r" % (status, out, told)
+    if "== one" in told or "proved\n" in told.replace("not proved\n", ""):
+        return "told what was not refused: %r" % told
     repository.writes("other", "mended")
     status, out, told = repository.runs(UNLINKED="1")
     if (status, out) != (1, ""):
         return "not linked: %d, %r, told %r" % (status, out, told)
     repository.proved()
-    status, out, told = repository.runs()
-    lines = repository.proved()
-    is_right = (status, sorted(out.split()), lines) == (0, made(other="mended"), ONCE)
-    return None if is_right else "mended: %d, %r, proved %s" % (status, out, lines)
+    end = repository.runs()[:2], repository.proved()
+    return None if end == ((0, made(other="mended")), once()) else "mended: %r" % (end,)
 
 
-def missed(repository):
-    """Where the prover misses as it reads what was left out, all is proved, and where it misses more, it is refused."""
-    repository.writes("base", "// unsaid", "unsaid.rt")
-    for file, status, noted in (("src/base/unsaid.rt", 0, ["begins", *ONCE]), ("src/none.rt", 1, ["begins"] * 2)):
-        repository.writes("one", file)
-        end = repository.runs(MISSED=file)
-        lines = repository.proved()
-        if (end[0], lines) != (status, noted) or ("error: no %s" % file in end[2]) != bool(status):
-            return "%s: %r, proved %s" % (file, end, lines)
-    return None
+def differs(repository):
+    """Nothing is proved of a copy that has a line more than its source."""
+    tool = os.path.join(repository.top, "tools", "proving", "copied.py")
+    with open(tool, encoding="utf-8") as file:
+        text = file.read()
+    copies = "            shutil.copyfile(os.path.join(self.crates.top, path), to)\n"
+    write(os.path.dirname(tool), "copied.py", text.replace(
+        copies, copies + "            open(to, 'a').write('more' * path.endswith('base/src/lib.rt'))\n"))
+    end, lines = repository.runs(), repository.proved()
+    is_right = end == (1, "", "tock: not copied as it stands: crates/base/src/lib.rt\n") and lines == []
+    return None if is_right else "%r, proved %s" % (end, lines)
 
 
 def edited_meanwhile(repository):
     """An edit while it builds is proved too before the program runs."""
-    run = repository.begins(SLEEP="0.5")
-    repository.waits("begins")
+    run = repository.begins(SLEEP="0.1")
+    repository.waits("one")
     repository.writes("base", "basis")
     status, out, told = repository.ends(run)
-    is_right = (status, sorted(out.split())) == (0, made(base="basis"))
-    if not is_right or "a source was changed while the program was built" not in told:
+    if (status, out) != (0, made(base="basis")) or "a source was changed while the program was built" not in told:
         return "%d, %r, told %r" % (status, out, told)
     again = repository.runs()
     return None if again == (0, out, "") else "a later run: %r" % (again,)
@@ -225,46 +228,29 @@ def edited_meanwhile(repository):
 
 def two_at_once(repository):
     """Of two first runs at once one proves, and the other waits for it."""
-    runs = [repository.begins(SLEEP="0.3") for _ in range(2)]
+    runs = [repository.begins(SLEEP="0.1") for _ in range(2)]
     ended = [repository.ends(run) for run in runs]
     lines = repository.proved()
     waits = [told for _, _, told in ended if "another run proves the kernel's crates here" in told]
-    are_right = [(status, sorted(out.split())) for status, out, _ in ended] == [(0, made())] * 2
-    if not are_right or lines != ONCE or len(waits) != 1:
+    if [end[:2] for end in ended] != [(0, made())] * 2 or lines != once(*NEEDED) or len(waits) != 1:
         return "%r, proved %s" % (ended, lines)
     return None
 
 
 def stopped(repository):
-    """Where it is stopped or killed no program is there, and the next run proves and builds it."""
+    """Where it is stopped or killed no program is there, and the next run proves what is left, and builds it."""
     for number in (signal.SIGINT, signal.SIGKILL):
         repository.writes("base", "base for %d" % number)
-        run = repository.begins(SLEEP="0.5")
-        repository.waits("begins")
+        run = repository.begins(SLEEP="0.3")
+        repository.waits("one")
         os.killpg(run.pid, number)
         status, out, told = repository.ends(run)
-        if status == 0 or out:
-            return "%d, %r, told %r" % (status, out, told)
-        repository.proved()
-        status, out, _ = repository.runs()
-        lines = repository.proved()
-        if (status, sorted(out.split()), lines) != (0, sorted(made(base="base for %d" % number)), ONCE):
-            return "a later run: %d, %r, proved %s" % (status, out, lines)
-    return None
-
-
-def short_of_memory(repository):
-    """Where there is too little memory for all crates at once, or the prover is killed, they are proved one by one."""
-    prover = os.path.join(repository.top, "tools", "proving", "prover.py")
-    text = read(prover)
-    for memory, killed, noted in (("10 ** 12", "", []), ("0", "1", ["begins"])):
-        write(os.path.dirname(prover), "prover.py", re.sub(r"(?<= = )\d+(?=, \d+$)", memory, text, flags=re.M))
-        status, out, told = repository.runs(KILLED=killed)
-        lines = repository.proved()
-        is_right = (status, out, lines) == (0, "made one by one for soak 1\n", [*noted, "one by one"])
-        if not is_right or not told.endswith(ONE_BY_ONE):
-            return "%d, %r, told %r, noted %s" % (status, out, told, lines)
-        repository.writes("base", "another text")
+        first_part = repository.proved()
+        if status == 0 or out or "ends" in first_part:
+            return "%d, %r, told %r, proved %s" % (status, out, told, first_part)
+        end = repository.runs()[:2], repository.proved()
+        if end != ((0, made(base="base for %d" % number)), once(*NEEDED[len(first_part) - 1:])):
+            return "a later run: %r" % (end,)
     return None
 
 
@@ -276,9 +262,8 @@ def no_prover(repository):
     if (status, out) != (1, "") or not re.fullmatch(r"tock: [^\n]*, and rt is not on PATH: [^\n]*\n", told):
         return "%d, %r, told %r" % (status, out, told)
     repository.runs()
-    status, out, told = repository.runs(PATH=without, TOCK_QUIET="1")
-    is_right = (status, sorted(out.split()), told) == (0, made(), "")
-    return None if is_right else "once it is built: %d, %r, told %r" % (status, out, told)
+    end = repository.runs(PATH=without, TOCK_QUIET="1")
+    return None if end == (0, made(), "") else "once it is built: %r" % (end,)
 
 
 def help_first(repository):
@@ -294,9 +279,8 @@ def linked(repository):
     """./tock may be called by a symbolic link."""
     repository.runs()
     os.symlink(os.path.join(repository.top, "tock"), os.path.join(repository.top, "..", "linked"))
-    status, out, told = repository.ends(repository.begins(os.path.join("..", "linked")))
-    is_right = (status, sorted(out.split()), told) == (0, made(), "")
-    return None if is_right else "%d, %r, told %r" % (status, out, told)
+    end = repository.ends(repository.begins(os.path.join("..", "linked")))
+    return None if end == (0, made(), "") else "%r" % (end,)
 
 
 def tried(check):
@@ -308,5 +292,5 @@ def tried(check):
 def checks(program):
     """Each check with its name."""
     return [("first-run-" + check.__name__.replace("_", "-"), lambda check=check: tried(check))
-            for check in (first, changed, refused, missed, edited_meanwhile, two_at_once, stopped, short_of_memory,
-                          no_prover, help_first, linked)]
+            for check in (first, changed, refused, differs, edited_meanwhile, two_at_once, stopped, no_prover,
+                          help_first, linked)]

@@ -1,7 +1,6 @@
 """The crates of crates.txt that a program needs."""
 
 import os
-import re
 
 
 def named(top):
@@ -22,16 +21,6 @@ def sources(folder):
                   for name in names if name.endswith((".rt", ".antt")))
 
 
-def text_without_tests(folder):
-    """What the sources of a crate say that are read where its tests are left out."""
-    tests, texts = os.path.join(folder, "src", "tests.rt"), []
-    for path in sources(folder):
-        if path != tests:
-            with open(path, encoding="utf-8") as file:
-                texts.append(file.read())
-    return "\n".join(texts)
-
-
 class Crates:
     """Those that a program needs, lowest first, the program last."""
 
@@ -39,14 +28,17 @@ class Crates:
         self.top, self.program, self.all_below, self.on, self.of_kit = top, program, {}, {}, {}
         libraries = named(top)
         for name, others in libraries.items():
-            text = text_without_tests(self.folder(name))
-            # The crates on which one stands, without those that its tests alone name, and the libraries of the kit.
-            self.on[name] = [it for it in others if it in libraries and re.search(r"\b%s\b" % it, text)]
+            # The crates on which one stands, and the libraries of the kit.
+            self.on[name] = [it for it in others if it in libraries]
             self.of_kit[name] = [it for it in others if it not in libraries]
         self.names = [*self.below(program), program]
 
     def folder(self, name):
         return os.path.join(self.top, "crates", name)
+
+    def size(self, name):
+        """How many bytes of functions a crate has."""
+        return sum(os.path.getsize(path) for path in sources(self.folder(name)) if path.endswith(".rt"))
 
     def program_made(self):
         """Where the program is built."""

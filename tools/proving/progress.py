@@ -1,11 +1,10 @@
-"""Tells how many functions are proved, and about how long the others take."""
+"""Tells how many crates are proved, and about how long the others take."""
 
-import re
 import sys
 import time
 
-# How many processor seconds a KiB of functions takes before any was measured here.
-EXPECTED = 2.8
+# How many seconds a KiB of functions takes before any was measured here, on four processors.
+EXPECTED = 0.65
 
 # How many seconds nothing is told after something was.
 PAUSE = 10
@@ -22,29 +21,29 @@ def minutes(seconds):
 
 
 class Progress:
-    """How far the prover is with what is needed of so many crates, so many KiB of functions, by so many processors."""
+    """How far the judge is with crates, of each of which the size of its functions is given, in bytes."""
 
-    def __init__(self, crates, size, places):
-        self.crates, self.expected = crates, size * EXPECTED / places
-        # When the first function was proved, and when something was told last.
-        self.begun = self.told = None
+    def __init__(self, sizes):
+        self.left, self.total = dict(sizes), len(sizes)
+        # Since when it proves, how much was proved since then, and when something was told last.
+        self.begun, self.proved, self.told = time.monotonic(), 0, None
 
     def begin(self):
-        tell("proving what the program needs of the kernel's %d crates, and building it, once; this takes %s"
-             % (self.crates, minutes(self.expected)))
+        tell("proving the %d crates that the program needs, and building it, once; this takes %s"
+             % (self.total, minutes(self.expected())))
 
-    def hears(self, line):
-        """Tells of what the prover says, now and then: how many functions it has proved."""
-        said = re.match(r"checked \S+, (\d+) of (\d+)$", line)
-        if not said:
-            return
+    def hears(self, name, is_proved):
+        """Tells of a crate that passed, now and then; one that was proved by an earlier run took no time."""
+        size = self.left.pop(name, 0)
+        self.proved += size if is_proved else 0
         now = time.monotonic()
-        self.begun = self.begun or now
-        if self.told is None or now - self.told >= PAUSE:
-            self.told, proved, total = now, int(said[1]), int(said[2])
-            tell("proved %d of %d functions; %s left" % (proved, total, minutes(self.left(proved, total, now))))
+        if self.told is None or now - self.told >= PAUSE or not self.left:
+            self.told = now
+            tell("proved %d of %d crates; %s left" % (self.total - len(self.left), self.total,
+                                                      minutes(self.expected())))
 
-    def left(self, proved, total, now):
-        """About how many seconds the others take: as they took here, once a tenth is measured."""
-        is_measured = proved * 10 > total
-        return (total - proved) * ((now - self.begun) / proved if is_measured else self.expected / total)
+    def expected(self):
+        """About how many seconds the others take: as those took that were proved here, once a tenth is measured."""
+        left = sum(self.left.values())
+        is_measured = self.proved * 10 > left
+        return left * ((time.monotonic() - self.begun) / self.proved if is_measured else EXPECTED / 1024)

@@ -11,13 +11,14 @@
 
 stamp=$top/out/stamp
 
-# made_of FOLDERS ACTION ..: what find is to do with each file that the program is made from. FOLDERS is a file of
-# folders.
+# made_of FOLDERS ACTION ..: what find is to do with each file that the program is made from, those that have it made
+# among them. FOLDERS is a file of folders.
 made_of() {
     local folders
     mapfile -t folders <"$1" || return
-    (cd "$top" && find crates.txt HANDLES "${folders[@]}" -path '*/out' -prune -o \
-        -type f \( -name '*.rt' -o -name '*.antt' -o -name crates.txt -o -name HANDLES \) "${@:2}" 2>/dev/null)
+    (cd "$top" && find crates.txt HANDLES tools/prove tools/proving "${folders[@]}" -path '*/out' -prune -o -type f \
+        \( -name '*.rt' -o -name '*.antt' -o -name crates.txt -o -name HANDLES -o -path 'tools/prov*' \) "${@:2}" \
+        2>/dev/null)
 }
 
 form='%p %s %T@ %C@\n'
@@ -71,11 +72,4 @@ begin_stamp() {
 # end_stamp FOLDER: adds the program, and has it be the stamp.
 end_stamp() {
     listed_program >>"$1/listing" && sha256sum <"$program" >"$1/built" && rm -rf "$stamp" && mv "$1" "$stamp"
-}
-
-# stamp_since TIME: where a gate that began then has proved the sources and left the program, has it be the stamp; fails
-# where there is none, or a source has changed since.
-stamp_since() {
-    [ -x "$program" ] && begin_stamp "$stamp.begun" &&
-        [ -z "$(made_of "$stamp.begun/crates" -newerct "$1" -print -quit)" ] && end_stamp "$stamp.begun"
 }

@@ -49,7 +49,5 @@ def of_tools():
                 TAP=int(found("tools/script", r", TAP = .*, (\d+)$")),
                 MOST_WINDOWS=int(found("tools/picture/spans.py", r"^MOST_WINDOWS = (\d+)")),
                 MOST_ROWS=int(found("tools/picture/spans.py", r"^MOST_ROWS = (\d+)")),
-                PROOF_MEMORY="%g" % (int(found("tools/proving/prover.py", r"^MEMORY, .* = (\d+), ")) / 1e6),
-                JOB_MEMORY="%g" % (int(found("tools/proving/prover.py", r"^MEMORY, .* = \d+, (\d+)$")) / 1e6),
                 BENCH_MIB=int(found("bench/run", r"^FLASH_SIZE, SLOTS = ([\d_]+)")) // 2 ** 20,
                 WINDOW=int(found("examples/scripts/windows.script", r"^partition (\d+)")))
