@@ -58,6 +58,11 @@ IMAGES = [
         object 0 64 bad-tlv -
         objects 1
     """),
+    listing("second-main-of-11-bytes", "nor may an element be short that does not count",
+            tbf([main_tlv(), main_tlv(length=11)], CODE_7), """
+        object 0 64 bad-tlv -
+        objects 1
+    """),
     listing("object-that-is-disabled", "an application without the flag is not enabled",
             app(CODE_7, flags=0, size=64), """
         object 0 64 disabled -

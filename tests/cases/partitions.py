@@ -83,6 +83,13 @@ PARTITIONS = [
         leds 0000
         end done steps 0 time 0
     """),
+    boot("fixed-ram-start-of-no-bytes", "nor one that is linked for another RAM start", fixed_at(RAM + 1024, FLASH),
+         script=b"ram 15360\npartition 4", text="""
+        ==
+        unplaced 0 fixed-taken
+        leds 0000
+        end done steps 0 time 0
+    """),
     boot("block-longer-than-a-share", "a block of 5120 bytes has no room in a share of 4096, and one of 4096 has",
          app(CODE_7, minimum_ram=3332) + app(CODE_7, minimum_ram=3328), script=b"partition 4", text="""
         ==

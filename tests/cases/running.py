@@ -47,6 +47,13 @@ DENIALS = [
         leds 0000
         end done steps 1 time 1
     """),
+    boot("load-of-the-footers", "a binary that ends at 49 may be read up to 52, and not the byte there",
+         tbf([program_tlv(binary_end=49)], lbu(A1, A0, 11) + lbu(A1, A0, 12) + bytes(8)), """
+        ==
+        slot 0 - faulted load 20000034 no-region turns 2 restarts 0
+        leds 0000
+        end done steps 2 time 2
+    """),
     boot("jump-to-ram", "RAM is not to be executed", app(jalr(ZERO, A1)), """
         ==
         slot 0 - faulted fetch 80000000 no-execute turns 2 restarts 0
@@ -153,6 +160,13 @@ CALLS = [
         slot 0 - terminated 2147485696 turns 6 restarts 0
         leds 0000
         end done steps 6 time 6
+    """),
+    boot("break-that-rounds-to-ram", "a break is rounded up to 4 before it is looked at: this one is the RAM start",
+         app(memop(0, RAM - 1), mv(A1, A0), exits()), """
+        ==
+        slot 0 - terminated 128 turns 9 restarts 0
+        leds 0000
+        end done steps 9 time 9
     """),
     boot("break-below-ram", "a break outside the block is refused; the process exits with the error's code",
          app(memop(0, -1), exits()) + EXIT_7, """
