@@ -74,6 +74,13 @@ WAITS = [
         leds 0000
         end done steps 23 time 22
     """),
+    boot("wait-for-what-came-without-a-function", "without a function nothing of it is kept, and no other comes",
+         app(command(ALARM, 5, 1), waits_for(ALARM, 0)), """
+        ==
+        slot 0 - waiting 00000000 0 turns 11 restarts 0
+        leds 0000
+        end done steps 12 time 11
+    """),
     boot("wait-for-one-upcall-keeps-the-rest", "the other registers stay",
          app(command(ALARM, 5, 20), li(A3, 7), li(RA, 3), waits_for(ALARM, 0), add(A1, A3, RA), exits()), """
         ==
