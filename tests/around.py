@@ -9,7 +9,7 @@ import tempfile
 from cases.case import REPOSITORY
 from cases.programs import BREAKPOINT, ECHO, EXIT_7, SPINS, WAKES, draws, prints, storage_reads
 from common import EXAMPLES, IMAGES, SCRIPTS, contents, run
-from flash_images import A0, A1, app, exits, lw, mv, padding, S1
+from flash_images import A0, A1, app, exits, li, lw, mv, padding, S1
 
 LOOK = os.path.join("crates", "tock_look", "out", "tock_look")
 
@@ -92,7 +92,8 @@ def until(told, end):
 
 
 # Words that are no commands of tock_look, behind those of two files; and files that a run refuses.
-NO_COMMANDS = [["at 16"], ["boot", "steps 0 4294967296"], ["at  0"], ["memory 0 x 1"], ["state", ""]]
+NO_COMMANDS = [["at 16"], ["boot", "steps 0 4294967296"], ["at  0"], ["memory 0 x 1"], ["state", ""],
+               ["steps 0 100,1,2"], ["turns 0 1 100,1,2"]]
 BAD_FILES = [["none", "none"], ["images/greet.bin", "none"], ["images/greet.bin", "images/greet.bin"]]
 
 
@@ -127,12 +128,31 @@ def looking(program):
     return None
 
 
+# An exit that is refused, since there is none of number 2, and then one with the code 3; each instruction is a turn.
+EXITS = app(li(A1, 5), exits(2), li(A1, 3), exits())
+
+
+def looking_on():
+    """tock_look stops at an exit, not at one that is refused; with `partition` its steps are those of the windows."""
+    for flash, script, command, line in (
+            (EXITS, b"", "until 0 100 - -", r"stop exit 00000000 00000000 00000003 .*\nat 8 8 0 8 "),
+            (SPINS * 2, b"partition 5", "steps 1 7", r"stop most\nat 7 7 1 2 ")):
+        with tempfile.TemporaryDirectory() as folder:
+            for name, content in (("flash", flash), ("script", script)):
+                with open(os.path.join(folder, name), "wb") as file:
+                    file.write(content)
+            end = run([os.path.join(REPOSITORY, LOOK), "flash", "script", command], cwd=folder)
+        if not re.match(line, end.stdout):
+            return "%s: %r" % (command, end.stdout)
+    return None
+
+
 def checks(program):
     """Each check with its name."""
     found = [("tour", lambda: tour(program)), ("partitioned-pair", lambda: partitioned_pair(program)),
              ("partition-neighbours", lambda: partition_neighbours(program))]
     if os.path.exists(os.path.join(REPOSITORY, LOOK)):
-        found.append(("looking", lambda: looking(program)))
+        found += [("looking", lambda: looking(program)), ("looking-on", looking_on)]
     else:
         print("looking: not tried, since %s is not built" % LOOK)
     return found
