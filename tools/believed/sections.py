@@ -11,43 +11,53 @@ LIMIT = 3800
 
 # What is proved of the program in one sentence, and which names below have each part of it.
 SENTENCE = """\
-For every flash file, script and turn limit, the tool writes exactly the console bytes and final states of TRD 104's
-abstract kernel under round-robin turns; there a process's byte changes only by its own permitted act or through a
-buffer it then allowed, every denial names its address and rule, and a process's record is the replay of its own turns
-and device answers alone, whatever others do."""
+For every flash file, script and turn limit, the tool (`serve`, over files and an output that tell their bytes; that the
+host's files and output keep theirs is trusted) writes exactly the console bytes and final states of TRD 104's abstract
+kernel under round-robin turns; there a process's byte changes only by its own permitted act or through a buffer it then
+allowed, every denial names its address and rule, and a process's record is the replay of its own turns and device
+answers alone, whatever others do."""
 PARTS = [
-    "*For every*: any words, shelf and sink; of the words `command_of`, of the files' bytes `comes_to`. A file that is "
-    "too long and a script that has no reading are refused. The limit counts steps: turns, steps of devices and passes "
-    "of time.",
+    "*For every*: any words, shelf and sink; of the words `command_of`, of the files' bytes `comes_to`. A file that "
+    "is too long and a script that has no reading are refused. The limit counts steps: turns, steps of devices and "
+    "passes of time.",
     "*Writes exactly*: at answer 0, `ProgramDoes`, field `done`; the text is `run_text`, for `boot` in mode `Boot`. "
     "Each other answer but 7 has its cause: its own field. Which answer comes, where the output does not fail: field "
-    "`decided`, of files whose bytes the shelf tells.",
+    "`decided`, of files whose bytes the shelf tells. Of a shelf or a sink that tells no bytes none are promised; "
+    "those that `main` gives are such, so of the binary that last step is [trusted](#assumptions), and so is that the "
+    "exit status is the answer.",
     "*TRD 104's abstract kernel under round-robin turns*: the one that is defined here, after TRD 104 and with this "
     "board's own rules, as each file's head says. It is `round`, a fold of `stepped` by `next`, from the world "
-    "`opening`. Under a script with `partition` the turns are those of the windows.",
-    "*Byte, act, buffer*: `IsAccountedFor`, field `causes`, for memory below the grants and for storage; a grant "
-    "changes only in a turn of its process, an answer to it or an act on it. A restart counts as the process's own "
-    "act: by exit, by the policy after a denial, or by an operator.",
+    "`opening`. Turns are after Tock's round robin: here a process that waits, and goes on before another had a turn, "
+    "has the rest of its slice. Under a script with `partition` the turns are those of the windows.",
+    "*Byte, act, buffer*: `IsAccountedFor`, field `causes`, for memory below the grants and for storage; that a store "
+    "was permitted, field `accesses`; a grant changes only in a turn of its process, an answer to it or an act on it. "
+    "A restart counts as the process's own act, by exit, by the policy after a denial, or by an operator; that it "
+    "leaves all zeroed as at the boot is `RestartsFromBoot`.",
     "*Every denial*: fields `denials`, `recorded` and `shown`; conversely no access that is permitted is denied "
     "(`DenialIsDue`).",
     "*Replay alone*: `IsAccountedRun`, field `alone`, from the object, its place and the settings that processes see. "
     "A turn is replayed with its time. What an operator does to the process counts as an answer, as does an edge of a "
     "button.",
     "*Whatever others do*: they may decide which answers a process gets, and how long it waits for these and for its "
-    "turns; with `partition` not even that (`RunIsPartitioned`).",
+    "turns. With `partition` these are the same, and at the same times, in two runs with the same object in the same "
+    "place of its slot, up to each time that both have reached (`RunIsPartitioned`); how far N steps reach, others "
+    "decide.",
 ]
 
 # What a reader might take to be promised, and is not.
 NOT_PROMISED = [
     "*What others decide*: without `partition` a process may learn of others from which answers it gets, since all "
     "share input, random words and the script's storage faults, and from when its turns and answers come. With it the "
-    "text of the console and the LEDs stay shared, which no process can read; and real time.",
-    "*That a run is made, or ends*: that memory is found, that answer 7 comes for want of memory alone, that files can "
-    "be read and written, or that a run is `done` within its limit of steps.",
+    "text of the console and the LEDs stay shared, which no process can read; how far N steps reach; and real time.",
+    "*That a run is made*: that memory is found, that answer 7 comes for want of memory alone, that files can be read "
+    "and written.",
+    "*That a run is `done`* and not ended by its limit of steps.",
     "*That an image is whole*, or whose it is: a header has a checksum and nothing more. An object that is bad, "
     "disabled or has no place is not run, and the answer may be 0.",
     "*Agreement with any real board*, or with the code of Tock's kernel; speed, energy and real time.",
-    "*What stands beside the program*: the script `./tock`, `tools/` and `tests/` have no contracts.",
+    "*What stands beside the program*: `tock_look` has [a contract of its own](looking.md#what-is-proved), which is "
+    "not on this page; the script `./tock` and what it tells (`tools/told`), the debugger, `tools/` and `tests/` have "
+    "none.",
 ]
 
 SECTIONS = [
@@ -96,30 +106,75 @@ GUARANTEES = [
     ("board_partitions/laws.rt", "partitions_from_boot_see_themselves_alone"),
     ("kernel_calls/serving.rt", "kernel_call")]
 STEPS = [("board_core/play.rt", "play")]
-CITING = ["README.md", "docs/claims.md"]
+CITING = ["docs/claims.md", "README.md"]
 
-# What the page rests on that is no matter of definitions.
+# The ported crates of the kit whose contracts the program uses.
+PORTED = ["arrayvec", "byteorder", "circular_buffer", "hex", "itoa", "thiserror"]
+
+# What the page rests on that is no matter of definitions: what is assumed, by what it could fail, and what would show
+# that.
 ASSUMPTIONS = [
-    "*The checker*: what `rt check` accepts is proved, of the statements that it makes of contracts.",
-    "*The compilers*: LLVM, and what turns Rattle into its input; the machine that runs the program.",
-    "*The kit's library*: its functions keep their contracts, and its words mean what [their "
-    "sentences](#the-words-of-the-library) say.",
-    "*The C library* and the operating system under it.",
-    "*The two adapters*, for the files of the host and its standard output: shelves and sinks in memory tell their "
-    "bytes, these tell none, so that what a file holds and what was written through them is the host's to keep. And "
-    "`main`, which gives `serve` the two and the words, and ends with its answer: it is proved safe, and has no other "
-    "contract.",
-    "*The ported crates*: the contracts of `arrayvec`, `byteorder`, `circular_buffer`, `hex`, `itoa` and `thiserror` "
-    "hold of their code.",
-    "*Tables read from manuals*: instructions, system calls, error codes and formats stand here as in [the "
-    "standards](#standards), against which they were read. The decoders were compared once with LLVM's, on all 65,536 "
-    "parcels and a sample of words; that comparison is not kept.",
-    "*`./tock`*: the program that it runs is the one that was proved. It proves and builds anew where it finds that a "
-    "source has changed. What it proves is the crates joined into one, which says the same under longer paths, without "
-    "what the program has no use for, as laws on which the contract of `serve` does not rest; `rt ci` proves each "
-    "crate as it stands, from nothing.",
-    "*The maker of this page*, `tools/headline`: it leaves out no definition on which a contract here rests, and its "
-    "sentences on names are right.",
+    ("*The checker*: what `rt check` accepts is proved, of the statements that it makes of contracts.",
+     "an unsound rule; a goal that is not asked for",
+     "an edit of `must-fail/` or a [wrong body](proofs.md#wrong-bodies-that-were-tried) that it accepts; a worked "
+     "example that the program answers otherwise"),
+    ("*Its logic* has no contradiction: a cubical type theory, which `rt version` names. No crate has an axiom, nor "
+     "may have one.",
+     "a proof of `⊥`: then any contract has one", "that proof"),
+    ("*Numbers*: `ℕ` has no end and an integer of a machine has, so the checker asks of each sum, product, cast and "
+     "index that it fits, and takes each value to be in the range of its type.",
+     "such a goal that is not asked for; a range of another width",
+     "a worked example at a limit, as `2^32 - 1`, the last byte of flash or the twentieth upcall"),
+    ("*The compilers*: LLVM, what turns Rattle into its input, the linker; the machine that runs the program.",
+     "code that does another thing than its source, as the kit says of some that clang makes",
+     "`rt ci`, which compares what each program writes as LLVM builds it and as Rattle's own compiler does; worked "
+     "examples"),
+    ("*The kit's library*: its functions keep their contracts, and its words mean what [their "
+     "sentences](#the-words-of-the-library) say.",
+     "a function that does another thing; a sentence that is wrong", "worked examples; reading its sources in the kit"),
+    ("*The ported crates*: the contracts of %s hold of their code. The kit quotes the chief ones in "
+     "`rattle/NAME/CALLING.md`, and has all in `rattle/NAME/src`."
+     % ", ".join("`%s`" % name for name in PORTED),
+     "the same", "the same"),
+    ("*The C library* and the operating system under it.",
+     "a read or a write of other bytes", "worked examples, which compare files and what is written"),
+    ("*The two adapters*, for the files of the host and its standard output: shelves and sinks in memory tell their "
+     "bytes, these tell none, so that what a file holds and what was written through them is the host's to keep.",
+     "a file that changes while it is read; a disk that keeps other bytes",
+     "tests of the adapters, worked examples; a second run of the same words, whose text is the same"),
+    ("*`main`* gives `serve` the two and the words, and ends with its answer: it is proved safe, and has no other "
+     "contract.",
+     "other words, another status", "its stored run and worked examples, which compare statuses"),
+    ("*The stack* is large enough: contracts say nothing of it. No function of `tock` calls itself, nor by way of "
+     "others, by its sources and by the machine code of an unproved build; so how much it takes is bounded, whatever "
+     "the files and the steps. That build took 160 KiB for 1 MiB of flash under the longest script; Linux gives 8 MiB.",
+     "`ulimit -s` below that; a compiler with larger frames",
+     "a signal that ends the program (status 139), after a front of its text; the check `little-stack` of `tests/run`"),
+    ("*Signals, and the host's memory*: nothing ends the program from outside, and memory that it was given is there.",
+     "`kill`; a host that is out of memory (status 137)",
+     "a status of 128 or more: what was written is a front of the text. A reader of the output that goes is no "
+     "signal, but 6"),
+    ("*Tables read from manuals*: instructions, system calls, error codes and formats stand here as in [the "
+     "standards](#standards), against which they were read. The decoders were compared once with LLVM's, on all "
+     "65,536 parcels and a sample of words; that comparison is not kept.",
+     "a row that was read wrongly", "comparing it with its section; programs of GNU's compiler, as in `examples/`"),
+    ("*Editions* of the standards: sections are cited by title, and no date was recorded. By what they have they are "
+     "RV32I 2.1 (without `fence.i` and CSRs), M 2.0 and C 2.0; TRD 104 with yield-wait-for and the userspace-readable "
+     "allow; version 2 of the Tock Binary Format.",
+     "an edition in which a section says another thing", "comparing the section with the rows that cite it"),
+    ("*`./tock`*: the program that it runs is the one that was proved. It proves and builds anew where it finds that "
+     "a source has changed. What it proves is the crates joined into one, which says the same under longer paths, "
+     "without what the program has no use for, as laws on which the contract of `serve` does not rest, and it goes by "
+     "the status of the kit's prover; `rt ci` proves each crate as it stands, from nothing, and refuses more: what "
+     "may abort, a tactic that chose a term, a contract that no call can meet.",
+     "a source that was changed and kept its size and time; an item left out, so that a name means another one; what "
+     "`rt ci` alone refuses",
+     "`rt ci`; a first run after `out/` is deleted"),
+    ("*`TOCK_PROGRAM`* is not set: where it is, `./tock` runs what it names, proved or not, and does not say so.",
+     "an environment that sets it", "`env`"),
+    ("*The maker of this page*, `tools/headline`: it leaves out no definition on which a contract here rests, and its "
+     "sentences on names are right.",
+     "a name that it reads as another one", "`tools/headline --test`; reading a definition where it stands"),
 ]
 
 PROOFS_ONLY = "Only proofs use this"

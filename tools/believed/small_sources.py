@@ -112,7 +112,8 @@ impl Model for Seen {
 def plan(**other):
     """A table of sections for the small sources."""
     usual = dict(HEADLINE=("top/lib.rt", "keep"), LIMIT=100, SECTIONS=[("First", ["top"]), ("Then", ["base"])],
-                 BOARD=("top/state.rt", "Seen"), GUARANTEES=[], STEPS=[], ASSUMPTIONS=["Trust this.", "And that."],
+                 BOARD=("top/state.rt", "Seen"), GUARANTEES=[], STEPS=[],
+                 ASSUMPTIONS=[("Trust this.", "a fault", "a test"), ("And that.", "a flaw", "a look")],
                  SENTENCE="It keeps its promise.", PARTS=["*Promise*: `Promises`."], NOT_PROMISED=["That it is fast."],
                  PROOFS_ONLY="Only proofs use this")
     return SimpleNamespace(**{**usual, **other})
@@ -203,7 +204,7 @@ class Page(unittest.TestCase):
         self.assertIn("pub fn keep(state: State) -> u8\n    requires", self.made)
         self.assertIn("Keeps the `State` of a promise.", self.made)
         self.assertIn("The contract asks of its caller:", self.made)
-        self.assertIn("1. Trust this.\n2. And that.\n", self.made)
+        self.assertIn("| 1 | Trust this. | a fault | a test |\n| 2 | And that. | a flaw | a look |\n", self.made)
 
     def test_headline_before_the_contract(self):
         heads = ("**It keeps its promise.**", "## What is not promised\n\n- That it is fast.\n", "## Assumptions",

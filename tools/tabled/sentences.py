@@ -129,14 +129,12 @@ COMPATIBILITY = [
     "| told by memop {COUNT_MEMOP} to {END_MEMOP} |", "for the {DRIVERS:w} drivers; their bodies",
 ]
 CLAIMS = [
-    "`pack FILE ..` with 1 to {MOST_FILES} files", "of 1 to {DIGITS} decimal digits, N at most {MOST_TURNS:,}, "
-    "NUMBER and OFFSET at most {MOST_NUMBER:,}", "({FLASH_LIMIT:,} and {SCRIPT_LIMIT:,})",
+    "({FLASH_LIMIT:,} and {SCRIPT_LIMIT:,})",
     "NAME has not 1 to {NAME_LIMIT} bytes of 0x21 to 0x7E", "more than {OBJECT_LIMIT} objects",
     "more than {FLASH_LIMIT:,} bytes |", "a turn of any of up to {SLOT_COUNT:w} processes",
     "exactly where {PENDING_LIMIT:w} wait (`PENDING_LIMIT`", "while {PENDING_LIMIT:w} waited;",
     "At most {PENDING_LIMIT:w} upcalls wait.", "up to {FLASH_LIMIT:,} bytes and every RAM of up to {RAM_KIB} KiB",
-    "at most {SLOT_COUNT:w} are placed", "the queue of {PENDING_LIMIT:w} upcalls", "a class above {LAST_CLASS}",
-    "[a list of {ASSUMPTIONS:w} points](headline.md#assumptions)"]
+    "at most {SLOT_COUNT:w} are placed", "the queue of {PENDING_LIMIT:w} upcalls", "a class above {LAST_CLASS}"]
 README = ["runs up to {SLOT_COUNT:w} applications",
           "[{ASSUMPTIONS:w} assumptions](docs/headline.md#assumptions)", "the statements of {PORTED:w} ported crates",
           "`./tock` itself answers {NO_PROGRAM} where it has no program.",

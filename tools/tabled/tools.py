@@ -43,8 +43,7 @@ def found(path, pattern):
 
 def of_tools():
     """The numbers that documents tell."""
-    ported = next(text for text in sections.ASSUMPTIONS if text.startswith("*The ported crates*"))
-    return dict(ASSUMPTIONS=len(sections.ASSUMPTIONS), PORTED=len(re.findall(r"`\w+`", ported)),
+    return dict(ASSUMPTIONS=len(sections.ASSUMPTIONS), PORTED=len(sections.PORTED),
                 NO_PROGRAM=int(found("tock", r"is_given \|\| exit (\d+)")),
                 TAP=int(found("tools/script", r", TAP = .*, (\d+)$")),
                 MOST_WINDOWS=int(found("tools/picture/spans.py", r"^MOST_WINDOWS = (\d+)")),

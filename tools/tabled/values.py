@@ -9,7 +9,8 @@ from runs import of_first_run, of_runs
 from tools import of_tools
 
 IN_WORDS = {1: "one", 2: "two", 3: "three", 4: "four", 5: "five", 6: "six", 7: "seven", 8: "eight", 9: "nine",
-            10: "ten", 12: "twelve", 13: "thirteen", 16: "sixteen", 20: "twenty", 32: "thirty-two", 64: "sixty-four"}
+            10: "ten", 11: "eleven", 12: "twelve", 13: "thirteen", 14: "fourteen", 15: "fifteen", 16: "sixteen",
+            20: "twenty", 32: "thirty-two", 64: "sixty-four"}
 ZEROS = {"Alarm": 3, "Console": 5, "Buttons": 1, "Random": 3, "Storage": 3}
 
 
