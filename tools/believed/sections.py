@@ -108,13 +108,15 @@ GUARANTEES = [
 STEPS = [("board_core/play.rt", "play")]
 CITING = ["docs/claims.md", "README.md"]
 
-# The ported crates of the kit whose contracts the program uses.
-PORTED = ["arrayvec", "byteorder", "circular_buffer", "hex", "itoa", "thiserror"]
+# The ported crates of the kit whose contracts the program uses, and for what.
+PORTED = {
+    "arrayvec": "lists of bounded length", "byteorder": "numbers in bytes", "circular_buffer": "the ring of input",
+    "hex": "bytes in a script", "itoa": "decimal numbers", "thiserror": "traits of two errors"}
 
 # What the page rests on that is no matter of definitions: what is assumed, by what it could fail, and what would show
 # that.
 ASSUMPTIONS = [
-    ("*The checker*: what `rt check` accepts is proved, of the statements that it makes of contracts.",
+    ("*The checker*: what `rt ci` accepts is proved, of the statements that the checker makes of contracts.",
      "an unsound rule; a goal that is not asked for",
      "an edit of `must-fail/` or a [wrong body](proofs.md#wrong-bodies-that-were-tried) that it accepts; a worked "
      "example that the program answers otherwise"),
@@ -132,9 +134,9 @@ ASSUMPTIONS = [
     ("*The kit's library*: its functions keep their contracts, and its words mean what [their "
      "sentences](#the-words-of-the-library) say.",
      "a function that does another thing; a sentence that is wrong", "worked examples; reading its sources in the kit"),
-    ("*The ported crates*: the contracts of %s hold of their code. The kit quotes the chief ones in "
-     "`rattle/NAME/CALLING.md`, and has all in `rattle/NAME/src`."
-     % ", ".join("`%s`" % name for name in PORTED),
+    ("*The ported crates*: the contracts of what is called of %s hold of their code. The kit has them in "
+     "`rattle/NAME/src`, and quotes the chief ones in `rattle/NAME/CALLING.md`."
+     % ", ".join("`%s` (%s)" % ported for ported in PORTED.items()),
      "the same", "the same"),
     ("*The C library* and the operating system under it.",
      "a read or a write of other bytes", "worked examples, which compare files and what is written"),
@@ -162,14 +164,11 @@ ASSUMPTIONS = [
      "RV32I 2.1 (without `fence.i` and CSRs), M 2.0 and C 2.0; TRD 104 with yield-wait-for and the userspace-readable "
      "allow; version 2 of the Tock Binary Format.",
      "an edition in which a section says another thing", "comparing the section with the rows that cite it"),
-    ("*`./tock`*: the program that it runs is the one that was proved. It proves and builds anew where it finds that "
-     "a source has changed. What it proves is the crates joined into one, which says the same under longer paths, "
-     "without what the program has no use for, as laws on which the contract of `serve` does not rest, and it goes by "
-     "the status of the kit's prover; `rt ci` proves each crate as it stands, from nothing, and refuses more: what "
-     "may abort, a tactic that chose a term, a contract that no call can meet.",
-     "a source that was changed and kept its size and time; an item left out, so that a name means another one; what "
-     "`rt ci` alone refuses",
-     "`rt ci`; a first run after `out/` is deleted"),
+    ("*`./tock`*: the program that it runs is the one that was proved. It has `rt ci` prove and build anew what a "
+     "changed source reaches, of copies of the crates that the program stands on, which it compares with these byte for "
+     "byte.",
+     "a source that was changed and kept its size and time; `tools/prove`, where it copies and compares otherwise",
+     "`rt ci` here, whose program is the same, byte for byte; a first run after `out/` is deleted"),
     ("*`TOCK_PROGRAM`* is not set: where it is, `./tock` runs what it names, proved or not, and does not say so.",
      "an environment that sets it", "`env`"),
     ("*The maker of this page*, `tools/headline`: it leaves out no definition on which a contract here rests, and its "
