@@ -9,8 +9,8 @@ TOCK, EXAMPLES = os.path.join(REPOSITORY, "tock"), os.path.join(REPOSITORY, "exa
 IMAGES, SCRIPTS = os.path.join(EXAMPLES, "images"), os.path.join(EXAMPLES, "scripts")
 
 
-def run(words, **how):
-    return subprocess.run(words, capture_output=True, text=True, timeout=100, **how)
+def run(words, timeout=100, **how):
+    return subprocess.run(words, capture_output=True, text=True, timeout=timeout, **how)
 
 
 def write(folder, name, text, mode=0o644):

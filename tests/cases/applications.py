@@ -262,9 +262,58 @@ APPLICATIONS += [
         leds 0000
         end done steps .. time ..
     """),
+    kept("rust-hello", "in Rust: what core::fmt makes of numbers and values", "rust_hello", "empty", """
+        Hello world!
+            42 0xbeef 00000101 1099511627776
+        Board { leds: 4, name: "simulated" }
+        Milliseconds(7) Err(Invalid)
+        there is an alarm
+        ==
+        slot 0 rust_hello terminated 0 turns .. restarts 0
+        leds 0000
+        end done steps .. time ..
+    """),
+    kept("rust-blink", "in Rust: all LEDs change six times, each a quarter of a second after the last",
+         "rust_blink", "empty", """
+        ==
+        slot 0 rust_blink terminated 0 turns .. restarts 0
+        leds 1000
+        end done steps .. time ..
+    """),
+    kept("rust-lines", "in Rust: lines are read and sorted, by String, Vec and BTreeMap", "rust_lines", "lines", """
+        longest: apple
+        1 apple
+        1 pear
+        1 plum
+        ==
+        slot 0 rust_lines terminated 0 turns .. restarts 0
+        leds 0000
+        end done steps .. time ..
+    """),
+    kept("rust-buttons", "in Rust: an upcall that borrows from main, for as long as a scope lasts",
+         "rust_buttons", "press", """
+        button 0: Pressed
+        button 0: Released
+        button 0: Pressed
+        button 1: Pressed
+        ==
+        slot 0 rust_buttons terminated 0 turns .. restarts 0
+        leds 1100
+        end done steps .. time ..
+    """),
+    kept("rust-panic", "in Rust: a panic says where and why, and exits with 101", "rust_panic", "words", """
+        4 bytes: [ff, ff, ff, 44]
+        panicked at rust_panic/main.rs:22:20:
+        index out of bounds: the len is 6 but the index is 68
+        ==
+        slot 0 rust_panic terminated 101 turns .. restarts 0
+        leds 0000
+        end done steps .. time ..
+    """),
 ]
 
 # What examples/tour runs, in its order.
 TOUR = ["greet", "echo-in-c", "blink", "clock", "doze", "press", "logger", "random-in-c", "crunch", "trespass",
         "applications-in-c", "permissions", "crash", "victim", "spied", "lanes", "beside-quiet", "beside-hostile",
-        "hello", "lights", "buttons", "alarms", "dice", "answer", "words", "lost"]
+        "hello", "lights", "buttons", "alarms", "dice", "answer", "words", "lost",
+        "rust-hello", "rust-blink", "rust-lines", "rust-buttons", "rust-panic"]

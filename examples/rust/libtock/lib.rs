@@ -1,0 +1,15 @@
+//! A runtime for applications in Rust, for the six drivers of the board. Names and types are those of Tock's own Rust
+//! library, libtock-rs, where it has them; the bodies are this project's own.
+
+#![no_std]
+
+pub mod alarm;
+pub mod buttons;
+pub mod console;
+pub mod heap;
+pub mod leds;
+pub mod platform;
+pub mod rng;
+pub mod runtime;
+pub mod share;
+pub mod storage;
