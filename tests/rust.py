@@ -6,9 +6,11 @@ import re
 import tempfile
 
 from building import ran
-from common import EXAMPLES, SCRIPTS, run, write
+from cases.case import REPOSITORY
+from common import EXAMPLES, SCRIPTS, contents, run, write
 
-# An application of two files: a formatted line, a static variable, an alarm, the heap, and a call that is refused.
+# An application of two files: formatted lines, a static variable, an alarm, the heap, its places in memory, and a call
+# that is refused.
 MAIN = """\
 #![no_main]
 #![no_std]
@@ -19,9 +21,9 @@ mod numbers;
 
 use libtock::alarm::{Alarm, Milliseconds};
 use libtock::leds::Leds;
-use libtock::platform::ErrorCode;
-use libtock::println;
-use libtock::runtime::{set_main, stack_size};
+use libtock::platform::{ErrorCode, Syscalls};
+use libtock::runtime::{set_main, stack_size, TockSyscalls};
+use libtock::{memory, println};
 
 set_main! {main}
 stack_size! {0x1000}
@@ -32,6 +34,11 @@ static HEAP: libtock::heap::Heap = libtock::heap::Heap::new();
 fn main() -> Result<(), ErrorCode> {
     Alarm::sleep_for(Milliseconds(10))?;
     println!("{:?} {:.1}", numbers::squares(4), 0.5);
+    let (block, object, region) = (memory::block()?, memory::object()?, memory::region(1)?);
+    let (heap, code) = (&raw const HEAP as u32, main as fn() -> Result<(), ErrorCode> as u32);
+    let broken = unsafe { TockSyscalls::memop_sbrk(-16)? - TockSyscalls::memop_sbrk(0)? };
+    println!("{} {} {}", block.contains(&heap), object.contains(&code), block.contains(&memory::grants()?));
+    println!("{} {} {} {broken}", region.start - object.start, region.end - region.start, memory::region_count()?);
     Leds::on(99)
 }
 """
@@ -63,6 +70,68 @@ fn main() -> u32 {
 }
 """
 FORMATTED = ANYWHERE.replace("    let _", '    libtock::println!("{}", FIRST.load(Ordering::Relaxed));\n    let _')
+
+
+# An application with a scope, of which one line is left out; what is lent there as it should be; and lines that the
+# compiler refuses, with its error.
+SCOPE = """\
+#![no_main]
+#![no_std]
+#![allow(unused)]
+
+use core::cell::Cell;
+use libtock::alarm::{Alarm, Milliseconds, OnAlarm, Ticks, Timer};
+use libtock::buttons::{ButtonListener, Buttons};
+use libtock::platform::{share, AllowRo, AllowRw, AllowUserspaceRead, DefaultConfig as Plain, ErrorCode, Shown};
+use libtock::platform::{Subscribe, Syscalls};
+use libtock::runtime::{set_main, stack_size, TockSyscalls as Tock};
+
+set_main! {main}
+stack_size! {0x200}
+
+type Lent<'share, F> = (AllowRw<'share, Tock, 1, 1>, AllowRo<'share, Tock, 1, 1>, Subscribe<'share, Tock, 0, 0>,
+    AllowUserspaceRead<'share, Tock, 0, 0>, OnAlarm<'share, F>);
+
+fn main() -> Result<(), ErrorCode> {
+    let (mut bytes, text, word) = ([0; 4], [0; 4], Shown::new(0));
+    let (flag, escaped) = (Cell::new(false), Cell::new(None::<share::Handle<AllowRo<Tock, 1, 1>>>));
+    let listener = ButtonListener(|_, _| ());
+    let note = |_: Ticks, _: Ticks| flag.set(true);
+    let _: Result<(), ErrorCode> = share::scope::<Lent<_>, _, _>(|handle| {
+        let (rw, ro, upcall, shown, alarm) = handle.split();
+        LINE
+        Ok(())
+    });
+    bytes[0] = 1;
+    Ok(())
+}
+"""
+LENT = ("Tock::allow_rw::<Plain, 1, 1>(rw, &mut bytes)?; Tock::allow_ro::<Plain, 1, 1>(ro, &text)?;"
+        " Tock::subscribe::<_, _, Plain, 0, 0>(upcall, &flag)?; Alarm::show_clock(&word, shown)?;"
+        " Timer::new(&note, alarm).once(Milliseconds(1))?;")
+# What is taken back where the scope ends: a class of calls, a driver, a number.
+BACK = [(3, 1, 1), (4, 1, 1), (1, 0, 0), (7, 0, 0)]
+NO_TIMER = " let _ = Timer::new(&note, alarm);"
+REFUSED = [
+    # A buffer, a flag, a word or a function ends before the scope does.
+    ("let mut own = [0; 4]; Tock::allow_rw::<Plain, 1, 1>(rw, &mut own)?;" + NO_TIMER, "E0597"),
+    ("let own = [0; 4]; Tock::allow_ro::<Plain, 1, 1>(ro, &own)?;" + NO_TIMER, "E0597"),
+    ("let own = Cell::new(false); Tock::subscribe::<_, _, Plain, 0, 0>(upcall, &own)?;" + NO_TIMER, "E0597"),
+    ("let own = Shown::new(0); Alarm::show_clock(&own, shown)?;" + NO_TIMER, "E0597"),
+    ("let own = |_, _| (); let _ = Timer::new(&own, alarm);", "E0597"),
+    # A buffer that is lent is written, or read while the kernel may write it.
+    ("Tock::allow_ro::<Plain, 1, 1>(ro, &bytes)?; bytes[0] = 1;" + NO_TIMER, "E0506"),
+    ("Tock::allow_rw::<Plain, 1, 1>(rw, &mut bytes)?; let read = bytes[0];" + NO_TIMER, "E0503"),
+    # A handle lends twice, or outlives its scope, or is for another number or another kind.
+    ("Tock::allow_ro::<Plain, 1, 1>(ro, &text)?; Tock::allow_ro::<Plain, 1, 1>(ro, &text)?;" + NO_TIMER, "E0382"),
+    ("escaped.set(Some(ro));" + NO_TIMER, "E0521"),
+    ("Tock::allow_ro::<Plain, 1, 2>(ro, &text)?;" + NO_TIMER, "E0308"),
+    ("Tock::allow_rw::<Plain, 1, 1>(ro, &mut bytes)?;" + NO_TIMER, "E0308"),
+    # A function is for another driver; a list is lent from without a scope.
+    ("Tock::subscribe::<_, _, Plain, 0, 0>(upcall, &listener)?;" + NO_TIMER, "E0277"),
+    ("let list = AllowRo::<Tock, 1, 1>::default(); let own = share::Handle { list: &list };"
+     " Tock::allow_ro::<Plain, 1, 1>(own, &text)?;" + NO_TIMER, "E0451"),
+]
 
 
 # A compiler of a version, with a folder of its own.
@@ -105,7 +174,8 @@ def application(program):
         write(folder, "own/main.rs", MAIN)
         write(folder, "own/numbers.rs", NUMBERS)
         image = os.path.join(folder, "own", "own.bin")
-        said = "[0, 1, 4, 9] 0.5\n==\nslot 0 own terminated 6 "
+        write(folder, "own/regions", "0:64 64:32\n")
+        said = "[0, 1, 4, 9] 0.5\ntrue true true\n64 32 2 16\n==\nslot 0 own terminated 6 "
         for words, permissions, text in (([], "", said), (["STACK=8192"], "", said),
                                          ([], "0:1 0:2 0:5 0:6 1:1", said.replace("terminated 6", "terminated 11")),
                                          (["STACK=64"], "", "==\nslot 0 own faulted store 7ffff")):
@@ -136,11 +206,40 @@ def anywhere(program):
     return None if end.returncode and "nothing relocates it" in end.stderr else "not refused: " + end.stderr
 
 
+def scopes(program):
+    """What share::scope lends is taken back, and what may not be lent does not compile."""
+    with tempfile.TemporaryDirectory() as folder:
+        write(folder, "own/main.rs", SCOPE.replace("LINE", LENT))
+        end = make(folder)
+        image, script = os.path.join(folder, "own", "own.bin"), os.path.join(SCRIPTS, "empty.script")
+        text = end.stderr or run([program, "trace", image, script, "--turns", "1000"]).stdout
+        back = re.findall(r"call ([1347]) (\S+) (\S+) 00000000 00000000 = 00000082", text)
+        if [(int(words[0]), int(words[1]), int(words[2])) for words in back] != BACK:
+            return "taken back: %s in %s" % (back, text)
+        for line, error in REFUSED:
+            write(folder, "own/main.rs", SCOPE.replace("LINE", line))
+            end = make(folder)
+            if not end.returncode or set(re.findall(r"^error\[(\w+)\]", end.stderr, re.M)) != {error}:
+                return "%s: %s" % (line, end.stderr)
+    return None
+
+
+def alarms(program):
+    """Alarms that are set, cancelled and waited for inside the functions of others come as tests/alarms.rs says."""
+    with tempfile.TemporaryDirectory() as folder:
+        write(folder, "own/main.rs", contents(os.path.join(REPOSITORY, "tests", "alarms.rs")).decode())
+        end = make(folder)
+        text = end.stderr or ran(program, os.path.join(folder, "own", "own.bin"))
+    return None if text.startswith("1a2bc3d4ab\n==\nslot 0 own terminated 0 ") else repr(text)
+
+
 def checks(program, has_compiler):
     """Each check with its name."""
+    with_compiler = [("rust-application", application), ("rust-anywhere", anywhere), ("rust-scopes", scopes),
+                     ("rust-alarms-in-alarms", alarms)]
     found = [("rust-missing-tools", missing_tools)]
     if has_compiler and version():
-        return found + [("rust-application", lambda: application(program)),
-                        ("rust-anywhere", lambda: anywhere(program))]
-    print("rust-application, rust-anywhere: not tried without rustc, its sources, and the compiler for RISC-V")
+        return found + [(name, lambda check=check: check(program)) for name, check in with_compiler]
+    names = ", ".join(name for name, _ in with_compiler)
+    print("%s: not tried without rustc, its sources, and the compiler for RISC-V" % names)
     return found

@@ -301,6 +301,27 @@ APPLICATIONS += [
         leds 1100
         end done steps .. time ..
     """),
+    kept("rust-alarms", "in Rust: two periods of their own, and an alarm that ends one of them",
+         "rust_alarms", "empty", """
+        fast 1
+        fast 2
+        slow 1
+        fast 3
+        fast 4
+        fast is over
+        slow 2
+        ==
+        slot 0 rust_alarms terminated 4 turns .. restarts 0
+        leds 0000
+        end done steps .. time ..
+    """),
+    kept("rust-clock", "in Rust: an alarm is awaited in a word that the kernel writes, without a yield",
+         "rust_clock", "empty", """
+        ==
+        slot 0 rust_clock terminated 100 turns .. restarts 0
+        leds 0000
+        end done steps .. time ..
+    """),
     kept("rust-panic", "in Rust: a panic says where and why, and exits with 101", "rust_panic", "words", """
         4 bytes: [ff, ff, ff, 44]
         panicked at rust_panic/main.rs:22:20:
@@ -316,4 +337,5 @@ APPLICATIONS += [
 TOUR = ["greet", "echo-in-c", "blink", "clock", "doze", "press", "logger", "random-in-c", "crunch", "trespass",
         "applications-in-c", "permissions", "crash", "victim", "spied", "lanes", "beside-quiet", "beside-hostile",
         "hello", "lights", "buttons", "alarms", "dice", "answer", "words", "lost",
-        "rust-hello", "rust-blink", "rust-lines", "rust-buttons", "rust-panic"]
+        "rust-hello", "rust-blink", "rust-lines", "rust-buttons", "rust-alarms", "rust-clock",
+        "rust-panic"]

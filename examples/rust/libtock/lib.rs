@@ -8,6 +8,7 @@ pub mod buttons;
 pub mod console;
 pub mod heap;
 pub mod leds;
+pub mod memory;
 pub mod platform;
 pub mod rng;
 pub mod runtime;

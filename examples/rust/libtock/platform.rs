@@ -1,6 +1,8 @@
 //! What a system call comes to, and the calls themselves, as TRD 104 has them.
 
-pub use crate::share::{self, AllowRo, AllowRw, Subscribe};
+use core::cell::UnsafeCell;
+
+pub use crate::share::{self, AllowRo, AllowRw, AllowUserspaceRead, Subscribe};
 use crate::share::Handle;
 
 /// TRD 104, "Error codes".
@@ -139,6 +141,21 @@ impl Upcall<AnyId> for core::cell::Cell<Option<(u32, u32, u32)>> {
     }
 }
 
+/// A word that the kernel may write at any time, and the process reads alone.
+#[repr(transparent)]
+pub struct Shown(UnsafeCell<u32>);
+
+impl Shown {
+    pub const fn new(word: u32) -> Shown {
+        Shown(UnsafeCell::new(word))
+    }
+
+    /// What stands there now.
+    pub fn get(&self) -> u32 {
+        unsafe { self.0.get().read_volatile() }
+    }
+}
+
 /// What would be done where a buffer or an upcall was there before; nothing is.
 pub struct DefaultConfig;
 
@@ -171,6 +188,11 @@ pub trait Syscalls: Sized {
         buffer: &'share mut [u8],
     ) -> Result<(), ErrorCode>;
 
+    fn allow_userspace_read<'share, C: Config, const DRIVER: u32, const NUMBER: u32>(
+        handle: Handle<AllowUserspaceRead<'share, Self, DRIVER, NUMBER>>,
+        words: &'share [Shown],
+    ) -> Result<(), ErrorCode>;
+
     fn subscribe<'share, Ids, U: Upcall<Ids>, C: Config, const DRIVER: u32, const NUMBER: u32>(
         handle: Handle<Subscribe<'share, Self, DRIVER, NUMBER>>,
         upcall: &'share U,
@@ -180,7 +202,29 @@ pub trait Syscalls: Sized {
 
     fn unallow_ro(driver: u32, number: u32);
     fn unallow_rw(driver: u32, number: u32);
+    fn unallow_userspace_read(driver: u32, number: u32);
     fn unsubscribe(driver: u32, number: u32);
+
+    /// # Safety
+    ///
+    /// Operations 0 and 1 move the break: nothing at or above the new one may be used any more.
+    unsafe fn memop(operation: u32, argument: u32) -> CommandReturn;
+
+    /// # Safety
+    ///
+    /// Nothing at or above the address may be used any more.
+    unsafe fn memop_brk(address: *const u8) -> Result<(), ErrorCode> {
+        unsafe { Self::memop(0, address as u32) }.to_result()
+    }
+
+    /// The former break.
+    ///
+    /// # Safety
+    ///
+    /// Where it falls, nothing at or above the new break may be used any more.
+    unsafe fn memop_sbrk(increment: i32) -> Result<u32, ErrorCode> {
+        unsafe { Self::memop(1, increment as u32) }.to_result()
+    }
 
     fn exit_terminate(code: u32) -> !;
     fn exit_restart(code: u32) -> !;

@@ -6,15 +6,17 @@ use core::panic::PanicInfo;
 use core::sync::atomic::{AtomicBool, Ordering};
 
 use crate::platform::{
-    AnyId, CommandReturn, Config, DefaultConfig, ErrorCode, SupportsId, Syscalls, Upcall, YieldNoWaitReturn,
+    AnyId, CommandReturn, Config, DefaultConfig, ErrorCode, Shown, SupportsId, Syscalls, Upcall, YieldNoWaitReturn,
 };
-use crate::share::{AllowRo, AllowRw, Handle, Subscribe};
+use crate::share::{AllowRo, AllowRw, AllowUserspaceRead, Handle, Subscribe};
 
 const SUBSCRIBE: u32 = 1;
 const COMMAND: u32 = 2;
 const ALLOW_RW: u32 = 3;
 const ALLOW_RO: u32 = 4;
+const MEMOP: u32 = 5;
 const EXIT: u32 = 6;
+const ALLOW_USERSPACE_READ: u32 = 7;
 
 /// The kernel that the process runs on.
 pub struct TockSyscalls;
@@ -83,6 +85,14 @@ impl Syscalls for TockSyscalls {
         handed(system_call(ALLOW_RW, [DRIVER, NUMBER, buffer.as_mut_ptr() as u32, buffer.len() as u32]))
     }
 
+    fn allow_userspace_read<'share, C: Config, const DRIVER: u32, const NUMBER: u32>(
+        _: Handle<AllowUserspaceRead<'share, Self, DRIVER, NUMBER>>,
+        words: &'share [Shown],
+    ) -> Result<(), ErrorCode> {
+        let size = core::mem::size_of_val(words) as u32;
+        handed(system_call(ALLOW_USERSPACE_READ, [DRIVER, NUMBER, words.as_ptr() as u32, size]))
+    }
+
     fn subscribe<'share, Ids, U: Upcall<Ids>, C: Config, const DRIVER: u32, const NUMBER: u32>(
         _: Handle<Subscribe<'share, Self, DRIVER, NUMBER>>,
         upcall: &'share U,
@@ -102,8 +112,16 @@ impl Syscalls for TockSyscalls {
         system_call(ALLOW_RW, [driver, number, 0, 0]);
     }
 
+    fn unallow_userspace_read(driver: u32, number: u32) {
+        system_call(ALLOW_USERSPACE_READ, [driver, number, 0, 0]);
+    }
+
     fn unsubscribe(driver: u32, number: u32) {
         system_call(SUBSCRIBE, [driver, number, 0, 0]);
+    }
+
+    unsafe fn memop(operation: u32, argument: u32) -> CommandReturn {
+        CommandReturn(system_call(MEMOP, [operation, argument, 0, 0]))
     }
 
     fn exit_terminate(code: u32) -> ! {
@@ -117,6 +135,15 @@ impl Syscalls for TockSyscalls {
             system_call(EXIT, [1, code, 0, 0]);
         }
     }
+}
+
+/// Has a function of this crate run for an upcall, without any data.
+pub(crate) fn subscribe_function(
+    driver: u32,
+    number: u32,
+    function: unsafe extern "C" fn(u32, u32, u32, *const ()),
+) -> Result<(), ErrorCode> {
+    handed(system_call(SUBSCRIBE, [driver, number, function as usize as u32, 0]))
 }
 
 struct Ignored;
@@ -138,7 +165,7 @@ pub fn command_and_wait<const DRIVER: u32, const NUMBER: u32>(
     Ok(TockSyscalls::yield_wait_for(DRIVER, NUMBER))
 }
 
-/// What `main` may return: nothing, or an error code, which becomes the completion code.
+/// What `main` may return; an error's number becomes the completion code.
 pub trait Termination {
     fn code(self) -> u32;
 }
@@ -155,9 +182,9 @@ impl Termination for u32 {
     }
 }
 
-impl Termination for Result<(), ErrorCode> {
+impl<T: Termination> Termination for Result<T, ErrorCode> {
     fn code(self) -> u32 {
-        self.map_or_else(|error| error as u32, |_| 0)
+        self.map_or_else(|error| error as u32, T::code)
     }
 }
 

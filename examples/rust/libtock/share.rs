@@ -9,7 +9,7 @@
 use core::cell::Cell;
 use core::marker::PhantomData;
 
-use crate::platform::Syscalls;
+use crate::platform::{Shown, Syscalls};
 
 /// What a scope may lend, each at most once.
 pub trait List: Default {}
@@ -17,6 +17,13 @@ pub trait List: Default {}
 /// The right to lend one of a scope. Lending takes it.
 pub struct Handle<'handle, L: List> {
     list: &'handle L,
+}
+
+impl<'handle, L: List> Handle<'handle, L> {
+    /// What it may lend, which stays where it is for as long as the scope lasts.
+    pub(crate) fn take(self) -> &'handle L {
+        self.list
+    }
 }
 
 /// The list lies where nobody but this function has it, so that it is dropped before what was lent ends.
@@ -57,6 +64,10 @@ shared! {
 shared! {
     /// A buffer that the kernel writes, too.
     AllowRw, &'share mut [u8], unallow_rw
+}
+shared! {
+    /// Words that the kernel writes while the process reads them.
+    AllowUserspaceRead, &'share [Shown], unallow_userspace_read
 }
 shared! {
     /// A function that runs where the process yields.
