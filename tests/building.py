@@ -253,6 +253,61 @@ def alarms(program):
     return None if text.startswith("1a2bc3d40e-1g\n==\nslot 0 own terminated 0 ") else repr(text)
 
 
+# An alarm every 100 ms that prints a line each time, and how many ms it is since the first was set; then a delay.
+EVERY_100_MS = r"""
+#include <stdio.h>
+#include <libtock-sync/services/alarm.h>
+
+static libtock_alarm_repeating_t alarm;
+static uint32_t start, frequency, end;
+static int times;
+
+static void tell(uint32_t now, uint32_t scheduled, void *opaque)
+{
+    (void)scheduled, (void)opaque;
+    times++;
+    printf("%d at %lu\n", times, (unsigned long)libtock_alarm_ticks_to_ms(now - start));
+}
+
+int main(void)
+{
+    libtock_alarm_command_read(&start);
+    libtock_alarm_repeat_every_ms(100, tell, NULL, &alarm);
+    while (times < 40) {
+        yield();
+    }
+    libtock_alarm_repeating_cancel(&alarm);
+    libtock_alarm_command_read(&start);
+    libtocksync_alarm_delay_ms(5000);
+    libtock_alarm_command_read(&end);
+    libtock_alarm_command_get_frequency(&frequency);
+    printf("%lu s, %d\n", (unsigned long)((end - start) / frequency), libtock_alarm_ms_to_ticks(4294968) == UINT32_MAX);
+    return 0;
+}
+"""
+
+
+def milliseconds(program):
+    """With TICKS_PER_MS=1000 an alarm every 100 ms keeps its time though it prints; a number that is none is
+    refused."""
+    with tempfile.TemporaryDirectory() as folder:
+        write(folder, "own/main.c", EVERY_100_MS)
+        end = make(folder, "TICKS_PER_MS=1000")
+        text = end.stderr or ran(program, os.path.join(folder, "own", "own.bin"))
+        if not text.startswith(every_100_ms(40) + "5 s, 1\n==\nslot 0 own terminated 0 "):
+            return repr(text)
+        for number in ("0", "01", "x", "1000000", "1 2"):
+            end = make(folder, "TICKS_PER_MS=" + number)
+            if not end.returncode or "TICKS_PER_MS=%s: it is no number from 1 to 999999" % number not in end.stderr:
+                return "%s: %s" % (number, end.stderr)
+    return None
+
+
+def every_100_ms(times):
+    """What such an alarm prints."""
+    return "".join("%d at %d\n" % (time, 100 * time) for time in range(1, times + 1))
+
+
 # Lines that tools/script reads, and the script that it writes.
 TYPED = r"""# what a person does
 buttons 2
@@ -264,6 +319,10 @@ buttons 2
 1000 terminate echo
 900 type 01234567890123456789012345678901234567890123456789012345678901234567890123456789 é
 +0 press 0
+ticks-per-ms 1000
+5ms press 0
+1s tap 1
+4000 tap 1
 """
 SCRIPT = """# what a person does
 buttons 2
@@ -278,6 +337,11 @@ at 900 input %s
 at 900 press 0
 at 1000 do terminate echo
 at 2000 input 68656c6c6f20776f726c640a
+at 4000 press 1
+at 5000 press 0
+at 104000 release 1
+at 1000000 press 1
+at 1100000 release 1
 """ % ((b"0123456789" * 6 + b"0123").hex(), ("4567890123456789 é\n".encode()).hex())
 
 # Lines that it refuses, and a part of what it says.
@@ -289,6 +353,8 @@ BAD_LINES = [
     ("5 press a", "line 1: press wants the number of a button"),
     ("5 tap", "line 1: tap wants the number of a button, and may have ticks"),
     ("5 stop a b", "line 1: stop wants the name of a process"),
+    ("ticks-per-ms 0", "line 1: ticks-per-ms wants a number from 1 to 999999"),
+    ("ticks-per-ms", "line 1: ticks-per-ms wants a number from 1 to 999999"),
     ("4294968s type x", "line 1: a time is at most 4294967295 ticks"),
 ]
 
@@ -317,7 +383,7 @@ def checks(program, has_compiler, has_picolibc):
     found = [("pack", pack), ("missing-tools", missing_tools), ("scripts", scripts)]
     if has_compiler:
         found += [("own-application", lambda: own_application(program)), ("placed-program", placed_program),
-                  ("alarms-in-alarms", lambda: alarms(program))]
+                  ("alarms-in-alarms", lambda: alarms(program)), ("milliseconds", lambda: milliseconds(program))]
     if has_picolibc:
         found.append(("fixed-application", lambda: fixed_application(program)))
     else:

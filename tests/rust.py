@@ -5,7 +5,7 @@ import os
 import re
 import tempfile
 
-from building import ran
+from building import every_100_ms, ran
 from cases.case import REPOSITORY
 from common import EXAMPLES, SCRIPTS, contents, run, write
 
@@ -71,6 +71,40 @@ fn main() -> u32 {
 """
 FORMATTED = ANYWHERE.replace("    let _", '    libtock::println!("{}", FIRST.load(Ordering::Relaxed));\n    let _')
 
+
+# An alarm every 100 ms that prints a line each time, and how many ms it is since the first was set; then a delay.
+EVERY_100_MS = """\
+#![no_main]
+#![no_std]
+
+use core::cell::Cell;
+use libtock::alarm::{Alarm, Milliseconds, OnAlarm, Timer};
+use libtock::platform::{share, ErrorCode, Syscalls};
+use libtock::println;
+use libtock::runtime::{set_main, stack_size, TockSyscalls};
+
+set_main! {main}
+stack_size! {0x400}
+
+fn main() -> Result<(), ErrorCode> {
+    let (times, start) = (Cell::new(0), Alarm::get_milliseconds()?);
+    let tell = |_, _| {
+        times.set(times.get() + 1);
+        println!("{} at {}", times.get(), Alarm::get_milliseconds().unwrap() - start);
+    };
+    share::scope::<OnAlarm<_>, _, _>(|handle| {
+        Timer::new(&tell, handle).every(Milliseconds(100))?;
+        while times.get() < 40 {
+            TockSyscalls::yield_wait();
+        }
+        Ok::<(), ErrorCode>(())
+    })?;
+    let start = Alarm::get_ticks()?;
+    Alarm::sleep_for(Milliseconds(5000))?;
+    println!("{} s", (Alarm::get_ticks()? - start) / Alarm::get_frequency()?.0);
+    Ok(())
+}
+"""
 
 # An application with a scope, of which one line is left out; what is lent there as it should be; and lines that the
 # compiler refuses, with its error.
@@ -233,10 +267,19 @@ def alarms(program):
     return None if text.startswith("1a2bc3d4ab\n==\nslot 0 own terminated 0 ") else repr(text)
 
 
+def milliseconds(program):
+    """With TICKS_PER_MS=1000 an alarm every 100 ms keeps its time though it prints."""
+    with tempfile.TemporaryDirectory() as folder:
+        write(folder, "own/main.rs", EVERY_100_MS)
+        end = make(folder, "TICKS_PER_MS=1000")
+        text = end.stderr or ran(program, os.path.join(folder, "own", "own.bin"))
+    return None if text.startswith(every_100_ms(40) + "5 s\n==\nslot 0 own terminated 0 ") else repr(text)
+
+
 def checks(program, has_compiler):
     """Each check with its name."""
     with_compiler = [("rust-application", application), ("rust-anywhere", anywhere), ("rust-scopes", scopes),
-                     ("rust-alarms-in-alarms", alarms)]
+                     ("rust-alarms-in-alarms", alarms), ("rust-milliseconds", milliseconds)]
     found = [("rust-missing-tools", missing_tools)]
     if has_compiler and version():
         return found + [(name, lambda check=check: check(program)) for name, check in with_compiler]

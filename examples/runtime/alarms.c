@@ -117,7 +117,9 @@ void libtock_alarm_repeat_every_ms(uint32_t milliseconds, libtock_alarm_callback
     alarm->interval = ticks > 0 ? ticks : 1;
     alarm->callback = callback;
     alarm->opaque = opaque;
-    libtock_alarm_in_ms(alarm->interval, repeat, alarm, &alarm->alarm);
+    alarm->alarm.callback = repeat;
+    alarm->alarm.opaque = alarm;
+    set(&alarm->alarm, NULL, alarm->interval);
 }
 
 void libtock_alarm_repeating_cancel(libtock_alarm_repeating_t *alarm)

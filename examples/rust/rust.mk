@@ -7,8 +7,9 @@ RUSTC := $(firstword $(foreach compiler,$(shell which -a rustc 2>/dev/null), \
     $(if $(wildcard $(call sources_of,$(compiler))/core/src/lib.rs),$(compiler))) rustc)
 RUST_SOURCES := $(call sources_of,$(RUSTC))
 RUST_TARGET = riscv32imc-unknown-none-elf
-# What is built of them, for all applications.
+# What is built of them, for all applications; and of libtock, by how many ticks it takes for a millisecond.
 CORE = $(CURDIR)/out/rust/library
+LIBTOCK = $(CORE)/ticks_$(TICKS_PER_MS)
 EDITION = 2021
 
 # Code and constants are found from pc, as in C. The compiler is called where a relative path names the source: panics
@@ -47,9 +48,10 @@ $(CORE)/libcompiler_builtins.rlib: rust/compiler_builtins.rs $(CORE)/libcore.rli
 $(CORE)/liballoc.rlib: $(CORE)/libcompiler_builtins.rlib
 	$(call own,$(RUST_SOURCES),alloc) alloc/src/lib.rs $(quietly)
 
-$(CORE)/liblibtock.rlib: $(wildcard rust/libtock/*.rs) $(CORE)/liballoc.rlib
-	cd rust && $(RUSTC) --crate-type rlib --crate-name libtock $(CHECKED) --out-dir $(CORE) \
-	    libtock/lib.rs $(quietly)
+$(LIBTOCK)/liblibtock.rlib: $(wildcard rust/libtock/*.rs) $(CORE)/liballoc.rlib
+	@mkdir -p $(@D)
+	cd rust && TICKS_PER_MS=$(TICKS_PER_MS) $(RUSTC) --crate-type rlib --crate-name libtock $(CHECKED) \
+	    --out-dir $(@D) libtock/lib.rs $(quietly)
 
 # Which compiler there is, where it has all that it needs.
 rust-version:
@@ -60,8 +62,8 @@ $(CORE)/.compiler: FORCE
 	@{ $(RUSTC) -vV; echo "$(RUSTFLAGS)"; } > $@.now; cmp -s $@.now $@ || cp $@.now $@
 
 # All of it is put into one archive, of which the application's part and what that needs of compiler_builtins remain.
-$(OUT)/%.o: $$(wildcard $$(call folder,$$*)/*.rs $$(call folder,$$*)/*/*.rs) $(CORE)/liblibtock.rlib $(OUT)/.library
+$(OUT)/%.o: $$(wildcard $$(call folder,$$*)/*.rs $$(call folder,$$*)/*/*.rs) $(LIBTOCK)/liblibtock.rlib $(OUT)/.library
 	cd $(call folder,$*)/.. && $(RUSTC) --crate-type staticlib --crate-name $(subst -,_,$*) $(CHECKED) -C lto=fat \
-	    --extern libtock=$(CORE)/liblibtock.rlib -o $(abspath $(OUT))/$*.a $*/main.rs \
+	    --extern libtock=$(LIBTOCK)/liblibtock.rlib -o $(abspath $(OUT))/$*.a $*/main.rs \
 	    $(subst $@,$(abspath $@),$(quietly))
 	$(compiler)$(TOOLCHAIN)ld -m elf32lriscv -r -u main $(OUT)/$*.a -o $@

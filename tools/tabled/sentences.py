@@ -63,7 +63,7 @@ MANUAL = [
     "there are at most {EVENT_LIMIT} of them", "A number has 1 to {DIGITS} decimal digits.",
     "A directory cannot be read ({FAULT}).", "is no command ({USAGE}).", "before the program is built ({NO_PROGRAM}).",
     "{NO_PROGRAM} is that of the script `./tock`", "and the answer is {NO_PROGRAM}.",
-    "its first bad line, counted from {FIRST_LINE}, and", "and a release {TAP} ticks later",
+    "its first bad line, counted from {FIRST_LINE}, and", "and a release {TAP} ms later",
     "a delay of 1 ms is {TICKS_OF_MS:w} instruction.", "says `partition {WINDOW}`.",
     "in windows of {WINDOW:w} ticks](#time-partitions)",
     "`hello` has the times 0 to {WINDOW_LAST}, and", " its next window begins; {IDLE_SLOTS:w} windows in which "

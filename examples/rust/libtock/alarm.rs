@@ -14,6 +14,16 @@ const TIME: u32 = 2;
 const STOP: u32 = 3;
 const ABSOLUTE: u32 = 6;
 
+/// How many ticks this library takes for a millisecond, by the build: `make TICKS_PER_MS=1000`. The kernel, which
+/// executes an instruction a tick, says that it has 1,000 ticks a second.
+const TICKS_PER_MS: u32 = match option_env!("TICKS_PER_MS") {
+    Some(number) => match u32::from_str_radix(number, 10) {
+        Ok(ticks) => ticks,
+        Err(_) => panic!("TICKS_PER_MS is no number"),
+    },
+    None => 1,
+};
+
 #[derive(Clone, Copy, Debug, PartialEq, Eq, PartialOrd, Ord)]
 pub struct Hz(pub u32);
 
@@ -46,9 +56,9 @@ impl Alarm {
         TockSyscalls::command(DRIVER, 0, 0, 0).to_result()
     }
 
-    /// Ticks a second.
+    /// Ticks a second, as this library takes them.
     pub fn get_frequency() -> Result<Hz, ErrorCode> {
-        TockSyscalls::command(DRIVER, FREQUENCY, 0, 0).to_result().map(Hz)
+        TockSyscalls::command(DRIVER, FREQUENCY, 0, 0).to_result().map(|ticks: u32| Hz(ticks * TICKS_PER_MS))
     }
 
     /// The clock's tick now.

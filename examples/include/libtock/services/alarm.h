@@ -1,6 +1,5 @@
-// As many alarms as an application wants, by the one that the kernel has for it, and so by its upcall. A tick is a
-// millisecond of the clock, and a turn: what an application does between two alarms takes as many ticks as
-// instructions.
+// As many alarms as an application wants, by the one that the kernel has for it, and so by its upcall. What an
+// application does between two alarms takes as many ticks as instructions.
 
 #ifndef LIBTOCK_SERVICES_ALARM_H
 #define LIBTOCK_SERVICES_ALARM_H
@@ -26,14 +25,15 @@ typedef struct {
     libtock_alarm_t alarm;
 } libtock_alarm_repeating_t;
 
+// As many ticks as there are, where it would be more.
 static inline uint32_t libtock_alarm_ms_to_ticks(uint32_t milliseconds)
 {
-    return milliseconds;
+    return milliseconds > UINT32_MAX / TOCK_TICKS_PER_MS ? UINT32_MAX : milliseconds * TOCK_TICKS_PER_MS;
 }
 
 static inline uint32_t libtock_alarm_ticks_to_ms(uint32_t ticks)
 {
-    return ticks;
+    return ticks / TOCK_TICKS_PER_MS;
 }
 
 // Has an alarm come once, so many milliseconds from now on.

@@ -1,5 +1,5 @@
-// The calls of the alarm's driver. A process has one alarm; the clock counts 1,000 ticks a second modulo 2^32, and a
-// tick is a turn: one instruction.
+// The calls of the alarm's driver. A process has one alarm; the clock counts ticks modulo 2^32, and a tick is a turn:
+// one instruction.
 
 #ifndef LIBTOCK_PERIPHERALS_SYSCALLS_ALARM_SYSCALLS_H
 #define LIBTOCK_PERIPHERALS_SYSCALLS_ALARM_SYSCALLS_H
@@ -7,6 +7,12 @@
 #include <libtock/tock.h>
 
 enum { DRIVER_NUM_ALARM = 0x0 };
+
+// How many ticks this library takes for a millisecond, by the build: `make TICKS_PER_MS=1000`. The kernel, which
+// executes an instruction a tick, says that it has 1,000 ticks a second.
+#ifndef TOCK_TICKS_PER_MS
+#define TOCK_TICKS_PER_MS 1
+#endif
 
 enum { TOCK_ALARM_FREQUENCY = 1, TOCK_ALARM_READ = 2, TOCK_ALARM_STOP = 3, TOCK_ALARM_RELATIVE = 5,
     TOCK_ALARM_ABSOLUTE = 6 };
@@ -22,10 +28,13 @@ static inline returncode_t libtock_alarm_set_upcall(subscribe_upcall *callback, 
     return tock_subscribe_return_to_returncode(subscribe(DRIVER_NUM_ALARM, 0, callback, opaque));
 }
 
-// Ticks a second.
+// Ticks a second, as this library takes them.
 static inline returncode_t libtock_alarm_command_get_frequency(uint32_t *frequency)
 {
-    return tock_command_return_u32_to_returncode(command(DRIVER_NUM_ALARM, TOCK_ALARM_FREQUENCY, 0, 0), frequency);
+    returncode_t code =
+        tock_command_return_u32_to_returncode(command(DRIVER_NUM_ALARM, TOCK_ALARM_FREQUENCY, 0, 0), frequency);
+    *frequency *= TOCK_TICKS_PER_MS;
+    return code;
 }
 
 // The clock's tick now.
