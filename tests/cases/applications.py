@@ -3,10 +3,11 @@
 import struct
 import zlib
 
-from .case import kept
+from .case import Case, kept
 
 # The other applications in C. Their texts were computed by a model of the kernel, the devices and the round robin,
-# apart from the program, over the disassembly of the images as they are kept.
+# apart from the program, over the disassembly of the images as they are kept; those of doze, which was changed
+# afterwards, were counted over it by hand.
 VICTIM_SAYS = "my secret is as it was\n"
 VICTIMS = VICTIM_SAYS * 3
 MINE = "all time and the line are mine, all time and the line are mine\n"
@@ -54,16 +55,26 @@ APPLICATIONS = [
         leds 0000
         end done steps 162 time 161
     """),
-    kept("doze", "an alarm and a write are waited for alone each, without a function for an upcall",
+    kept("doze", "an alarm and a write are waited for alone each, and no function of an upcall runs",
          "doze", "empty", """
         awake
         awake
         awake
         ==
-        slot 0 doze terminated 0 turns 129 restarts 0
+        slot 0 doze terminated 0 turns 145 restarts 0
         leds 0000
-        end done steps 141 time 405
+        end done steps 157 time 421
     """),
+    Case("doze-too-late", "an upcall that comes before it is waited for is kept, since it has a function",
+         ["boot", "examples/images/doze.bin", "script", "--turns", "1000"], 0, """
+        awake
+        awake
+        awake
+        ==
+        slot 0 doze terminated 0 turns 142 restarts 0
+        leds 0000
+        end done steps 154 time 418
+    """, None, b"uart 0\n", is_kept=True),
     kept("press", "an LED is on while a button is pressed, and the last press of another ends it", "press", "press", """
         ==
         slot 0 press terminated 0 turns 116 restarts 0

@@ -1,8 +1,14 @@
-// Wakes three times by the alarm, and writes a line each time, without a function for an upcall: what it asked for is
-// waited for alone.
+// Wakes three times by the alarm, and writes a line each time. What it asked for is waited for alone: no function of an
+// upcall runs.
 
 #include "alarm.h"
 #include "console.h"
+
+// Subscribed, since the kernel keeps no upcall without a function that comes before it is waited for.
+static void never(int first, int second, int third, void *userdata)
+{
+    (void)first, (void)second, (void)third, (void)userdata;
+}
 
 // Whether the alarm came at the tick for which it was set.
 static bool doze(uint32_t ticks)
@@ -23,6 +29,10 @@ static bool tell(const char *text, size_t size)
 int main(void)
 {
     static const char awake[] = "awake\n";
+    if (!subscribe(DRIVER_NUM_ALARM, 0, never, NULL).success
+        || !subscribe(DRIVER_NUM_CONSOLE, TOCK_CONSOLE_WRITE, never, NULL).success) {
+        return TOCK_STATUSCODE_FAIL;
+    }
     for (int time = 0; time < 3; time++) {
         if (!doze(100) || !tell(awake, sizeof awake - 1)) {
             return TOCK_STATUSCODE_FAIL;
