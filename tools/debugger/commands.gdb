@@ -1,4 +1,6 @@
 # What a session of tools/debug has beside GDB's own commands.
+# The first answer comes when the server has its boards, on a busy machine late.
+set remotetimeout 60
 define seek
   eval "monitor seek %ld", (long) ($arg0)
   continue
