@@ -48,6 +48,17 @@ APPLICATIONS = [
         leds 0000
         end done steps 3150 time 3148
     """),
+    kept("desk", "a session of tools/live, as it was saved: buttons pressed, a line typed, an operator's acts",
+         "desk", "desk", """
+        hello, board
+        2 echo yielded
+        ==
+        slot 0 buttons yielded turns 127 restarts 0
+        slot 1 trespass faulted store 80000c00 no-region turns 10 restarts 0
+        slot 2 echo stopped turns 155 restarts 0
+        leds 1001
+        end done steps 305 time 4300
+    """),
     kept("clock", "an alarm is awaited in a word that the kernel writes, without an upcall and without a yield",
          "clock", "empty", """
         ==
@@ -347,6 +358,6 @@ APPLICATIONS += [
 # What examples/tour runs, in its order.
 TOUR = ["greet", "echo-in-c", "blink", "clock", "doze", "press", "logger", "random-in-c", "crunch", "trespass",
         "applications-in-c", "permissions", "crash", "victim", "spied", "lanes", "beside-quiet", "beside-hostile",
-        "hello", "lights", "buttons", "alarms", "dice", "answer", "words", "lost",
+        "hello", "lights", "buttons", "desk", "alarms", "dice", "answer", "words", "lost",
         "rust-hello", "rust-blink", "rust-lines", "rust-buttons", "rust-alarms", "rust-clock",
         "rust-panic"]

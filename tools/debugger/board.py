@@ -83,11 +83,12 @@ class State:
 
 
 class Board:
-    """A board that goes where it is told to: on, or back by running again."""
+    """A board that goes where it is told to: on, or back by running again. One that is apart goes on where the terminal
+    interrupts who asks it."""
 
-    def __init__(self, look, flash, script):
+    def __init__(self, look, flash, script, is_apart=False):
         self.process = subprocess.Popen([look, flash, script], stdin=subprocess.PIPE, stdout=subprocess.PIPE,
-                                        universal_newlines=True)
+                                        universal_newlines=True, start_new_session=is_apart)
         self.steps, self.told = 0, None     # the steps made, and the place that was told where it moved
 
     def ask(self, *words):
@@ -149,6 +150,17 @@ class Board:
 
     def end(self):
         self.process.stdin.close()
+        self.process.stdout.close()
+        self.process.wait()
+
+    def stop(self):
+        """Ends it, whatever it does."""
+        self.process.kill()
+        try:
+            self.process.stdin.close()
+        except BrokenPipeError:
+            # It did not read what was sent.
+            pass
         self.process.stdout.close()
         self.process.wait()
 
