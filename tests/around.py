@@ -14,7 +14,6 @@ from flash_images import A0, A1, app, exits, li, lw, mv, padding, S1
 LOOK = os.path.join("crates", "tock_look", "out", "tock_look")
 
 
-
 def tour(program):
     """Each run of the tour comes to its text, and each image of an application in C is in it."""
     end = run([os.path.join(EXAMPLES, "tour"), program])
@@ -55,6 +54,16 @@ def partitioned_pair(program):
             if one == other:
                 return "without partitions slot %d does not differ" % slot
     return None
+
+
+def hostile(program):
+    """The neighbour that is hostile sets an alarm for the next tick before each line that it prints, three in each of
+    three lives."""
+    script = contents(os.path.join(SCRIPTS, "partition.script"))
+    with tempfile.TemporaryDirectory() as folder:
+        told = lines_of(program, folder, contents(os.path.join(IMAGES, "beside_hostile.bin")), script, 0)[0]
+    done = re.findall(r"^(out|call 2 00000000 00000005 00000001|denied)", "\n".join(line for _, line in told), re.M)
+    return None if done == (["call 2 00000000 00000005 00000001", "out"] * 3 + ["denied"]) * 3 else "it did %s" % done
 
 
 # What each slot has of its own: windows, input, random words, faults of storage, and a serial line that is slow.
@@ -106,7 +115,7 @@ def looking(program):
     shown = [(block, after) for block, after in zip(blocks, blocks[1:]) if block.startswith(LOOK)]
     if len(shown) != 1:
         return "docs/looking.md shows %d runs" % len(shown)
-    end = run(shlex.split(shown[0][0]), cwd=REPOSITORY)
+    end = run(shlex.split(shown[0][0].replace("\\\n", "")), cwd=REPOSITORY)
     if (end.returncode, end.stdout, end.stderr) != (0, shown[0][1], ""):
         return "docs/looking.md shows another text than %r" % end.stdout
     files = ["images/together.bin", "scripts/operator.script"]
@@ -150,7 +159,7 @@ def looking_on():
 def checks(program):
     """Each check with its name."""
     found = [("tour", lambda: tour(program)), ("partitioned-pair", lambda: partitioned_pair(program)),
-             ("partition-neighbours", lambda: partition_neighbours(program))]
+             ("partition-neighbours", lambda: partition_neighbours(program)), ("hostile", lambda: hostile(program))]
     if os.path.exists(os.path.join(REPOSITORY, LOOK)):
         found += [("looking", lambda: looking(program)), ("looking-on", looking_on)]
     else:

@@ -7,9 +7,12 @@ import shutil
 import subprocess
 import tempfile
 
-from cases.programs import EXIT_7
-from common import EXAMPLES, REPOSITORY, SCRIPTS, contents, run, write
-from flash_images import FLASH, RAM, app, fixed_addresses_tlv, padding, permissions_tlv, writeable_flash_regions_tlv
+from cases.programs import CODE_7, EXIT_7
+from common import EXAMPLES, REPOSITORY, SCRIPTS, TOCK, contents, run, write
+from flash_images import (FLASH, RAM, app, fixed_addresses_tlv, padding, permissions_tlv, program_tlv, tbf,
+                          writeable_flash_regions_tlv)
+
+EMPTY = os.path.join(SCRIPTS, "empty.script")
 
 # What examples/pack refuses, with a part of what it says.
 BAD_PACKS = [
@@ -32,6 +35,8 @@ BAD_ELEMENTS = [
     ("fixed=0", "fixed addresses are RAM:FLASH: 0"),
     ("flash=0:0", "neither region= nor fixed=: flash=0:0"),
 ]
+
+NOT_FOR_ELF2TAB = "own: permissions, regions and FIXED are for ./pack, not for elf2tab"
 
 # An application of two files with static variables of both kinds, and calls of C's library.
 MAIN = r"""
@@ -78,7 +83,7 @@ def make(folder, *words):
     return run(["make", "-C", EXAMPLES, "APP=" + os.path.join(folder, "own"), *words])
 
 
-def ran(program, *images, script=os.path.join(SCRIPTS, "empty.script")):
+def ran(program, *images, script=EMPTY):
     """What a run of these images, put together, writes."""
     with tempfile.TemporaryDirectory() as folder:
         flash = os.path.join(folder, "flash")
@@ -181,7 +186,7 @@ def placed_program():
         if contents(os.path.join(out, "placed")) != contents(os.path.join(out, "own.program")):
             return "other bytes"
         end = make(folder, "-n", "own.debug", "SCRIPT=" + os.path.join(SCRIPTS, "hi.script"))
-    debug = "../tools/debug %s/own/own.bin %s/hi.script --slot 0 %s/own.elf" % (folder, SCRIPTS, out)
+    debug = "../tools/debug %s/own.tbf %s/hi.script --slot 0 %s/own.elf" % (out, SCRIPTS, out)
     if debug not in end.stdout:
         return "not started: %s%s" % (end.stdout, end.stderr)
     return None if "20000028 T _start" in symbols else symbols
@@ -210,6 +215,99 @@ def fixed_application(program):
                 return "%s: %r" % (words, text)
         text = ran(program, image)
     return None if "slot" not in text and "own" not in text else "at another place: %r" % text
+
+
+# What docs/applications.md says of a trace, and the lines that do so.
+CALLS = {"the clock read": "call 2 00000000 00000002", "the alarm armed": "call 2 00000000 00000006",
+         "the wait": "call 0 00000001", "the LED toggled": "call 2 00000002 00000003", "the line go out": "out"}
+
+
+def first_application(program):
+    """The application that docs/applications.md begins with is built, and its trace has what is told there, in that
+    order, three times."""
+    page = contents(os.path.join(REPOSITORY, "docs", "applications.md")).decode()
+    block = re.search(r"with `main.c`:\n\n((?:    .*\n|\n)+)", page)[1]
+    told = re.findall("|".join(CALLS), re.search("The trace shows three times (.*?);", page)[1])
+    with tempfile.TemporaryDirectory() as folder:
+        write(folder, "own/main.c", re.sub("^    ", "", block, flags=re.M))
+        end = make(folder)
+        words = ["trace", os.path.join(folder, "own", "own.bin"), EMPTY, "--turns", "10000"]
+        text = end.stderr if end.returncode else run([program, *words]).stdout
+    done = re.findall(r"^@\d+ 0 (%s)\b" % "|".join(CALLS.values()), text, re.M)
+    is_lit = "leds 1000\nend done" in text
+    return None if len(told) > 4 and done == [CALLS[one] for one in told] * 3 and is_lit else "it does %r" % text
+
+
+def behind_another(program):
+    """An application is linked for the place behind another one by what the list tells of that, and TOCK_PLACES=1; it
+    has footers, which no code is."""
+    other = tbf([program_tlv(40 + len(CODE_7))], CODE_7 + bytes(20))
+    environment = dict(os.environ, TOCK_PROGRAM=program, TOCK_PLACES="1")
+    with tempfile.TemporaryDirectory() as folder:
+        image = os.path.join(folder, "other")
+        with open(image, "wb") as file:
+            file.write(other)
+        write(folder, "own/main.c", MAIN.replace("SIZE", "20000"))
+        write(folder, "own/seven.c", TABLES)
+        listed = run([TOCK, "list", image], env=environment).stdout
+        told = run([TOCK, "boot", image, EMPTY, "--turns", "0"], env=environment).stderr
+        start, size = map(int, re.match(r"object (\d+) (\d+) app ", listed).groups())
+        words = ["FIXED=1", "RAM=" + re.search(r" RAM from \S+ to (\S+),", told)[1]]
+        code_end = int(re.search(r" code from \S+ to (\S+)", told)[1], 16)
+        for place, is_run in ((FLASH + start + size, True), (code_end, False)):
+            end = make(folder, *words, "FLASH=0x%x" % place)
+            text = end.stderr if end.returncode else ran(program, image, os.path.join(folder, "own", "own.bin"))
+            if ("\nslot 1 own terminated " in text) != is_run or end.returncode:
+                return "0x%x: %s" % (place, text)
+    return None
+
+
+# Stands in for elf2tab: it keeps its words, and writes an object beside the program, its last word.
+ELF2TAB = """#!/bin/sh
+echo "$*" >"%s/words"
+for last; do :; done
+cp "%s" "${last%%.elf}.tbf"
+"""
+
+
+def elf2tab(program, has_picolibc):
+    """ELF2TAB= packs an application by elf2tab, with the words that it takes; one that this cannot pack is refused."""
+    with tempfile.TemporaryDirectory() as folder:
+        exit_7, tool, kept = (os.path.join(folder, name) for name in ("exit7", "elf2tab", "words"))
+        with open(exit_7, "wb") as file:
+            file.write(EXIT_7)
+        write(folder, "elf2tab", ELF2TAB % (folder, exit_7), 0o755)
+        write(folder, "own/main.c", SEVEN + "int main(void) { return times_seven(1); }\n")
+        end = make(folder, "ELF2TAB=" + tool, "STACK=512")
+        out = os.path.join(folder, "own", "out")
+        words = "-n own -o %s/own.tab --stack 512 --app-heap 0 --kernel-heap 0 %s/own.elf\n" % (out, out)
+        if end.returncode or contents(kept).decode() != words or contents(out + "/own.elf")[:4] != b"\x7fELF":
+            return "elf2tab got %r: %s" % (contents(kept) if os.path.exists(kept) else None, end.stderr)
+        if contents(os.path.join(folder, "own", "own.bin")) != EXIT_7:
+            return "the image is not what elf2tab wrote"
+        os.remove(kept)
+        for name, text, more in (("permissions", "1:1", []), ("regions", "0:64", []), ("none", "", ["FIXED=1"])):
+            write(folder, "own/" + name, text)
+            end = make(folder, "-B", "ELF2TAB=" + tool, *more) if has_picolibc or not more else None
+            os.remove(os.path.join(folder, "own", name))
+            if end and (not end.returncode or NOT_FOR_ELF2TAB not in end.stderr or os.path.exists(kept)):
+                return "%s: %s" % (name, end.stderr)
+    return None
+
+
+def other_folders(program):
+    """IMAGES= names a folder that need not be there, and gets the images; a debugger is started without one written."""
+    with tempfile.TemporaryDirectory() as folder:
+        images, out = os.path.join(folder, "new", "images"), os.path.join(folder, "out")
+        words = ["make", "-C", EXAMPLES, "IMAGES=" + images, "OUT=" + out, "TOCK=" + program]
+        end = run(words + [os.path.join(images, name + ".bin") for name in ("lamp", "permissions")])
+        if end.returncode or not contents(os.path.join(images, "permissions.bin")).startswith(
+                contents(os.path.join(images, "lamp.bin"))):
+            return end.stderr or "permissions.bin does not begin with lamp.bin"
+        end = run(["make", "-n", "-C", EXAMPLES, "OUT=" + out, "lost.debug"])
+    if end.returncode or "../tools/debug %s/lost.tbf " % out not in end.stdout or "images/" in end.stdout:
+        return "lost.debug: %s%s" % (end.stdout, end.stderr)
+    return None
 
 
 def by_this_machine(source):
@@ -348,6 +446,12 @@ at 1100000 release 1
 BAD_LINES = [
     ("5 tipe x", "line 1: this is neither type, send, press, release, tap nor an operator's act: tipe"),
     ("\nAt 5", "line 2: this is neither a time with what is done then, nor a setting: At 5"),
+    ("leds 4\ntype hello", "line 2: this is neither a time with what is done then, nor a setting: type hello"),
+    ("ledz 4", "line 1: this is neither a time with what is done then, nor a setting: ledz 4"),
+    ("release 0", "line 1: this is neither a time with what is done then, nor a setting: release 0"),
+    ("at 5 input 41", "line 1: this is neither a time with what is done then, nor a setting: at 5 input 41"),
+    ("leds 4\n5 type \udcff", "line 2: it is not UTF-8"),
+    ("# \udce9", "line 1: it is not UTF-8"),
     ("5 send \\q", "line 1: this is no escape: \\q"),
     ("5 send", "line 1: there is no text"),
     ("5 press a", "line 1: press wants the number of a button"),
@@ -359,16 +463,37 @@ BAD_LINES = [
 ]
 
 
+def settings():
+    """A line for each setting that the manual has a row for, and lines that say nothing."""
+    manual = contents(os.path.join(REPOSITORY, "docs", "manual.md")).decode()
+    table = re.search(r"^\| Line \| Says \|.*\n((?:\|.*\n)+)", manual, re.M)[1]
+    lines = [line for row in table.split("\n") for line in re.findall("`([^`]+)`", (row + " | ").split(" | ")[0])]
+    return "".join(line + "\n" for line in lines if not line.startswith("at ")) + "  # a comment\n \t\n leds 4\n"
+
+
+def typed_in_manual():
+    """The lines that the manual shows of what a person does."""
+    manual = contents(os.path.join(REPOSITORY, "docs", "manual.md")).decode()
+    shown = re.search(r"^writes a script of lines with a time.*$", manual, re.M)[0]
+    return [line for line in re.findall("`([^`]*)`", shown) if "/" not in line]
+
+
 def scripts():
     """tools/script makes a script of what a person does, and says what is wrong; those of examples/ are made by it."""
     tool = os.path.join(REPOSITORY, "tools", "script")
-    end = run([tool], input=TYPED)
-    if (end.returncode, end.stdout, end.stderr) != (0, SCRIPT, ""):
-        return "made %r, %r" % (end.stdout, end.stderr)
+    for typed, script in ((TYPED, SCRIPT), (settings(), settings())):
+        end = run([tool], input=typed)
+        if (end.returncode, end.stdout, end.stderr) != (0, script, ""):
+            return "made %r, %r" % (end.stdout, end.stderr)
+    for line in typed_in_manual():
+        end = run([tool], input=line)
+        if end.returncode:
+            return "%s, of the manual: %s" % (line, end.stderr)
     for line, said in BAD_LINES:
-        end = run([tool], input=line + "\n")
-        if (end.returncode, end.stdout) != (1, "") or said not in end.stderr:
-            return "%s: %d, %r" % (line, end.returncode, end.stderr)
+        for language in ("C.UTF-8", "C"):
+            end = run([tool], input=line + "\n", errors="surrogateescape", env=dict(os.environ, LC_ALL=language))
+            if (end.returncode, end.stdout, end.stderr.count("\n")) != (1, "", 1) or said not in end.stderr:
+                return "%s: %d, %r" % (line, end.returncode, end.stderr)
     for name in os.listdir(SCRIPTS):
         if name.endswith(".typed"):
             made = run([tool, os.path.join(SCRIPTS, name)]).stdout
@@ -383,11 +508,15 @@ def checks(program, has_compiler, has_picolibc):
     found = [("pack", pack), ("missing-tools", missing_tools), ("scripts", scripts)]
     if has_compiler:
         found += [("own-application", lambda: own_application(program)), ("placed-program", placed_program),
-                  ("alarms-in-alarms", lambda: alarms(program)), ("milliseconds", lambda: milliseconds(program))]
+                  ("alarms-in-alarms", lambda: alarms(program)), ("milliseconds", lambda: milliseconds(program)),
+                  ("elf2tab", lambda: elf2tab(program, has_picolibc)),
+                  ("other-folders", lambda: other_folders(program)),
+                  ("first-application", lambda: first_application(program))]
     if has_picolibc:
-        found.append(("fixed-application", lambda: fixed_application(program)))
+        found += [("fixed-application", lambda: fixed_application(program)),
+                  ("behind-another", lambda: behind_another(program))]
     else:
-        print("fixed-application: not tried without picolibc")
+        print("fixed-application, behind-another: not tried without picolibc")
     if has_compiler and shutil.which("cc"):
         found.append(("library", lambda: library(program, has_picolibc)))
         found += [("picolibc", lambda: picolibc(program))] * has_picolibc

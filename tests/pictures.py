@@ -63,7 +63,7 @@ def each_kind(program):
         return "not drawn: %s" % missing
     script = os.path.join(EXAMPLES, "scripts", "press.script")
     given = [line.split()[2:] for line in open(script) if line.startswith("at ")]
-    picture = drawn(REPORT % "running", "--script", script, "--to", "1000000")
+    picture = drawn(SET % (1, 1) + REPORT % "running", "--script", script, "--to", "1000000")
     if not given or [words for words in given if ">%s %s</text>" % tuple(words) not in picture]:
         return "not drawn: %s" % given
     return None
@@ -107,7 +107,7 @@ def where_it_can_run(program):
             (DENIED % 30 + SET % (50, 1), "running", [], [(0, 100)], [(0, 100)]),
             ("@20 1 act stop\n@40 1 act list\n@70 1 act start\n", "running", [], [(0, 20), (70, 100)], [(0, 100)]),
             ("@20 1 act terminate\n@70 1 act restart\n", "running", [], [(0, 20), (70, 100)], [(0, 20), (70, 100)]),
-            ("", "running", ["--script", script], [(3, 6), (51, 54), (99, 100)], [(0, 100)])):
+            (SET % (4, 1), "running", ["--script", script], [(3, 6), (51, 54), (99, 100)], [(0, 100)])):
         picture = drawn(lines + REPORT % state, *words)
         if (bars(picture, 5), bars(picture, 1)) != (thick, thin):
             return "%r: thick %s, thin %s" % (lines, bars(picture, 5), bars(picture, 1))
@@ -115,9 +115,17 @@ def where_it_can_run(program):
 
 
 def no_traces(program):
-    """What is no trace is refused with a line, and so is a file that is not there."""
-    boot = run([program, "boot", "images/greet.bin", "scripts/empty.script", "--turns", "1000"], cwd=EXAMPLES).stdout
-    for words, text, said in (([], boot, "it has the line 'hello from C'"), ([], "", "it has no line of a slot"),
+    """What is no trace, or no script, is refused with a line, and so is a file that is not there."""
+    images = ["images/%s.bin" % name for name in ("greet", "blink", "crunch")]
+    boots = [run([program, "boot", image, "scripts/empty.script", "--turns", "1000"], cwd=EXAMPLES).stdout
+             for image in images]
+    readme, given = os.path.join(REPOSITORY, "README.md"), ["--script", "/dev/stdin", "/dev/null"]
+    for words, text, said in (([], boots[0], "it has the line 'hello from C'"), ([], "", "it has no line of a slot"),
+                              ([], boots[1], "it has no call, output, denial or act"),
+                              ([], boots[2], "it has no call, output, denial or act"),
+                              (["--script", readme], SET % (1, 0), "README.md: this is no script: it has the line "),
+                              (given, "at 5 input 4x", "this is no script: it has the line 'at 5 input 4x'"),
+                              (given, "partition x", "this is no script: it has the line 'partition x'"),
                               ([], SET % (1, 0) + "@2 0 call 9 0 0 0 0\n", "it has the line '@2 0 call 9 0 0 0 0'"),
                               ([], SET % (1, 0) + "==\nsomething\n", "it has the line 'something'"),
                               (["none"], "", "none: No such file or directory"),

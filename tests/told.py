@@ -58,8 +58,12 @@ TOLD = [
     ("five-applications-in-4096-bytes", "flash: the object at 256 was not run: " + NO_ROOM),
     ("shares-of-nothing",
      "flash: the object at 0 was not run: %s\nflash: the object at 64 was not run: %s" % (NO_SHARE, NO_SHARE)),
-    ("fixed-ram-start-below-the-last-end", "flash: the object at 128 was not run: fixed-taken: the address of RAM for "
-     "which it is linked is taken, or no multiple of 8"),
+    ("fixed-ram-start-that-is-no-multiple-of-8", "flash: the object at 0 was not run: fixed-taken: the RAM start for "
+     "which it is linked, 0x80000404, is no multiple of 8"),
+    ("fixed-ram-start-below-ram", "flash: the object at 0 was not run: fixed-taken: the RAM start for which it is "
+     "linked, 0x7ffffff8, lies below RAM"),
+    ("fixed-ram-start-below-the-last-end", "flash: the object at 128 was not run: fixed-taken: the RAM start for which "
+     "it is linked, 0x80000400, lies below the end of the block before it"),
     ("fixed-ram-start-of-no-share", "flash: the object at 64 was not run: fixed-taken: the address of RAM for which it "
      "is linked is not where its slot's share starts"),
     ("bytes-after-the-last-object", "flash: the 4 bytes from 64 on are no object: a header has 16 at least"),

@@ -159,6 +159,12 @@ SEVERAL = [
         leds 0000
         end done steps 0 time 0
     """),
+    boot("fixed-ram-start-below-ram", "RAM has no place for a block that begins below it", fixed_at(RAM - 8, FLASH), """
+        ==
+        unplaced 0 fixed-taken
+        leds 0000
+        end done steps 0 time 0
+    """),
     boot("fixed-ram-start-below-the-last-end", "blocks do not overlap, and the next application is placed",
          EXIT_7 * 2 + fixed_at(RAM + 0x400, FLASH + 128) + EXIT_7, """
         ==

@@ -1,5 +1,6 @@
 """Finds in a document what it cites: names in backquotes before ` in ` or ` (` and a place in backquotes, which is a
-crate or a file of one. In a section whose first paragraph has places, the names with which a line of its lists begins
+crate or a file of one; and each file that stands alone. A file without its crate, or its folder, stands beside the file
+before it in the line. In a section whose first paragraph has places, the names with which a line of its lists begins
 are cited from these."""
 
 import glob
@@ -8,8 +9,11 @@ import re
 from dataclasses import dataclass
 
 NAMES = r"((?:`[A-Za-z_][\w:]*`(?:, clause |, field |, | and | of )?)+)"
-CITED = re.compile(NAMES + r"(?: in | \()`(?:crates/)?([a-z]\w*(?:/(?:src|specs)/[\w/]+\.\w+)?)`")
-DECLARES = r"\b(?:fn|ensures\*?|struct|enum|trait|type|const|mod|record|data|pub)\s+%s\b"
+# A file, by its crate, its folder there and its name, of which the first two may lack.
+FILE = re.compile(r"`(crates/)?(?:(?:([a-z]\w*)/)?((?:src|specs|proofs)(?:/\w+)*)/)?(\w+\.(?:rt|antt))`")
+WHOLE = r"[a-z]\w*/(?:src|specs|proofs)/[\w/]+\.\w+"
+CITED = re.compile(NAMES + r"(?: in | \()`(?:crates/)?(%s|[a-z]\w*)`" % WHOLE)
+DECLARES = r"\b(?:fn|ensures\*?|struct|enum|trait|type|const|mod|record|data|pub)\s+{0}\b|^(?:abbrev )?{0} :"
 LAW = r"^ *pub fn %s\(\)\s+ensures\b"
 
 
@@ -34,8 +38,9 @@ def reader(top):
 
 
 def declares(text, name):
-    """Whether a source has a function, type, definition, field or clause of a name, `a::b` being that of b."""
-    return re.search(DECLARES % name.split("::")[-1], re.sub(r"(?m)^\s*(//|--).*$", "", text)) is not None
+    """Whether a source has a function, type, definition, lemma, field or clause of a name, `a::b` being that of b."""
+    pattern = DECLARES.format(name.split("::")[-1])
+    return re.search(pattern, re.sub(r"(?m)^\s*(//|--).*$", "", text), re.M) is not None
 
 
 def is_law(text, name):
@@ -48,10 +53,20 @@ def is_function(text, name):
     return re.search(r"^ *pub fn %s\b" % re.escape(name.split("::")[-1]), text, re.M) is not None
 
 
+def with_crates(line):
+    """A line in which each file has its crate and its folder."""
+    before = ["", ""]
+
+    def whole(match):
+        before[:] = [match[2] or before[0], match[3] or before[1]]
+        return "`%s%s`" % (match[1] or "", "/".join(filter(None, [*before, match[4]])))
+    return FILE.sub(whole, line)
+
+
 def citations(page, read):
     """The citations of a document, in their order."""
     places, heading = [], ""
-    for number, line in enumerate(page.split("\n"), 1):
+    for number, line in enumerate(map(with_crates, page.split("\n")), 1):
         if line.startswith("#"):
             places, heading = None, line.lstrip("# ")
         elif line and places is None:
@@ -59,6 +74,9 @@ def citations(page, read):
                       if place.startswith("crates/") or read(place)]
         for names, place in CITED.findall(line):
             yield Citation(number, heading, re.findall(r"`([\w:]+)`", names), [place])
+        cited = {place for _, place in CITED.findall(line)}
+        for place in sorted(set(re.findall(r"`(?:crates/)?([\w/]+\.(?:rt|antt))`", line)) - cited):
+            yield Citation(number, heading, [], [place])
         listed = re.match("- " + NAMES, line)
         if listed and places and not CITED.match(line, 2):
             yield Citation(number, heading, re.findall(r"`([\w:]+)`", listed[1]), places)

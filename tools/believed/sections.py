@@ -165,8 +165,8 @@ ASSUMPTIONS = [
      "allow; version 2 of the Tock Binary Format.",
      "an edition in which a section says another thing", "comparing the section with the rows that cite it"),
     ("*`./tock`*: the program that it runs is the one that was proved. It has `rt ci` prove and build anew what a "
-     "changed source reaches, of copies of the crates that the program stands on, which it compares with these byte for "
-     "byte.",
+     "changed source reaches, of copies of the crates that the program stands on, which it compares with these byte "
+     "for byte.",
      "a source that was changed and kept its size and time; `tools/prove`, where it copies and compares otherwise",
      "`rt ci` here, whose program is the same, byte for byte; a first run after `out/` is deleted"),
     ("*`TOCK_PROGRAM`* is not set: where it is, `./tock` runs what it names, proved or not, and does not say so.",

@@ -1,10 +1,12 @@
 """A board in tock_look, and the lines that it tells (docs/looking.md)."""
 
 import os
+import shlex
 import subprocess
 
 TOP = os.path.dirname(os.path.dirname(os.path.dirname(os.path.abspath(__file__))))
-LOOK = os.path.join(TOP, "crates", "tock_look", "out", "tock_look")
+CRATE = os.path.join(TOP, "crates", "tock_look")
+LOOK = os.path.join(CRATE, "out", "tock_look")
 FLASH, RAM = 0x20000000, 0x80000000
 MOST = 4294967295
 # How many commands are sent before their answers are read: they have room in a pipe.
@@ -15,12 +17,14 @@ class Refused(Exception):
     """The board was not made, or a command was not understood."""
 
 
-def find_look(given=None):
-    """The program tock_look: the one that is given, or that of the variable TOCK_LOOK, or the one built here."""
-    look = given or os.environ.get("TOCK_LOOK") or LOOK
-    if not os.access(look, os.X_OK):
-        raise Refused("%s: not built yet: `cd crates/tock_look && rt run`" % look)
-    return look
+def find_look():
+    """The program tock_look: that of the variable TOCK_LOOK, or the one built here."""
+    look = os.environ.get("TOCK_LOOK") or LOOK
+    if os.path.isfile(look) and os.access(look, os.X_OK):
+        return look
+    if look == LOOK:
+        raise Refused("tock_look is not built; this proves and builds it: cd %s && rt run" % shlex.quote(CRATE))
+    raise Refused("TOCK_LOOK: %s: it is no program that can be run" % look)
 
 
 class Place:

@@ -30,8 +30,16 @@ class Elf:
         self.path = path
         with open(path, "rb") as file:
             self.data = file.read()
-        if self.data[:5] != b"\x7fELF\x01" or self.data[5] != 1:
+        if self.data[:6] != b"\x7fELF\x01\x01":
             raise Refused(path + " is no 32-bit ELF file")
+        try:
+            self.read()
+        except (struct.error, ValueError, IndexError):
+            raise Refused(path + " is not the whole of an ELF file") from None
+
+    def read(self):
+        """Reads the headers, the sections and the symbols. Of a file that is cut off this is an error of several
+        kinds."""
         self.entry, = struct.unpack_from("<I", self.data, 24)
         self.headers_at, offset = struct.unpack_from("<II", self.data, 28)
         self.header_size, self.header_count, size, count, names = struct.unpack_from("<HHHHH", self.data, 42)

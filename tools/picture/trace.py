@@ -3,6 +3,8 @@
 import re
 from dataclasses import dataclass, field
 
+from scripts import LINES, is_number
+
 CLASSES = ["yield", "subscribe", "command", "allow-rw", "allow-ro", "memop", "exit", "allow-readable"]
 DRIVERS = {0x0: "alarm", 0x1: "console", 0x2: "LED", 0x3: "button", 0x40001: "random", 0x50001: "storage"}
 COMMANDS = {
@@ -21,7 +23,11 @@ REPORT = re.compile(r"(slot \d+ |unplaced \d+ |leds |end (done|turns) steps )")
 
 
 class NoTrace(Exception):
-    """Why a text is no trace."""
+    """The line for which a text is no trace."""
+
+
+class NoScript(Exception):
+    """The line for which a text is no script."""
 
 
 @dataclass
@@ -136,23 +142,40 @@ def read_trace(lines):
     return dict(sorted(lanes.items())), end
 
 
+def number(word):
+    """The number of a word of a script."""
+    if not is_number(word):
+        raise ValueError
+    return int(word)
+
+
 def given(words):
-    """The mark of a line of a script by which something comes in; none of a line that has not this form."""
-    try:
-        text = "input " + printed(bytes.fromhex(words[3])) if words[2] == "input" else "%s %s" % tuple(words[2:])
-        return [Mark(int(words[1]), "given", text, " ".join(words))]
-    except (ValueError, IndexError, TypeError):
-        return []
+    """The mark of a line of a script by which something comes in."""
+    text = "input " + printed(bytes.fromhex(words[3])) if words[2] == "input" else "%s %s" % tuple(words[2:])
+    return Mark(number(words[1]), "given", text, " ".join(words))
+
+
+def read_line(script, words):
+    """Adds what the words of a line of a script say that a picture shows. A line that has not its form is an error of
+    several kinds."""
+    if words[0] not in LINES:
+        raise ValueError
+    if words[0] == "partition":
+        script.window = number(words[1])
+    elif words[:2] in (["policy", "restart"], ["policy", "threshold"]):
+        script.restarts = True
+    elif words[0] == "at" and words[2] != "do":
+        script.events.append(given(words))
 
 
 def read_script(lines):
     """What the lines of a script say that a picture shows."""
     script = Script()
-    for words in map(str.split, lines):
-        if words[:1] == ["partition"] and len(words) == 2 and words[1].isdecimal():
-            script.window = int(words[1]) or None
-        elif words[:2] in (["policy", "restart"], ["policy", "threshold"]):
-            script.restarts = True
-        elif words[:1] == ["at"] and words[2:3] in (["input"], ["press"], ["release"]):
-            script.events += given(words)
+    for line in lines:
+        words = line.split()
+        try:
+            if words and not words[0].startswith("#"):
+                read_line(script, words)
+        except (ValueError, IndexError, TypeError):
+            raise NoScript(line.rstrip("\n")) from None
     return script

@@ -17,10 +17,11 @@ REPEATED = {
         'MOST = {"N": {MOST_TURNS}, "NUMBER": {MOST_NUMBER}, "OFFSET": {MOST_NUMBER}}'],
     "tools/told/edits.py": ["a name has 1 to {NAME_LIMIT} bytes"],
     "tools/told/files.py": ['("a flash image", {FLASH_LIMIT}), ("a script", {SCRIPT_LIMIT})'],
-    "tools/told/images.py": ["FLASH_START = 0x{FLASH_START:x}\n",
+    "tools/told/images.py": ["FLASH_START, RAM_START = 0x{FLASH_START:x}, 0x{RAM_START:x}\n",
+                             "BLOCK_UNIT = {FIXED_UNIT}\n",
                              "MOST_OBJECTS, LEAST_HEADER = {OBJECT_LIMIT}, {HEADER}\n"],
-    "tools/told/places.py": ["RAM_START, RAM_SIZE, RAM_UNIT, KERNEL_ROOM, SLOTS = "
-                             "0x{RAM_START:x}, {ram}, {RAM_UNIT}, {BLOCK_MORE}, {SLOT_COUNT}\n"],
+    "tools/told/places.py": ["RAM_SIZE, RAM_UNIT, KERNEL_ROOM, SLOTS = "
+                             "{ram}, {RAM_UNIT}, {BLOCK_MORE}, {SLOT_COUNT}\n"],
     "tools/told/scripts.py": [
         '("`ram`", {RAM_LEAST}, {RAM_LIMIT}, "bytes, a multiple of {RAM_UNIT}")', '("`leds`", 0, {LED_LIMIT}, "LEDs")',
         '("`buttons`", 0, {BUTTON_LIMIT}, "buttons")', '("`slice`", 1, {SLICE_LIMIT}, "turns")',

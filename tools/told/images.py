@@ -7,7 +7,9 @@ import scripts
 from files import content
 from program import tell
 
-FLASH_START = 0x20000000
+FLASH_START, RAM_START = 0x20000000, 0x80000000
+# A block begins at a multiple of so many bytes.
+BLOCK_UNIT = 8
 MOST_OBJECTS, LEAST_HEADER = 64, 16
 NONE = 0xFFFFFFFF
 # The verdicts of objects whose header cannot be read.
@@ -22,7 +24,6 @@ CAUSES = {
     "bad-tlv": "an element of its header is too short, or passes the header",
     "bad-entry": "its entry, protected bytes or binary's end do not lie in the object",
     "no-slot": "all sixteen slots are taken",
-    "fixed-taken": "the address of RAM for which it is linked is taken, or no multiple of 8",
     "no-room": "RAM has no room for its memory; `ram` in the script sets how much there is",
     "share-fixed-taken": "the address of RAM for which it is linked is not where its slot's share starts",
     "share-no-room": "its slot's share of RAM, a sixteenth, has no room for its memory; "
@@ -107,13 +108,29 @@ def has_partitions(script):
     return any(words[0] == "partition" for _, words in scripts.lines_of(script))
 
 
+def why_fixed_taken(image, offset):
+    """Why an object has no place where it is linked for one of RAM, without time partitions."""
+    start = header(image, offset).fixed_ram
+    if start % BLOCK_UNIT:
+        why = "is no multiple of %d" % BLOCK_UNIT
+    else:
+        why = "lies below %s" % ("RAM" if start < RAM_START else "the end of the block before it")
+    return "the RAM start for which it is linked, 0x%08x, %s" % (start, why)
+
+
+def why_unplaced(image, offset, verdict, script):
+    """Why an application has no place, by the word of the report."""
+    if has_partitions(script):
+        return CAUSES.get("share-" + verdict) or CAUSES[verdict]
+    return why_fixed_taken(image, offset) if verdict == "fixed-taken" else CAUSES[verdict]
+
+
 def tell_unplaced(program, flash, script):
     """Tells each application that has no place."""
     lines = [line.split() for line in program.report(flash, script) if line.startswith("unplaced ")]
     for _, offset, verdict in lines:
-        share = "share-" + verdict if has_partitions(script) else verdict
         tell("%s: the object at %s was not run: %s: %s" % (
-            flash, offset, verdict, CAUSES.get(share, CAUSES[verdict])))
+            flash, offset, verdict, why_unplaced(content(flash), int(offset), verdict, script)))
 
 
 def why_no_object(image, offset, number):

@@ -5,7 +5,7 @@ import scripts
 from files import content
 from program import tell
 
-RAM_START, RAM_SIZE, RAM_UNIT, KERNEL_ROOM, SLOTS = 0x80000000, 65536, 1024, 768, 16
+RAM_SIZE, RAM_UNIT, KERNEL_ROOM, SLOTS = 65536, 1024, 768, 16
 
 
 def setting(script, name, otherwise):
@@ -42,10 +42,11 @@ def code_of(slot, name, offset, image):
 
 def tell_places(program, flash, script):
     """Tells of each slot where all lies that is its process's."""
-    image, ram, end = content(flash), setting(script, "ram", RAM_SIZE), RAM_START
+    image, ram, end = content(flash), setting(script, "ram", RAM_SIZE), images.RAM_START
     share = ram // SLOTS // RAM_UNIT * RAM_UNIT
     for slot, (offset, name) in enumerate(placed(program, flash, script)):
-        its, free = images.header(image, offset), RAM_START + slot * share if images.has_partitions(script) else end
+        its = images.header(image, offset)
+        free = images.RAM_START + slot * share if images.has_partitions(script) else end
         start = free if its.fixed_ram is None else its.fixed_ram
         end, first = start + up(its.ram + KERNEL_ROOM, RAM_UNIT), start + up(its.ram, 4)
         tell(*code_of(slot, name, offset, image),

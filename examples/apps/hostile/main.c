@@ -1,6 +1,6 @@
-// Tries to be in the way of whoever lies behind it: it keeps the serial line busy, has an alarm come at each tick, does
-// not yield for long, and then stores to the memory of the next slot, which is denied. By the policy of the script it
-// starts again.
+// Tries to be in the way of whoever lies behind it: it keeps the serial line busy, sets an alarm for the next tick
+// before each line, does not yield for long, and then stores to the memory of the next slot, which is denied. By the
+// policy of the script it starts again.
 
 #include "alarm.h"
 #include "console.h"
