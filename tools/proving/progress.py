@@ -4,7 +4,7 @@ import sys
 import time
 
 # How many seconds a KiB of functions takes before any was measured here, on four processors.
-EXPECTED = 0.65
+EXPECTED = 0.9
 
 # How many seconds nothing is told after something was.
 PAUSE = 10
@@ -43,7 +43,11 @@ class Progress:
                                                       minutes(self.expected())))
 
     def expected(self):
-        """About how many seconds the others take: as those took that were proved here, once a tenth is measured."""
+        """About how many seconds the others take: at first as expected, and as those took that were proved here the
+        more of them there are. The first crates wait for each other, and so tell little."""
         left = sum(self.left.values())
-        is_measured = self.proved * 10 > left
-        return left * ((time.monotonic() - self.begun) / self.proved if is_measured else EXPECTED / 1024)
+        if not self.proved:
+            return left * EXPECTED / 1024
+        weight = self.proved / (self.proved + left)
+        measured = (time.monotonic() - self.begun) / self.proved
+        return left * (weight * measured + (1 - weight) * EXPECTED / 1024)
