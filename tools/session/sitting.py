@@ -129,7 +129,7 @@ class Sitting:
         now = self.present.now
         try:
             made = [Event(event.time, ["at %d %s\n" % (event.time, event.says)], now)
-                    for event in SCRIPT.done(now, word, rest)]
+                    for event in SCRIPT.done(now, word, rest, 1)]
         except SCRIPT.Wrong as wrong:
             raise Refused(str(wrong)) from None
         except UnicodeEncodeError:
