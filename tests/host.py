@@ -13,7 +13,7 @@ from flash_images import app, exits, padding
 
 # The stack with which everything is done, in KiB: Linux gives 8192. And smaller ones, down to one in which a run of a
 # board has no room for its buffer of 16 KiB.
-ENOUGH, LESS = 512, [128, 64, 16]
+ENOUGH, LESS = 256, [64, 16]
 FLASH_SIZE, SCRIPT_SIZE = 1 << 20, 1 << 18
 
 
@@ -63,7 +63,7 @@ def is_front(end, whole):
 
 
 def little_stack(program):
-    """With 512 KiB of stack all is done. With less it is done too, or a signal ends it, as it ends a run of a board in
+    """With 256 KiB of stack all is done. With less it is done too, or a signal ends it, as it ends a run of a board in
     16 KiB: what was written is never another text."""
     with tempfile.TemporaryDirectory() as folder:
         write_files(folder)
@@ -80,14 +80,11 @@ def little_stack(program):
 
 def reader_that_goes(program):
     """A reader that has gone is an output that fails: 6, and no signal."""
-    ends, writes = os.pipe()
-    with tempfile.TemporaryDirectory() as folder:
-        write_files(folder)
-        run = subprocess.Popen([program, "list", "flash"], cwd=folder, stdout=writes)
-        os.close(ends)
-        os.close(writes)
-        status = run.wait(100)
-    return None if status == 6 else "answered %d" % status
+    reads, writes = os.pipe()
+    os.close(reads)
+    end = subprocess.run([program, "soak", "1", "--turns", "0"], stdout=writes, timeout=100)
+    os.close(writes)
+    return None if end.returncode == 6 else "answered %d" % end.returncode
 
 
 def killed():

@@ -111,14 +111,13 @@ def compiled():
 
 def write_files(program, folder):
     """Writes the files that words name: an image, its script and the trace of its run; those of its program; the bytes
-    of a program, and lines that a person typed."""
-    shutil.copy(os.path.join(IMAGES, "lost.bin"), os.path.join(folder, "image"))
-    for name, text in (("script", ""), ("program", "a program!"), ("typed", "100 type x\n")):
-        write(folder, name, text)
-    write(folder, "trace", run([program, "trace", "image", "script", "--turns", "1000"], cwd=folder).stdout)
-    for name, made in compiled().items():
+    of a program, and a line that a person typed."""
+    files = {"image": contents(os.path.join(IMAGES, "lost.bin")), "script": b"", "program": b"a program!",
+             "typed": b"100 type x\n", **compiled()}
+    for name, content in files.items():
         with open(os.path.join(folder, name), "wb") as file:
-            file.write(made)
+            file.write(content)
+    write(folder, "trace", run([program, "trace", "image", "script", "--turns", "1000"], cwd=folder).stdout)
 
 
 def started(path, words, folder, program, **environment):
@@ -163,10 +162,12 @@ def is_refusal(path, said):
 
 
 def refuses(path, folder, program):
-    """Words that it does not take are answered by one line or by the usage, with another status than 0."""
+    """Words that it does not take are answered by one line or by the usage, with another status than 0. Standard output
+    has nothing, or of tests/run what cannot be tried here."""
     for words in TOOLS[path].refuses:
         end = started(path, words, folder, program)
-        if not end.returncode or end.stdout or not is_refusal(path, end.stderr):
+        written = [line for line in end.stdout.splitlines() if " not tried" not in line]
+        if not end.returncode or written or not is_refusal(path, end.stderr):
             return told(path, words, end)
     return None
 
@@ -249,7 +250,7 @@ def checks(program):
         looks = [helps, refuses] if lacking else [helps, does, refuses, misses]
         found.append(("starts-" + path, lambda path=path, looks=looks: starts(path, program, looks)))
         if lacking:
-            print("starts-%s: not all of it is tried without %s" % (path, " and ".join(lacking)))
+            print("starts-%s: what it does is not tried without %s" % (path, " and ".join(lacking)))
     if shutil.which("rustc") and shutil.which("cc"):
         found.append(("starts-bench", lambda: bench(program)))
     else:

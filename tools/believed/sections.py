@@ -149,7 +149,8 @@ ASSUMPTIONS = [
      "other words, another status", "its stored run and worked examples, which compare statuses"),
     ("*The stack* is large enough: contracts say nothing of it. No function of `tock` calls itself, nor by way of "
      "others, by its sources and by the machine code of an unproved build; so how much it takes is bounded, whatever "
-     "the files and the steps. That build took 160 KiB for 1 MiB of flash under the longest script; Linux gives 8 MiB.",
+     "the files and the steps. Of the largest image, the longest script, 64 files and a soak none took more than "
+     "88 KiB, and 160 KiB in that build; Linux gives 8 MiB.",
      "`ulimit -s` below that; a compiler with larger frames",
      "a signal that ends the program (status 139), after a front of its text; the check `little-stack` of `tests/run`"),
     ("*Signals, and the host's memory*: nothing ends the program from outside, and memory that it was given is there.",
