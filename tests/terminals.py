@@ -33,8 +33,14 @@ class Terminal:
         self.before, self.text = termios.tcgetattr(self.child), b""
         environment = dict(os.environ, TOCK_LOOK=find_look(), TERM="xterm", LC_ALL="C.UTF-8", PS1="$ ")
         self.process = subprocess.Popen(words, stdin=self.child, stdout=self.child, stderr=self.child, cwd=folder,
-                                        env=environment, start_new_session=True, preexec_fn=lambda: fcntl.ioctl(
-                                            0, termios.TIOCSCTTY, 0))
+                                        env=environment, start_new_session=True, preexec_fn=self.begin)
+
+    @staticmethod
+    def begin():
+        """Has the process begin as a shell on this terminal begins one: an interrupt reaches it, also where these tests
+        run in the background of a shell that has interrupts ignored."""
+        fcntl.ioctl(0, termios.TIOCSCTTY, 0)
+        signal.signal(signal.SIGINT, signal.SIG_DFL)
 
     def resize(self, rows, columns):
         fcntl.ioctl(self.child, termios.TIOCSWINSZ, struct.pack("HHHH", rows, columns, 0, 0))
