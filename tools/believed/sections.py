@@ -118,7 +118,7 @@ PORTED = {
 ASSUMPTIONS = [
     ("*The checker*: what `rt ci` accepts is proved, of the statements that the checker makes of contracts.",
      "an unsound rule; a goal that is not asked for",
-     "an edit of `must-fail/` or a [wrong body](proofs.md#wrong-bodies-that-were-tried) that it accepts; a worked "
+     "an edit of `must-fail/` or a [wrong body](bodies.md) that it accepts; a worked "
      "example that the program answers otherwise"),
     ("*Its logic* has no contradiction: a cubical type theory, which `rt version` names. No crate has an axiom, nor "
      "may have one.",
