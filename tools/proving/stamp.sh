@@ -42,7 +42,7 @@ listed() {
 
 # The checksums of the sources.
 summed() {
-    made_of "$1" -print0 | LC_ALL=C sort -z | (cd "$top" && xargs -0 sha256sum)
+    made_of "$1" -print0 | LC_ALL=C sort -z | (cd "$top" && xargs -0 sha256sum 2>/dev/null)
 }
 
 # Whether the sources, the program and the prover are those of the stamp, though files have other times. Where there is
