@@ -203,17 +203,18 @@ def kept(program):
 
 
 def look_not_built(program):
-    """Where tock_look is not built, or is no program, tools/where and tools/debug say so, and how it is built."""
+    """Where tock_look is not built, or is no program, the tools that ask it say so, and how it is built."""
     with tempfile.TemporaryDirectory() as folder:
         write_files(program, folder)
         shutil.copytree(os.path.join(REPOSITORY, "tools"), os.path.join(folder, "tools"))
         crate = os.path.join(folder, "crates", "tock_look")
         for look, said in (("", "tock_look is not built; this proves and builds it: cd %s && rt run" % crate),
                            ("script", "TOCK_LOOK: script: it is no program that can be run")):
-            for name in ("where", "debug"):
-                end = run([os.path.join(folder, "tools", name), *RUN], cwd=folder, env=dict(os.environ, TOCK_LOOK=look))
+            for name, words in (("where", RUN), ("debug", RUN), ("live", RUN + ["--plain"])):
+                end = run([os.path.join(folder, "tools", name), *words], cwd=folder,
+                          env=dict(os.environ, TOCK_LOOK=look))
                 if (end.returncode, end.stdout, end.stderr) != (1, "", "%s: %s\n" % (name, said)):
-                    return told(name, RUN, end)
+                    return told(name, words, end)
     return None
 
 
