@@ -296,7 +296,8 @@ def elf2tab(program, has_picolibc):
 
 
 def other_folders(program):
-    """IMAGES= names a folder that need not be there, and gets the images; a debugger is started without one written."""
+    """IMAGES= names a folder that need not be there, and gets the images; a debugger and a session at the board are
+    started without one written there."""
     with tempfile.TemporaryDirectory() as folder:
         images, out = os.path.join(folder, "new", "images"), os.path.join(folder, "out")
         words = ["make", "-C", EXAMPLES, "IMAGES=" + images, "OUT=" + out, "TOCK=" + program]
@@ -304,9 +305,11 @@ def other_folders(program):
         if end.returncode or not contents(os.path.join(images, "permissions.bin")).startswith(
                 contents(os.path.join(images, "lamp.bin"))):
             return end.stderr or "permissions.bin does not begin with lamp.bin"
-        end = run(["make", "-n", "-C", EXAMPLES, "OUT=" + out, "lost.debug"])
-    if end.returncode or "../tools/debug %s/lost.tbf " % out not in end.stdout or "images/" in end.stdout:
-        return "lost.debug: %s%s" % (end.stdout, end.stderr)
+        for name, begins in (("lost.debug", "debug %s/lost.tbf "), ("lanes.live", "live %s/lanes.bin "),
+                             ("lost.live", "live %s/lost.bin ")):
+            end = run(["make", "-n", "-C", EXAMPLES, "OUT=" + out, name])
+            if end.returncode or "../tools/" + begins % out not in end.stdout or "images/" in end.stdout:
+                return "%s: %s%s" % (name, end.stdout, end.stderr)
     return None
 
 
