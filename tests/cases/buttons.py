@@ -116,6 +116,15 @@ BUTTONS = [
         leds 0000
         end done steps 79 time 58
     """),
+    boot("dropped-upcalls-over-a-restart", "how many were dropped is counted over all lives",
+         app(mv(S0, A0), command(BUTTON, 3, 0), bne(A1, ZERO, "second"), *hands(SUBSCRIBE, BUTTON, 0, "edge"),
+             command(BUTTON, 1, 0), *counts_down(20), exits(1), "second", "edge", li(A1, 0), exits()),
+         script=edges(range(20, 41)), text="""
+        ==
+        slot 0 - terminated 0 turns 76 restarts 1 dropped 1
+        leds 0000
+        end done steps 97 time 76
+    """),
     boot("300-edges-for-16", "sixteen processes are told of each of 300 edges, once",
          COUNTS_300 * 16, script=edges(range(1000, 61000, 200)), turns=100000, text="""
         ==
