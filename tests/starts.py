@@ -44,9 +44,10 @@ BAD_RUNS = NOTHING + [["script", "script"], ["image", "none"], ["none", "script"
 
 # Each tool. What examples/tour does is looked at in around.py. Without words tools/prove proves for minutes.
 TOOLS = {
-    "bench/run": Tool(refuses=NOTHING + [["script"], ["{program}", "none"], ["{program}", "0"],
-                                         ["{program}", "500000001"], ["{program}", "1", "1"]],
-                      misses=[(["{program}", "1"], 1, "there is no rustc")]),
+    "bench/run": Tool(refuses=NOTHING + [["script"], ["--count"], ["--count", "none"], ["{program}", "none"],
+                                         ["{program}", "0"], ["{program}", "500000001"], ["{program}", "1", "1"]],
+                      misses=[(["{program}", "1"], 1, "there is no rustc"),
+                              (["--count", "{program}"], 1, "there is no valgrind")]),
     "examples/addresses": Tool([(["lost", "object", TOOLCHAIN], r"^lost: its bytes depend on where it lies; FIXED=1 ")],
                                (COMPILER,), NOTHING + [["lost", "none", TOOLCHAIN], ["lost", "script", TOOLCHAIN]],
                                [(["lost", "object", "none-"], 1, "none-objdump: No such file or directory")]),
