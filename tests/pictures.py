@@ -3,8 +3,9 @@
 import os
 import re
 import subprocess
+import tempfile
 
-from common import EXAMPLES, contents, run
+from common import EXAMPLES, contents, run, write
 from cases.case import REPOSITORY
 
 TOOL = os.path.join(REPOSITORY, "tools", "timeline")
@@ -114,6 +115,20 @@ def where_it_can_run(program):
     return None
 
 
+def many_windows(program):
+    """The windows of each slot are shaded where it has at most 500 of them; with more they are not told apart."""
+    with tempfile.TemporaryDirectory() as folder:
+        write(folder, "script", "partition 1")
+        for windows, shaded, thick in ((500, 500, 500), (501, 0, 1)):
+            end = "time %d\n" % (16 * windows)
+            picture = drawn(SET % (0, 0) + SET % (1, 1) + (REPORT % "running").replace("time 100\n", end), "--script",
+                            os.path.join(folder, "script"))
+            found = picture.count('fill="#e3eefb"'), picture.count('stroke-width="5"')
+            if found != (2 * shaded, 2 * thick):
+                return "%d windows: %d are shaded, and %d lines are thick" % (windows, *found)
+    return None
+
+
 def no_traces(program):
     """What is no trace, or no script, is refused with a line, and so is a file that is not there."""
     images = ["images/%s.bin" % name for name in ("greet", "blink", "crunch")]
@@ -152,4 +167,5 @@ def closed_pipe(program):
 def checks(program):
     """Each check with its name."""
     return [("timeline-" + check.__name__.replace("_", "-"), lambda check=check: check(program))
-            for check in (of_documents, each_kind, parts, names, where_it_can_run, no_traces, closed_pipe)]
+            for check in (of_documents, each_kind, parts, names, where_it_can_run, many_windows, no_traces,
+                          closed_pipe)]

@@ -70,7 +70,7 @@ MANUAL = [
     "nobody has anything to do are {IDLE_SLOTS:w} steps between.", "all other registers are {START_REGISTER}.",
     "registers have {REGISTER_DIGITS:w} digits of base 16.", "bytes that were printed, {BYTE_DIGITS:w} digits each",
     "and protected size added, rounded up to {WORD}.", "Each {PARCEL_BITS}-bit parcel of an instruction",
-    "up to {MOST_WINDOWS} of them", "where one of {MOST_ROWS:w} rows has room",
+    "at most {MOST_WINDOWS} of them; with more", "where one of {MOST_ROWS:w} rows has room",
     "On four processors this takes {LEAST_MINUTES} to {MOST_MINUTES} minutes",
     "the start with {BENCH_MIB} MiB of flash", "Each run answers {MEMORY_STATUS} and writes `memory` alone",
     "shows it: {GREET_TURNS} turns, two steps of the UART (it takes {GREET_BYTES} bytes at time {GREET_OUT}, and "
