@@ -18,8 +18,9 @@ from debugger.board import Board, Refused, find_look
 from session import present
 from session.cells import Cells, cut, parts_of, picture_of, width_of
 from session.console import Console
+from session.plain import Plain
 from session.recorded import Event, Recorded
-from session.sitting import Sitting
+from session.sitting import DEEDS, Sitting
 from session.view import View
 
 TOOL = os.path.join(REPOSITORY, "tools", "live")
@@ -275,6 +276,21 @@ def refused(program):
     return None
 
 
+def helped(program):
+    """With --plain `help` tells of each command."""
+    with tempfile.TemporaryDirectory() as folder:
+        sitting = sitting_at(folder, "press", "")
+        try:
+            View(sitting, "press.bin")
+            Plain(sitting, 1, {})
+            text = "\n".join(sitting.do("help"))
+            untold = [name for name in [*sitting.commands, *DEEDS]
+                      if name != "help" and not re.search(r"^(\S.*, )?%s\b" % name, text, re.M)]
+        finally:
+            sitting.close()
+    return "help tells nothing of %s" % untold if untold else None
+
+
 def on_any_screen(program):
     """What is shown fits on a screen of any size, with the slots, and letters that are wide or none; and the console is
     where it was scrolled to."""
@@ -333,6 +349,6 @@ def checks(program):
     except Refused as error:
         print("live: not tried: %s" % error)
         return []
-    found = (by_chance, places, events_at_each_step, later, of_document, of_picture, refused, on_any_screen)
+    found = (by_chance, places, events_at_each_step, later, of_document, of_picture, refused, helped, on_any_screen)
     return [("live-" + check.__name__.replace("_", "-"), lambda check=check: check(program))
             for check in found + terminals.CHECKS]

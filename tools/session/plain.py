@@ -8,10 +8,13 @@ import time
 from debugger.board import Refused
 from debugger.trace import line_text
 from session.debugging import command_of, debug, slot_of
+from session.sitting import HELP
 from session.view import SECOND
 
 # Seconds between two looks at the board while it goes on by itself.
 FRAME = 0.1
+# What `help` tells besides of commands that a screen has keys for.
+GOING = "go, pause          on a terminal: goes on by itself; stands"
 
 
 def without_turns(line):
@@ -28,7 +31,8 @@ class Plain:
         self.told, self.now, self.is_on = 0, 0, False
         self.is_typed = sys.stdin.isatty()
         self.report = sitting.present.state().report
-        sitting.commands.update(debug=(self.debug, (0, 1)), go=(self.go, (0,)), pause=(self.pause, (0,)))
+        sitting.commands.update(debug=(self.debug, (0, 1)), go=(self.go, (0,)), pause=(self.pause, (0,)),
+                                help=(self.help, (0,)))
 
     def tell(self):
         """Tells what the board did since, and what is another state; and where it is, unless it goes on."""
@@ -89,6 +93,10 @@ class Plain:
 
     def pause(self):
         self.is_on = False
+
+    def help(self):
+        *lines, last = HELP.split("\n")
+        return [*lines, GOING, last]
 
     def debug(self, slot=None):
         """Where a person types GDB has the terminal, until it ends; else the command that starts it."""
