@@ -102,7 +102,7 @@ def until(told, end):
 
 # Words that are no commands of tock_look, behind those of two files; and files that a run refuses.
 NO_COMMANDS = [["at 16"], ["boot", "steps 0 4294967296"], ["at  0"], ["memory 0 x 1"], ["state", ""],
-               ["steps 0 100,1,2"], ["turns 0 1 100,1,2"]]
+               ["steps 0 100,1,2"], ["trace 0 100,1,2"], ["turns 0 1 100,1,2"]]
 BAD_FILES = [["none", "none"], ["images/greet.bin", "none"], ["images/greet.bin", "images/greet.bin"]]
 
 
