@@ -115,9 +115,12 @@ def session(program):
     return None if written.strip() == text and len(commands) > 5 else "GDB wrote another text:\n" + written
 
 
+IN_RUST = ["set language rust", "seek 2*20", "seek-turn 50", "seek-time 0x3c", "set language c"]
+
+
 def mistyped(program):
-    """A place that is no number leaves the session where it is; a place is an expression; the program of another
-    application is told."""
+    """A place that is no number leaves the session where it is; a place is an expression, of Rust too where the program
+    is in it; the program of another application is told."""
     with tempfile.TemporaryDirectory() as folder:
         wrong = built(program, folder)
         if wrong:
@@ -125,12 +128,13 @@ def mistyped(program):
         elf = os.path.join(folder, "lost.elf")
         ends = [run([DEBUG, os.path.join(EXAMPLES, "images", image), EMPTY, "--slot", "0", elf, "--", "-nx", "-batch",
                      *[word for command in commands for word in ("-ex", command)]]).stdout
-                for image, commands in (("lost.bin", ["seek 500+0x1f4", "seek 5O", "seek -1", "monitor where"]),
-                                        ("echo.bin", []))]
+                for image, commands in (("lost.bin", IN_RUST + ["seek 500+0x1f4", "seek 5O", "seek -1",
+                                                                "monitor where"]), ("echo.bin", []))]
     if not re.search(r'^Invalid number "5O"\.\nseek takes a number, not -1$', ends[0], re.M):
         return "a mistyped place is not told: " + ends[0]
-    if re.findall(r"^step (\d+), ", ends[0], re.M)[-1:] != ["1000"] or "is not the program" in ends[0]:
-        return "it did not stay at step 1000: " + ends[0]
+    steps = re.findall(r"^step (\d+), ", ends[0], re.M)
+    if steps[:3] + steps[-1:] != ["40", "50", "60", "1000"] or "is not the program" in ends[0]:
+        return "it did not go there, or did not stay at step 1000: " + ends[0]
     told = "lost.elf is not the program of slot 0: flash has other code there"
     return None if told in ends[1] else "another program is not told: " + ends[1]
 

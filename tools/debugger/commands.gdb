@@ -2,21 +2,21 @@
 # The first answer comes when the server has its boards, on a busy machine late.
 set remotetimeout 60
 define seek
-  eval "monitor seek %ld", (long) ($arg0)
+  eval "monitor seek %ld", $arg0
   continue
 end
 document seek
 seek STEP: goes to after so many steps of the board, back or on.
 end
 define seek-turn
-  eval "monitor turn %ld", (long) ($arg0)
+  eval "monitor turn %ld", $arg0
   continue
 end
 document seek-turn
 seek-turn K: goes to after a turn of this slot, back or on.
 end
 define seek-time
-  eval "monitor time %ld", (long) ($arg0)
+  eval "monitor time %ld", $arg0
   continue
 end
 document seek-time
