@@ -9,8 +9,7 @@ import sections
 TOP = os.path.dirname(os.path.dirname(os.path.dirname(os.path.abspath(__file__))))
 
 REPEATED = {
-    "tools/script": ["MOST_BYTES, LAST_TIME, TAP = {INPUT_LIMIT}, 2 ** {CLOCK_BITS} - 1,",
-                     "where it has more than {INPUT_LIMIT} bytes", "or in s, of {FREQUENCY:,} ticks each"],
+    "tools/script": ["where it has more than {INPUT_LIMIT} bytes", "or in s, of {FREQUENCY:,} ticks each"],
     "tools/told/acts.py": ["MOST_EVENTS, MOST_STEPS = {EVENT_LIMIT}, {MOST_TURNS}"],
     "tools/told/commands.py": [
         "the objects of 1 to {MOST_FILES} files", "MOST_FILES = {MOST_FILES}\n", "1 to {DIGITS} decimal digits",
@@ -32,6 +31,7 @@ REPEATED = {
         "a number has 1 to {DIGITS} decimal digits", "a name has 1 to {NAME_LIMIT} bytes",
         "a line has at most {INPUT_LIMIT}\"", 'name == "ram" and number % {RAM_UNIT}:',
         "digits = {WORD_DIGITS} if words"],
+    "tools/told/typed.py": ["MOST_BYTES, LAST_TIME, TAP = {INPUT_LIMIT}, 2 ** {CLOCK_BITS} - 1,"],
     "tools/picture/spans.py": ["SLOTS = {SLOT_COUNT}\n"],
 }
 
@@ -46,7 +46,7 @@ def of_tools():
     """The numbers that documents tell."""
     return dict(ASSUMPTIONS=len(sections.ASSUMPTIONS), PORTED=len(sections.PORTED),
                 NO_PROGRAM=int(found("tock", r"is_given \|\| exit (\d+)")),
-                TAP=int(found("tools/script", r", TAP = .*, (\d+)$")),
+                TAP=int(found("tools/told/typed.py", r", TAP = .*, (\d+)$")),
                 MOST_WINDOWS=int(found("tools/picture/spans.py", r"^MOST_WINDOWS = (\d+)")),
                 MOST_ROWS=int(found("tools/picture/spans.py", r"^MOST_ROWS = (\d+)")),
                 BENCH_MIB=int(found("bench/run", r"^FLASH_SIZE, SLOTS = ([\d_]+)")) // 2 ** 20,
