@@ -93,7 +93,7 @@ class Repository:
         write(self.top, "crates.txt", CRATES)
         write(self.top, "HANDLES", "Handles allowed: none.\n")
         shutil.copy(TOCK, self.top)
-        for tool in ("proving", "told"):
+        for tool in ("proving", "told", "debugger", "picture"):
             shutil.copytree(os.path.join(REPOSITORY, "tools", tool), os.path.join(self.top, "tools", tool))
         shutil.copy(os.path.join(REPOSITORY, "tools", "prove"), os.path.join(self.top, "tools"))
         self.prover(1)

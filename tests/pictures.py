@@ -24,6 +24,8 @@ EACH_KIND = [
     ("@6 0 denied store 80000400 no-region", "denied: store 80000400 no-region"),
     ("@7 0 out 68690a", "\u201chi\u21b5\u201d"),
     ("@8 0 call 6 00000001 00000000 00000000 00000000", "restart"),
+    ("@9 0 call 6 00000002 00000000 00000000 00000000 = 00000000 0000000a 00000000 00000000 no-operation",
+     "exit of number 2 refused: no-operation"),
 ]
 REPORT = "==\nslot 0 - running turns 9 restarts 0\nslot 1 one %s turns 9 restarts 0\nend turns steps 200 time 100\n"
 SET = "@%d %d call 2 00000002 00000001 00000000 00000000 = 00000080 00000001 00000000 00000000\n"

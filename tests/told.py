@@ -3,6 +3,7 @@ with its name, for tests/run."""
 
 import os
 import re
+import shutil
 import subprocess
 import sys
 import tempfile
@@ -10,17 +11,21 @@ import tempfile
 from common import EXAMPLES, TOCK, contents, run, write
 from cases import CASES
 from cases.case import DIRECTORY, REPOSITORY
-from cases.programs import CODE_7
-from flash_images import A0, A1, FLASH, RAM, S0, app, exits, fixed_addresses_tlv, memop, mv
+from cases.programs import CODE_7, EXIT_7, PRINTS, SPINS, THREE
+from flash_images import (A0, A1, BUTTON, FLASH, LED, NO_DRIVER, RAM, S0, SP, SUBSCRIBE, ZERO, addi, app, command,
+                          exits, fixed_addresses_tlv, hands, jal, memop, mv, sw, yields)
 
-sys.path.insert(0, os.path.join(REPOSITORY, "tools", "told"))
+sys.path[:0] = [os.path.join(REPOSITORY, "tools"), os.path.join(REPOSITORY, "tools", "told")]
 import commands
 import scripts
+from debugger.board import Refused, find_look
+from program import MOST_LINES
 
 NO_ROOM = "no-room: RAM has no room for its memory; `ram` in the script sets how much there is"
 NO_SHARE = ("no-room: its slot's share of RAM, a sixteenth, has no room for its memory; `ram` in the script sets how "
             "much there is")
 AFTER_PARTITION = "unknown-word: after `partition` (line 1) there is no line of buttons or of an operator"
+NOTHING = "nothing ran: no application of flash has a slot\n"
 BLANK = "no process has this name; the names are blink"
 
 # What is told of the runs of these cases.
@@ -57,11 +62,11 @@ TOLD = [
     ("sixteen-windows", "flash: the object at 1024 was not run: no-slot: all sixteen slots are taken"),
     ("five-applications-in-4096-bytes", "flash: the object at 256 was not run: " + NO_ROOM),
     ("shares-of-nothing",
-     "flash: the object at 0 was not run: %s\nflash: the object at 64 was not run: %s" % (NO_SHARE, NO_SHARE)),
-    ("fixed-ram-start-that-is-no-multiple-of-8", "flash: the object at 0 was not run: fixed-taken: the RAM start for "
-     "which it is linked, 0x80000404, is no multiple of 8"),
-    ("fixed-ram-start-below-ram", "flash: the object at 0 was not run: fixed-taken: the RAM start for which it is "
-     "linked, 0x7ffffff8, lies below RAM"),
+     NOTHING + "\n".join("flash: the object at %d was not run: %s" % (at, NO_SHARE) for at in (0, 64))),
+    ("fixed-ram-start-that-is-no-multiple-of-8", NOTHING + "flash: the object at 0 was not run: fixed-taken: the RAM "
+     "start for which it is linked, 0x80000404, is no multiple of 8"),
+    ("fixed-ram-start-below-ram", NOTHING + "flash: the object at 0 was not run: fixed-taken: the RAM start for which "
+     "it is linked, 0x7ffffff8, lies below RAM"),
     ("fixed-ram-start-below-the-last-end", "flash: the object at 128 was not run: fixed-taken: the RAM start for which "
      "it is linked, 0x80000400, lies below the end of the block before it"),
     ("fixed-ram-start-of-no-share", "flash: the object at 64 was not run: fixed-taken: the address of RAM for which it "
@@ -72,8 +77,8 @@ TOLD = [
     ("total-size-that-is-no-multiple",
      "flash: the 64 bytes from 0 on are no object: its header says 62 bytes, and an object has 16 at least, in fours"),
     ("flash-at-the-limit",
-     "flash: the 1048576 bytes from 0 on are no object: a header begins with version 2, and here is 0"),
-    ("empty-flash", "flash: the image is empty"),
+     NOTHING + "flash: the 1048576 bytes from 0 on are no object: a header begins with version 2, and here is 0"),
+    ("empty-flash", NOTHING + "flash: the image is empty"),
     ("pack-a-bad-object", "flash: the object at 0 is bad: bad-checksum: its header's checksum is wrong"),
     ("pack-without-the-rest", """
 flash: the 20 bytes from 64 on are no object: a header begins with version 2, and here is 0
@@ -137,8 +142,9 @@ REFUSED = [
 
 
 def ended(program, words, folder, **more):
-    """How ./tock ended with these words, in a folder with the files."""
+    """How ./tock ended with these words, in a folder with the files; without tock_look, unless that is named."""
     environment = {name: text for name, text in os.environ.items() if not name.startswith("TOCK_")}
+    environment["TOCK_LOOK"] = os.devnull
     return subprocess.run([TOCK] + words, cwd=folder, env=dict(environment, TOCK_PROGRAM=program, **more),
                           capture_output=True, timeout=60)
 
@@ -280,6 +286,169 @@ def pipes(program):
     return None
 
 
+TYPED_LINES = ["100 type hello", "+50 press 0", "2s tap 1", "250ms stop blink", "type hello", "at 5 type hello",
+               "ticks-per-ms 1000"]
+
+
+def typed_lines(program):
+    """Of a line for tools/script in a script it is told that it is one."""
+    with tempfile.TemporaryDirectory() as folder:
+        write(folder, "flash", "")
+        for line in TYPED_LINES:
+            write(folder, "script", "buttons 2\n%s\n" % line)
+            end = ended(program, ["boot", "flash", "script", "--turns", "0"], folder)
+            expected = ("tock: script line 2: %s\ntock: script line 2: unknown-word: tools/script makes a script of "
+                        "such lines: tools/script FILE > SCRIPT\n" % line)
+            if (end.returncode, end.stdout, end.stderr.decode()) != (5, b"script 2 unknown-word\n", expected):
+                return "%s: %d, told %r" % (line, end.returncode, end.stderr.decode())
+    return None
+
+
+ELF = b"\x7fELF\x01\x01\x01" + bytes(57)
+NO_SCRIPT = "%s: it is %s, and no script\n"
+TAKE = "mine.elf: it is an ELF file: take %s, the image that is made of it\n"
+EXCHANGED = "image: it is a flash image, and no script: FLASH comes first, and then SCRIPT\n"
+LONG = "mine.elf: it has 1048577 bytes, and a flash image has at most 1048576\n"
+# What files are told to be that stand where another kind should, by the words of ./tock, with the status.
+OTHER_KINDS = [
+    (["boot", "mine.elf", "script"], 0, "nothing ran: no application of mine.elf has a slot\n" + TAKE % "mine.bin"),
+    (["list", "mine.elf"], 0, TAKE % "mine.bin"),
+    (["boot", "image", "mine.elf"], 5, NO_SCRIPT % ("mine.elf", "an ELF file")),
+    (["boot", "image", "image"], 5, NO_SCRIPT % ("image", "a flash image")),
+    (["boot", "script", "image"], 5, EXCHANGED),
+    (["boot", "script", "long"], 4, "long: it has 300000 bytes, and a script has at most 262144\n"
+     + EXCHANGED.replace("image:", "long:")),
+]
+
+
+def other_kinds(program):
+    """An ELF file in place of an image is told, and so are an image and a script that stand in each other's place."""
+    with tempfile.TemporaryDirectory() as folder:
+        for name, content in (("mine.elf", ELF), ("image", EXIT_7), ("script", b"leds 2\n"),
+                              ("long", EXIT_7 + bytes(300000 - len(EXIT_7)))):
+            with open(os.path.join(folder, name), "wb") as file:
+                file.write(content)
+        for words, status, text in OTHER_KINDS:
+            words = words + ["--turns", "10"] * (words[0] == "boot")
+            end = ended(program, words, folder)
+            if (end.returncode, end.stderr.decode().replace("tock: ", "")) != (status, text):
+                return "%s: %d, told %r" % (words, end.returncode, end.stderr.decode())
+    return None
+
+
+def images_of_programs(program):
+    """The image that is made of an ELF file is named where it stands; also where the file is too long."""
+    with tempfile.TemporaryDirectory() as folder:
+        os.mkdir(os.path.join(folder, "out"))
+        with open(os.path.join(folder, "out", "mine.elf"), "wb") as file:
+            file.write(ELF + bytes(2 ** 20 + 1 - len(ELF)))
+        for place in ("mine.bin", os.path.join("images", "mine.bin")):
+            write(folder, place, "")
+            end = ended(program, ["list", "out/mine.elf"], folder)
+            if (end.returncode, end.stderr.decode().replace("tock: out/", "")) != (4, LONG + TAKE % place):
+                return "%s: %d, told %r" % (place, end.returncode, end.stderr.decode())
+            os.remove(os.path.join(folder, place))
+    return None
+
+
+def told_in_run(program, flash, script, turns=1000, **more):
+    """What is told of a run, each line without what it begins with."""
+    with tempfile.TemporaryDirectory() as folder:
+        write(folder, "script", script)
+        with open(os.path.join(folder, "flash"), "wb") as file:
+            file.write(flash)
+        end = ended(program, ["boot", "flash", "script", "--turns", str(turns)], folder, **more)
+    return [line.replace("tock: ", "", 1) for line in end.stderr.decode().splitlines()]
+
+
+# Turns an LED on that is not there, twice, without end, and asks each time for what no driver does.
+ASKS_AGAIN = app("again", command(LED, 1, 9), command(LED, 1, 9), command(NO_DRIVER, 3), command(LED, 7),
+                 command(BUTTON, 9), command(BUTTON, 1, 9), memop(99), jal(ZERO, "again"), name="asks")
+REFUSALS = [
+    (PRINTS, "filter strict", 1000, "slot 0 -: 3 calls refused; permission: subscribe console, allow-ro console, "
+     "console write"),
+    (ASKS_AGAIN, "", 39, "slot 0 asks: 7 calls refused; range: LED on (2); no-driver: driver 4 command 3; no-command: "
+     "LED command 7, button command 9; other kinds: 2"),
+    (ASKS_AGAIN, "", 2000000, "slot 0 asks: .* calls refused in the first 1000000 steps; .*"),
+]
+
+
+def refused_calls(program):
+    """Calls that are refused are told by word, driver and call, so that `filter strict` is not silent; of a long run
+    those of its first part."""
+    for flash, script, turns, expected in REFUSALS:
+        told = told_in_run(program, flash, script, turns)
+        if len(told) != 1 or not re.fullmatch(expected if ".*" in expected else re.escape(expected), told[0]):
+            return "told %r" % told
+    return None
+
+
+# Stores below its RAM, once by its stack pointer and once by another register.
+DEEP = app(addi(SP, SP, -64), sw(ZERO, SP, 16), name="deep")
+WILD = app(sw(ZERO, A1, -48), name="wild")
+MAY_HAVE = ("slot 0 %s: the store of 7fffffd0 was denied, 48 below its RAM: if the stack has grown over its end, "
+            "tools/where tells so")
+GROWN = ("slot %d deep: the store of %08x was denied: the stack has grown over its end, since sp is %08x, and RAM "
+         "begins at %08x")
+# Enables button 0, and then never yields, or does once before a button is pressed.
+ENABLES = [mv(S0, A0), *hands(SUBSCRIBE, BUTTON, 0, "edge"), command(BUTTON, 1, 0)]
+DEAF = app(*ENABLES, "edge", jal(ZERO, "edge"), name="deaf")
+HEARD = app(*ENABLES, yields(0), "edge", jal(ZERO, "edge"), name="heard")
+
+
+def presses(number):
+    """A script of so many presses and releases."""
+    events = ("press", "release")
+    return "buttons 1\n" + "".join("at %d %s 0\n" % (50 + time, events[time % 2]) for time in range(number))
+
+
+def trouble(program):
+    """Where there is no tock_look, or another program in its place, it is told of an access a little below RAM that the
+    stack may have grown over its end, and of a process that never yields which upcalls it subscribed."""
+    deaf = "slot 0 deaf never yields, so none of its upcalls comes: button 0"
+    found = [((DEEP, ""), [MAY_HAVE % "deep"]), ((WILD, ""), [MAY_HAVE % "wild"]), ((THREE, ""), []),
+             ((DEAF, presses(25)), [deaf]), ((DEAF, presses(4)), []), ((DEAF, presses(0), 10000), [deaf]),
+             ((DEAF, presses(0), 2000000), [deaf.replace(",", " in the first 1000000 steps,")]),
+             ((SPINS, "", 10000), []), ((HEARD, presses(25), 10000), [])]
+    wrong = ["without tock_look: %r" % told for run, told in found for look in (os.devnull, shutil.which("true"))
+             if told_in_run(program, *run, TOCK_LOOK=look) != told]
+    return wrong[0] if wrong else None
+
+
+def looked_at(program, look):
+    """With tock_look it is told where the stack is, and each upcall that waits."""
+    for script in ("", "policy restart"):
+        for flash, expected in ((DEEP, [GROWN % (0, RAM - 48, RAM - 64, RAM)]), (WILD, []),
+                                (SPINS + DEEP, [GROWN % (1, RAM + 1024 - 48, RAM + 1024 - 64, RAM + 1024)])):
+            told = told_in_run(program, flash, script, TOCK_LOOK=look)
+            if told != expected:
+                return "of a stack: %r" % told
+    for flash, number, kinds in ((DEAF, 0, []), (DEAF, 1, ["button 0"]), (DEAF, 4, ["button 0 (4)"]),
+                                 (DEAF, 25, ["button 0 (20)"]), (HEARD, 25, [])):
+        expected = ["slot 0 deaf never yields, and upcalls wait for it: %s" % kind for kind in kinds]
+        told = told_in_run(program, flash, presses(number), TOCK_LOOK=look)
+        if told != expected:
+            return "of %d upcalls: %r" % (number, told)
+    return None
+
+
+def six_lines(program):
+    """A run tells six lines at most, of each subject the first ones, and how many more there are; all where they are
+    asked for."""
+    flash = SPINS * 17 + app(CODE_7, elements=[fixed_addresses_tlv(flash=4)]) + ASKS_AGAIN[:100]
+    script = "ram 4096\n" + "".join("at %d do list nobody\n" % time for time in range(8))
+    told = told_in_run(program, flash, script)
+    all_told = told_in_run(program, flash, script, TOCK_TELL="all")
+    is_first = told[-1] == "%d lines more: with TOCK_TELL=all all are told" % (len(all_told) - MOST_LINES + 1)
+    if len(told) != MOST_LINES or not is_first or not set(told[:-1]) <= set(all_told) or len(all_told) < 20:
+        return "told %r, and in all %r" % (told, all_told)
+    if sum("do list nobody" in line for line in told) != 1:
+        return "nothing is told of acts: %r" % told
+    few = told_in_run(program, SPINS, script.replace("ram 4096\n", "").replace("at 7 do list nobody\n", "").replace(
+        "at 6 do list nobody\n", ""))
+    return None if len(few) == MOST_LINES and "lines more" not in few[-1] else "of six lines: %r" % few
+
+
 # Asks where its RAM begins and ends and where its object begins and ends, and exits with the address of its code.
 ASKS = [mv(S0, A0), *(memop(operation) for operation in (2, 3, 4, 5)), mv(A1, S0), exits()]
 # The second is linked for an address of RAM, and has protected bytes.
@@ -320,19 +489,40 @@ def places_in_manual(program):
     """The places that the manual shows are told of that run."""
     manual = contents(os.path.join(REPOSITORY, "docs", "manual.md")).decode()
     words = re.search(r"^    TOCK_PLACES=1 ./tock (.*)$", manual, re.M)[1].split()
-    shown = re.findall(r"^    (tock: slot .*)$", manual, re.M)
+    shown = re.findall(r"^    (tock: slot 1 trespass: .*)$", manual, re.M)
     told = ended(program, words, REPOSITORY, TOCK_PLACES="1").stderr.decode().splitlines()
     return None if len(shown) == 3 and set(shown) <= set(told) else "told %r" % told
 
 
+def processes_in_manual(program):
+    """What the manual shows of processes is told of that run."""
+    manual = contents(os.path.join(REPOSITORY, "docs", "manual.md")).decode()
+    words, shown = re.search(r"^    TOCK_TELL=all ./tock (.*)\n\nhas on standard error\n\n((?:    .*\n)+)", manual,
+                             re.M).groups()
+    told = ended(program, words.split(), REPOSITORY, TOCK_TELL="all").stderr.decode()
+    return None if shown.replace("    ", "") == told else "told %r" % told
+
+
+def look_there():
+    """tock_look, where it is built or named."""
+    try:
+        return os.path.abspath(find_look())
+    except Refused:
+        print("told-with-tock-look: not tried, since it is not built")
+        return None
+
+
 def checks(program):
     """Each check with its name."""
+    look = look_there()
     cases = {case.name: case for case in CASES}
     found = [("told-of-" + name, lambda case=cases[name], text=text: told_of(program, case, text))
              for name, text in TOLD]
     found += [("told-of-" + name, lambda case=cases[name], reason=reason: refusal_of(program, case, reason))
               for name, reason in REFUSED]
     found += [("told-of-" + check.__name__.replace("_", "-"), lambda check=check: check(program))
-              for check in (each_refusal, settings, counts, help_page, failed_output, late_acts, pipes, places,
-                            places_in_manual)]
+              for check in (each_refusal, settings, counts, help_page, failed_output, late_acts, pipes, typed_lines,
+                            other_kinds, images_of_programs, refused_calls, trouble, six_lines, places,
+                            places_in_manual, processes_in_manual)]
+    found += [("told-with-tock-look", lambda: looked_at(program, look))] if look else []
     return found + [("told-of-no-program", no_program)]

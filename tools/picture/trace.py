@@ -73,7 +73,7 @@ def call_text(number, first, second, pair):
     if name == "memop":
         return "memop " + (MEMOPS[first] if first < len(MEMOPS) else str(first))
     if name == "exit":
-        return "restart" if first == 1 else "exit %d" % second
+        return {0: "exit %d" % second, 1: "restart"}.get(first, "exit of number %d" % first)
     driver = DRIVERS.get(first, "driver %x" % first)
     if name == "command":
         return "%s: %s" % (driver, COMMANDS.get((first, second), "command %d" % second))

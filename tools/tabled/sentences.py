@@ -55,6 +55,8 @@ MANUAL = [
     "where a {WORD_BITS}-bit instruction begins", "at ADDRESS + {HALF}, `{NoRegion}` |",
     "command {CLOCK_COMMAND} to the alarm, inside", "| read-write {READ_BUFFER} of b bytes |",
     "| read-only {WRITE_BUFFER} of b bytes |", "| status {USAGE} | the first word", "| {FAULT}, {TOO_LONG} | the path",
+    "Of a run these are {TOLD_LINES:w} lines at most", "by the trace of the run's first {TOLD_STEPS:,} steps",
+    "denied up to {NEAR} bytes below RAM", "does not yield in {MANY_TURNS:,} turns",
     "| {SCRIPT_STATUS} | the line itself", "| {OUTPUT} | that the output failed |", "| {IMAGE} | at which offsets",
     "(0 to {threshold}; restarts by exit and by an operator count too)",
     "K rises, up to {storage-fault}; at most {FAULT_LIMIT} lines",

@@ -4,7 +4,6 @@ from collections import namedtuple
 
 import scripts
 from files import content
-from program import tell
 
 # Of the lines `at` in a script, and of the steps of a run.
 MOST_EVENTS, MOST_STEPS = 4096, 1000000000
@@ -65,8 +64,8 @@ def outcome(verb, before, after):
     return " is %s, so nothing changed" % before if before == after else " was %s, and is %s" % (before, after)
 
 
-def tell_acts(program, flash, script, turns):
-    """Tells of each act of a script."""
+def outcomes(program, flash, script, turns):
+    """Says of each act of a script what it came to."""
     acts, names = acts_of(program, flash, script)
     meant = [act for act in acts if act.slots]
     number = came(program, flash, script, turns, meant) if meant else 0
@@ -82,4 +81,4 @@ def tell_acts(program, flash, script, turns):
             what = "slot %d%s" % (act.slots[0], outcome(act.verb, *next(found, (None, None))))
         if act.slots[1:]:
             what += "; slot %s has the name too" % ", ".join(map(str, act.slots[1:]))
-        tell("%s line %d: at %d do %s %s: %s" % (script, act.line, act.time, act.verb, act.name, what))
+        yield "%s line %d: at %d do %s %s: %s" % (script, act.line, act.time, act.verb, act.name, what)

@@ -2,7 +2,7 @@
 
 import difflib
 
-from program import tell
+from program import ALL, MOST_LINES, tell
 
 # The words of each command, and what it does.
 COMMANDS = {
@@ -25,7 +25,8 @@ def tell_help():
     for name, (words, does) in COMMANDS.items():
         tell("%-30s  %s" % (name + " " + words, does))
     tell("a FLASH is a flash image, a SCRIPT says what devices do; docs/manual.md tells of both, and of each answer")
-    tell("TOCK_QUIET=1 tells nothing on standard error, TOCK_PLACES=1 also where each process lies")
+    tell("TOCK_QUIET=1 tells nothing on standard error, TOCK_PLACES=1 also where each process lies, "
+         "%s more than %d lines of a run" % (ALL, MOST_LINES))
 
 
 def near(word, known):

@@ -5,7 +5,7 @@ from collections import namedtuple
 
 import scripts
 from files import content
-from program import tell
+from kinds import ELF, kind_of, take_image
 
 FLASH_START, RAM_START = 0x20000000, 0x80000000
 # A block begins at a multiple of so many bytes.
@@ -83,25 +83,26 @@ def cause(flash, found):
         its.fixed_flash, code_start(found.offset, its))
 
 
-def tell_not_run(program, flash):
-    """Tells each object of an image that is bad, disabled or linked for another place."""
+def not_run(program, flash, was="was"):
+    """Says of each object of an image that is bad, disabled or linked for another place why it was not run, or is
+    not."""
     for found in objects(program, flash):
         if found.verdict not in ("app", "padding"):
-            tell("%s: the object at %d was not run: %s: %s" % (flash, found.offset, found.verdict, cause(flash, found)))
+            yield "%s: the object at %d %s not run: %s: %s" % (
+                flash, found.offset, was, found.verdict, cause(flash, found))
 
 
-def tell_listed(program, flash):
-    """Tells why objects of a list would not be run."""
-    for found in objects(program, flash):
-        if found.verdict not in ("app", "padding"):
-            tell("%s: the object at %d is not run: %s: %s" % (flash, found.offset, found.verdict, cause(flash, found)))
+def nothing_ran(program, flash, script):
+    """Says so where no process had a slot; a campaign can count these two words."""
+    if not any(line.startswith("slot ") for line in program.report(flash, script)):
+        yield "nothing ran: no application of %s has a slot" % flash
 
 
-def tell_bad(program, flash):
-    """Tells each bad object of a file of which an image was made."""
+def bad(program, flash):
+    """Says of each bad object of a file of which an image was made why it is."""
     for found in objects(program, flash):
         if found.verdict.startswith("bad-"):
-            tell("%s: the object at %d is bad: %s: %s" % (flash, found.offset, found.verdict, cause(flash, found)))
+            yield "%s: the object at %d is bad: %s: %s" % (flash, found.offset, found.verdict, cause(flash, found))
 
 
 def has_partitions(script):
@@ -125,12 +126,12 @@ def why_unplaced(image, offset, verdict, script):
     return why_fixed_taken(image, offset) if verdict == "fixed-taken" else CAUSES[verdict]
 
 
-def tell_unplaced(program, flash, script):
-    """Tells each application that has no place."""
+def unplaced(program, flash, script):
+    """Says of each application that has no place why it has none."""
     lines = [line.split() for line in program.report(flash, script) if line.startswith("unplaced ")]
     for _, offset, verdict in lines:
-        tell("%s: the object at %s was not run: %s: %s" % (
-            flash, offset, verdict, why_unplaced(content(flash), int(offset), verdict, script)))
+        yield "%s: the object at %s was not run: %s: %s" % (
+            flash, offset, verdict, why_unplaced(content(flash), int(offset), verdict, script))
 
 
 def why_no_object(image, offset, number):
@@ -147,18 +148,20 @@ def why_no_object(image, offset, number):
     return "its header says %d bytes, and an object has %d at least, in fours" % (size, LEAST_HEADER)
 
 
-def tell_rest(program, flash):
-    """Tells the bytes of an image after its last object, which nothing runs."""
+def rest(program, flash):
+    """Says which bytes of an image stand after its last object, which nothing runs, and why they are none."""
     found, size = objects(program, flash), os.path.getsize(flash)
     end = found[-1].offset + found[-1].size if found else 0
     if size == 0:
-        tell("%s: the image is empty" % flash)
+        yield "%s: the image is empty" % flash
+    elif kind_of(flash) == ELF:
+        yield take_image(flash)
     elif size > end:
-        tell("%s: the %d bytes from %d on are no object: %s" % (
-            flash, size - end, end, why_no_object(content(flash), end, len(found))))
+        yield "%s: the %d bytes from %d on are no object: %s" % (
+            flash, size - end, end, why_no_object(content(flash), end, len(found)))
 
 
-def tell_empty(program, flash):
-    """Tells of a file without objects that nothing of it is packed."""
+def empty(program, flash):
+    """Says of a file without objects that nothing of it is packed."""
     if os.path.getsize(flash) and not objects(program, flash):
-        tell("%s: it has no object, so nothing of it is in the image" % flash)
+        yield "%s: it has no object, so nothing of it is in the image" % flash

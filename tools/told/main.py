@@ -9,37 +9,59 @@ the program does it; a pipe cannot be read twice, so of such a file nothing is t
 import os
 import sys
 
+sys.path.insert(1, os.path.dirname(os.path.dirname(os.path.abspath(__file__))))
 import acts
+import calls
 import commands
 import edits
 import files
 import images
+import kinds
+import looked
 import places
 import scripts
-from program import Program, tell
+from program import ALL, Program, shortened, tell
 
 
 def of_run(program, status, flash, script):
-    """Of `boot` and `trace`."""
+    """Of `boot` and `trace` where no run was made."""
     if status == 3:
         files.tell_unread(flash, script)
     elif status == 4:
         files.tell_too_long((flash, files.FLASH), (script, files.SCRIPT))
-    elif status == 5 and files.are_kept(flash, script):
-        scripts.tell_line(program, flash, script)
+    if status in (4, 5) and files.are_kept(flash, script):
+        tell(*kinds.wrong_kinds(flash, script))
+        if status == 5 and not kinds.kind_of(script):
+            scripts.tell_line(program, flash, script)
+
+
+def of_processes(program, flash, script, turns):
+    """What a run tells of its processes."""
+    run = calls.Run(program, flash, script, turns)
+    yield from looked.of_processes(program, run)
+    yield from calls.refused_calls(run)
+
+
+def subjects_of(program, flash, script, turns):
+    """What is told of a run: of the image, of the processes, and of an operator's acts."""
+    if not files.are_kept(flash):
+        return []
+    not_run, rest = images.not_run(program, flash), images.rest(program, flash)
+    if not files.are_kept(script):
+        return [[*not_run, *rest]]
+    nothing = list(images.nothing_ran(program, flash, script))
+    of_image = [*nothing, *not_run, *images.unplaced(program, flash, script), *rest]
+    processes = [] if nothing else of_processes(program, flash, script, turns)
+    return [of_image, processes, acts.outcomes(program, flash, script, turns)]
 
 
 def of_whole_run(program, flash, script, turns):
     """Of `boot` and `trace` where the run was made."""
-    if files.are_kept(flash):
-        images.tell_not_run(program, flash)
-    if files.are_kept(flash, script):
-        images.tell_unplaced(program, flash, script)
-        acts.tell_acts(program, flash, script, turns)
-        if os.environ.get("TOCK_PLACES") == "1":
-            places.tell_places(program, flash, script)
-    if files.are_kept(flash):
-        images.tell_rest(program, flash)
+    subjects = subjects_of(program, flash, script, turns)
+    name, _, word = ALL.partition("=")
+    tell(*(line for lines in subjects for line in lines) if os.environ.get(name) == word else shortened(subjects))
+    if os.environ.get("TOCK_PLACES") == "1" and files.are_kept(flash, script):
+        tell(*places.of_slots(program, flash, script))
 
 
 def of_images(program, status, command, names):
@@ -48,12 +70,13 @@ def of_images(program, status, command, names):
         files.tell_unread(*names)
     elif status == 4:
         files.tell_too_long(*((name, files.FLASH) for name in names))
+        tell(*kinds.elf_files(filter(files.is_kept, names)))
     elif status == 0:
         for name in filter(files.is_kept, names):
-            images.tell_listed(program, name) if command == "list" else images.tell_bad(program, name)
-            images.tell_rest(program, name)
+            tell(*images.not_run(program, name, "is") if command == "list" else images.bad(program, name),
+                 *images.rest(program, name))
             if command == "pack":
-                images.tell_empty(program, name)
+                tell(*images.empty(program, name))
 
 
 def main(path, status, words):

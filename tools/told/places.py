@@ -3,7 +3,6 @@
 import images
 import scripts
 from files import content
-from program import tell
 
 RAM_SIZE, RAM_UNIT, KERNEL_ROOM, SLOTS = 65536, 1024, 768, 16
 
@@ -40,14 +39,27 @@ def code_of(slot, name, offset, image):
             "slot %d %s: an ADDRESS of its code is in its program's ELF file %s" % (slot, name, back)]
 
 
-def tell_places(program, flash, script):
-    """Tells of each slot where all lies that is its process's."""
+def placed_blocks(program, flash, script):
+    """Of each slot its number and name, the offset and the header of its object, where its block begins and ends."""
     image, ram, end = content(flash), setting(script, "ram", RAM_SIZE), images.RAM_START
     share = ram // SLOTS // RAM_UNIT * RAM_UNIT
     for slot, (offset, name) in enumerate(placed(program, flash, script)):
         its = images.header(image, offset)
         free = images.RAM_START + slot * share if images.has_partitions(script) else end
         start = free if its.fixed_ram is None else its.fixed_ram
-        end, first = start + up(its.ram + KERNEL_ROOM, RAM_UNIT), start + up(its.ram, 4)
-        tell(*code_of(slot, name, offset, image),
-             "slot %d %s: RAM from 0x%08x to 0x%08x, first break 0x%08x" % (slot, name, start, end, first))
+        end = start + up(its.ram + KERNEL_ROOM, RAM_UNIT)
+        yield slot, name, offset, its, (start, end)
+
+
+def ram_starts(program, flash, script):
+    """Where the RAM of the process in each slot begins."""
+    return {slot: start for slot, _, _, _, (start, _) in placed_blocks(program, flash, script)}
+
+
+def of_slots(program, flash, script):
+    """Says of each slot where all lies that is its process's."""
+    image = content(flash)
+    for slot, name, offset, its, (start, end) in placed_blocks(program, flash, script):
+        yield from code_of(slot, name, offset, image)
+        yield "slot %d %s: RAM from 0x%08x to 0x%08x, first break 0x%08x" % (
+            slot, name, start, end, start + up(its.ram, 4))

@@ -1,5 +1,7 @@
 """Why a script is refused: what its bad line should be."""
 
+import re
+
 from commands import near
 from files import content
 from program import tell
@@ -23,6 +25,8 @@ RANGES = {
 }
 SECOND = {"policy": ("stop", "restart", "threshold"), "filter": ("open", "strict")}
 EVENTS, VERBS = ("input", "press", "release", "do"), ("list", "stop", "start", "terminate", "restart")
+# What tools/script makes a script of, and no script has: a line that begins with a time, or one of these words.
+TIME, TYPED = re.compile(r"\+?\d{1,10}(ms|s|)$"), ("type", "send", "tap", "ticks-per-ms")
 MOST = {"storage-fault": "64 lines `storage-fault`", "random": "4096 words of `random`", "at": "4096 lines `at`"}
 
 
@@ -46,8 +50,17 @@ def is_unpartitioned(words):
     return words[0] == "buttons" or words[0] == "at" and (words[2:3] in (["press"], ["release"]) or is_act)
 
 
+def is_typed(words):
+    """Whether a line is one of those of which tools/script makes a script."""
+    what = words[2:3] if words[0] == "at" else words[1:2] if TIME.match(words[0]) else words[:1]
+    known = TYPED + EVENTS + VERBS if TIME.match(words[0]) else TYPED
+    return what != [] and what[0] in known
+
+
 def unknown_word(words, before):
     """Which word is unknown, and which are known there."""
+    if is_typed(words):
+        return "tools/script makes a script of such lines: tools/script FILE > SCRIPT"
     partition = setting(before, "partition")
     if partition and is_unpartitioned(words):
         return "after `partition` (line %d) there is no line of buttons or of an operator" % partition[0]
