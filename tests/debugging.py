@@ -15,6 +15,7 @@ sys.path.insert(0, os.path.join(REPOSITORY, "tools"))
 from debugger import past, search
 from debugger.board import MOST, Board, Refused, find_look
 from debugger.conditions import CannotTell, Program, codes_in, holds
+from debugger.output import WRITE, NoText, printed, words_of
 from debugger.trace import happened
 
 EXAMPLES, DEBUG = os.path.join(REPOSITORY, "examples"), os.path.join(REPOSITORY, "tools", "debug")
@@ -54,6 +55,16 @@ HAPPENED = (30, 60, ["@34 slot 0: yield-wait", "@34 slot 0 is yielded",
                      "@41 slot 0 console schedules upcall 1: 0000000d 00000000 00000000",
                      "@42 slot 1: memop 3 (0x0) = success", "@44 slot 1: denied store 80000800 no-region",
                      "@44 slot 1 is faulted"])
+
+# Texts that are printed, each with its run, and for the how many-th time; and in how many steps they are.
+PRINTED = [("lost", "empty", b"open", 1), ("victim", "empty", b"secret", 3), ("alarms", "empty", b"fast", 4),
+           ("answer", "number", b" is ", 1), ("logger", "threshold", b"start 3", 1), ("together", "operator", b"hi", 1),
+           ("together", "operator", b"echo yielded", 1), ("beside_hostile", "partition", b"as it was", 2)]
+MOST_PRINTED = 200000
+# How a text may be written, and how it may not.
+TEXTS = [("open", (b"open", 1)), ("open 12", (b"open", 12)), ('"a b"', (b"a b", 1)), ('"a b" 3 ', (b"a b", 3)),
+         ('"\\x41\\n\\"" 2', (b'A\n"', 2)), ("\xc3\xa9", ("\u00e9".encode(), 1))]
+NO_TEXTS = ["", '""', "a b", '"a', "open 0", '"a" b', '"\\xg"']
 
 # A session in which a condition is judged, on the way on and back, and the amounts at which it holds.
 JUDGED = ["break credit if amount % 8 == 3 && to->balance < 9", "continue", "continue", "continue", "reverse-continue",
@@ -288,6 +299,49 @@ def causes_first(look):
     return None if told == lines else "told: %s" % told
 
 
+def outs(lines, slot):
+    """What lines of a trace tell that a process printed."""
+    words = [line.split() for line in lines]
+    return b"".join(bytes.fromhex(word[3]) for word in words if word[1:3] == [str(slot), "out"])
+
+
+def places_of(text, part):
+    """Where a part stands in a text."""
+    return [at for at in range(len(text)) if text.startswith(part, at)]
+
+
+def handed_over(look):
+    """Where a text is printed is before the call by which its first byte is handed to the console, or before the
+    operator's act; not printed so often, it is not found."""
+    for image, script, text, times in PRINTED:
+        board = Board(look, *files_of(image, script))
+        steps, slot = printed(board, text, times, MOST_PRINTED)
+        _, before = board.moved(board.ask("trace", 0, steps))
+        _, now = board.moved(board.ask("trace", 0, 1))
+        _, after = board.moved(board.ask("trace", 0, MOST_PRINTED))
+        is_there = WRITE.match(now[0]) or now[0].split()[2:] == ["act", "list"]
+        own = [number for number, line in enumerate(after) if line.split()[1] == str(slot) and WRITE.match(line)]
+        came, comes = outs(before, slot), outs(now + after[:own[0] if own else None], slot)
+        begins = places_of(came + comes + outs(after[own[0]:] if own else [], slot), text)[times - 1]
+        if not is_there or not len(came) <= begins < len(came + comes) or now[0].split()[1] != str(slot):
+            return "%s: %r stands at %d, and is found after %d steps, before %s" % (image, text, begins, steps, now)
+        if printed(board, text, 1000, MOST_PRINTED):
+            return "%s: %r is found a thousand times" % (image, text)
+        board.end()
+    return None
+
+
+def texts():
+    """A text is a word, or stands in quotes with escapes as in C; a number may follow."""
+    wrong = ["%s: %s" % (words, words_of(words)) for words, said in TEXTS if words_of(words) != said]
+    for words in NO_TEXTS:
+        try:
+            wrong.append("%s: %s" % (words, words_of(words)))
+        except NoText:
+            pass
+    return "; ".join(wrong) or None
+
+
 def judged(program):
     """Conditions that are judged here stop a run where GDB, which judges them itself, has it stop."""
     with tempfile.TemporaryDirectory() as folder:
@@ -300,6 +354,64 @@ def judged(program):
                  for where in ("host", "target")]
     amounts = re.findall(r"^Breakpoint 1, credit .*amount=amount@entry=(\d+)", texts[1], re.M)
     return None if texts[0] == texts[1] and amounts == AMOUNTS else "GDB: %s\nhere: %s" % tuple(texts)
+
+
+def gdb_says(folder, commands):
+    """What GDB says to commands, on the run of lost."""
+    return run([DEBUG, os.path.join(folder, "lost.bin"), EMPTY, "--slot", "0", os.path.join(folder, "lost.elf"), "--",
+                "-nx", "-batch", *[word for command in commands for word in ("-ex", command)]]).stdout
+
+
+def sought(program):
+    """`seek-output` goes to where a text is printed, and stays where it is not; what is no text is told."""
+    with tempfile.TemporaryDirectory() as folder:
+        wrong = built(program, folder)
+        if wrong:
+            return wrong
+        said = gdb_says(folder, ["seek 3000", "seek-output open", "backtrace", "seek-output nowhere", "monitor where",
+                                 'seek-output "o\\160en" 2', 'seek-output "\\xg"', "seek-output", "continue"])
+    places = re.findall(r"^step (\d+), ", said, re.M)
+    lines = ["this is not printed in the first 100000000 steps",
+             "this is not printed 2 times in the first 100000000 steps",
+             r"seek-output TEXT \[N\]: a text with blanks stands in quotes",
+             r"#\d+  main \(\) at .*/apps/lost/main.c:52", "open",
+             "slot 0: load of 00000004 is denied: no-region .*"]
+    missing = [line for line in lines if not re.search("^%s$" % line, said, re.M)]
+    is_there = len(places) == 6 and len(set(places[1:])) == 1 and 0 < int(places[1]) < 3000
+    return None if is_there and not missing and "at once" not in said else "%s is missing: %s" % (missing, said)
+
+
+def no_reads(program):
+    """`rwatch` and `awatch` are refused, and the run goes on behind them; so it does where another way to ask for them
+    was taken, once that is deleted, which is said."""
+    with tempfile.TemporaryDirectory() as folder:
+        wrong = built(program, folder)
+        if wrong:
+            return wrong
+        texts = [gdb_says(folder, commands + ["continue"]) for commands in (
+            ["rwatch bank", "awatch bank"],
+            ['interpreter-exec mi "-break-watch -r bank"', "continue", "delete"])]
+    said = [r"^rwatch is not there: no read is looked for.*\nawatch is not there: no read is looked for",
+            r"^debug: no read is looked for: delete this watchpoint"]
+    wrong = [text for text, line in zip(texts, said)
+             if not re.search(line, text, re.M) or "received signal SIGSEGV" not in text]
+    return "GDB: %s" % wrong[0] if wrong else None
+
+
+def other_kinds(look):
+    """An ELF file in place of an image, and an image in that of a script, are told by tools/debug and tools/where."""
+    with tempfile.TemporaryDirectory() as folder:
+        elf, image = os.path.join(folder, "mine.elf"), os.path.join(EXAMPLES, "images", "greet.bin")
+        with open(elf, "wb") as file:
+            file.write(b"\x7fELF" + bytes(60))
+        for words, said in (
+                ([elf, EMPTY], elf + ": it is an ELF file: take mine.bin, the image that is made of it"),
+                ([EMPTY, image], image + ": it is a flash image, and no script: FLASH comes first, and then SCRIPT")):
+            for tool in ("debug", "where"):
+                told = run([os.path.join(REPOSITORY, "tools", tool), *words]).stdout
+                if told != "%s: %s\n" % (tool, said):
+                    return told
+    return None
 
 
 def conditions():
@@ -329,12 +441,15 @@ def checks(program, has_compiler):
         return []
     found = [("back-and-on", lambda: back_and_on(look)), ("lines-and-words", lambda: lines_and_words(look)),
              ("grants", lambda: grants_of(look)), ("causes-first", lambda: causes_first(look)),
-             ("conditions", conditions)]
+             ("conditions", conditions), ("handed-over", lambda: handed_over(look)), ("texts", texts),
+             ("other-kinds", lambda: other_kinds(look))]
     if has_compiler:
         found.append(("where", lambda: where(program)))
     if has_compiler and shutil.which(GDB):
         found += [("debugging-session", lambda: session(program)), ("mistyped-places", lambda: mistyped(program)),
-                  ("judged-conditions", lambda: judged(program))]
+                  ("judged-conditions", lambda: judged(program)), ("seek-output", lambda: sought(program)),
+                  ("no-reads", lambda: no_reads(program))]
     else:
-        print("debugging-session, mistyped-places, judged-conditions: not tried without the compiler and %s" % GDB)
+        print("debugging-session, mistyped-places, judged-conditions, seek-output, no-reads: not tried without the "
+              "compiler and %s" % GDB)
     return found

@@ -1,5 +1,6 @@
 """Monitor commands: what the kernel keeps, what happened, and going to a step or a time."""
 
+from debugger.output import NoText, printed, words_of
 from debugger.trace import driver_name, happened, line_text, script_events
 
 # How many pairs of upcalls, read-only buffers, read-write buffers and readable buffers each driver has
@@ -8,12 +9,15 @@ PAIRS = {0: (1, 0, 0, 1), 1: (3, 2, 2, 0), 2: (0, 0, 0, 0), 3: (1, 0, 0, 0), 0x4
          0x50001: (2, 1, 1, 0)}
 KINDS = ("upcall", "read-only", "read-write", "readable")
 STEPS_OF_EVENTS = 400
+# In how many steps a text that was printed is looked for.
+MOST_SEARCHED = 100000000
 HELP = """slots              the report: each slot with its process
 state              what the kernel keeps of each process: where it lies, what is pending, its grants; who waits
 trace [N]          the last N system calls, denials, prints and acts (20)
 events [N]         the last N steps (400): calls, upcalls, denials, what came in, acts and restarts
-seek STEP, turn K, time T
-                   where `continue` goes at once: after a step, after a turn of this slot, to a time
+seek STEP, turn K, time T, output TEXT [N]
+                   where `continue` goes at once: after a step, after a turn of this slot, to a time, to where a process
+                   prints a text, for the first or the N-th time
 where              where it looks
 """
 
@@ -37,7 +41,11 @@ class Monitor:
     def __init__(self, server, script):
         self.server, self.script = server, script
 
-    def do(self, words):
+    def do(self, text):
+        words = text.split()
+        if words[:1] == ["output"]:
+            self.server.packets.say(self.output(text.split(None, 1)[1:]))
+            return
         commands = {"slots": self.slots, "state": self.state, "trace": self.trace, "events": self.events,
                     "seek": self.seek, "turn": self.turn, "time": self.time, "where": self.where}
         command = commands.get(words[0]) if words else None
@@ -46,9 +54,7 @@ class Monitor:
             return
         wrong = [word for word in words[1:] if not word.isdigit()]
         if wrong:
-            self.server.packets.say("%s takes a number, not %s\n" % (words[0], wrong[0]))
-            # A `continue` that follows has somewhere to stay.
-            self.server.target = lambda: self.server.past.seek(self.server.past.steps)
+            self.server.packets.say(self.stays("%s takes a number, not %s" % (words[0], wrong[0])))
             return
         try:
             text = command(*map(int, words[1:]))
@@ -100,10 +106,31 @@ class Monitor:
             return "nothing happened in steps %d to %d\n" % (first, past.steps)
         return "".join(line + "\n" for _, line in sorted(found, key=lambda event: event[0]))
 
+    def stays(self, why):
+        """Says why it goes nowhere; a `continue` that follows has somewhere to stay."""
+        self.later(lambda: self.server.past.seek(self.server.past.steps))
+        return why + "\n"
+
     def later(self, seek):
         # GDB keeps what it has read until it lets the process go on.
         self.server.target = seek
-        return "`continue` is there at once\n"
+        return ""
+
+    def output(self, words):
+        """Goes to where a process hands a text to the console, and has that process be looked at."""
+        try:
+            text, times = words_of("".join(words))
+        except NoText as wrong:
+            return self.stays(str(wrong))
+        found = printed(self.server.past.board, text, times, MOST_SEARCHED)
+        if found is None:
+            return self.stays("this is not printed%s in the first %d steps" % (
+                " %d times" % times if times > 1 else "", MOST_SEARCHED))
+        return self.later(lambda: self.look_at(*found))
+
+    def look_at(self, steps, slot):
+        self.server.slot = slot
+        self.server.past.seek(steps)
 
     def seek(self, steps):
         return self.later(lambda: self.server.past.seek(steps))

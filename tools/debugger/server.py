@@ -20,6 +20,7 @@ SIGNALS = {2: 4, 3: TRAP, 0: 10, 4: 10, 6: 10, 8: 12}
 PART = 5000000
 MOST_ADDRESSES, MOST_WATCHED, MOST_BYTES = 64, 20, 64
 READ_ONLY = "a run is a function of flash and script: nothing is written to it"
+NO_READS = "no read is looked for: delete this watchpoint; `watch` stops where a write changes something"
 NO_MEMORY = "E01"
 
 
@@ -216,6 +217,8 @@ class Server:
             if insert:
                 self.addresses[at] = codes_in(conditions)
             return "OK" if len(self.addresses) <= MOST_ADDRESSES else "E.at most %d breakpoints" % MOST_ADDRESSES
+        if kind in "34":
+            return self.refuse(NO_READS) if insert else "OK"
         return self.watch(insert, at, size) if kind == "2" else ""
 
     def watch(self, insert, at, size):
@@ -268,7 +271,7 @@ class Server:
         if packet.startswith("qAttached"):
             return "1"
         if packet.startswith("qRcmd,"):
-            self.monitor.do(bytes.fromhex(packet[len("qRcmd,"):]).decode("latin-1").split())
+            self.monitor.do(bytes.fromhex(packet[len("qRcmd,"):]).decode("latin-1"))
             return "OK"
         return ""
 
@@ -281,12 +284,15 @@ class Server:
             self.slot = number - 1
         return "OK"
 
-    def refuse_write(self, packet):
+    def refuse(self, why):
         # What GDB says itself does not name the reason; what comes from here on standard error it shows.
-        if not (packet[0] == "X" and packet.endswith(",0:")):
-            sys.stderr.write("debug: %s\n" % READ_ONLY)
-            sys.stderr.flush()
-        return "E." + READ_ONLY
+        sys.stderr.write("debug: %s\n" % why)
+        sys.stderr.flush()
+        return "E." + why
+
+    def refuse_write(self, packet):
+        # By an `X` of no bytes GDB asks whether it may send them so.
+        return "E." + READ_ONLY if packet[0] == "X" and packet.endswith(",0:") else self.refuse(READ_ONLY)
 
     def answer(self, packet):
         """The answer to a packet; None ends the session."""
