@@ -1,5 +1,5 @@
--- How laws of what happens to one process are said: of its record before a step and after it, and of what the step tells
--- of it. What a step tells is this board's own rule.
+-- How laws of what happens to one process are said: of its record before a step and after it, and of what the step
+-- tells of it. What a step tells is this board's own rule.
 use Rattle.std.specs.Prelude.{◌≡◌, true, false, All, slice_get, IsSomeAnd}
 use Rattle.tk_base.specs.declared.process.Choice.{Choice}
 use Rattle.kernel_model.specs.Record.{Record}

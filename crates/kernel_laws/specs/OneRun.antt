@@ -32,8 +32,8 @@ abbrev pub work_with : World → ℕ → Work
 work_with w slot = work_at (only_for w.pace.window slot) w.clock.time (now_in w) (owns_in w) w.devices
 
 -- Nothing is left to do: no process is ready and no device is, in whichever slot's window, nothing is still to come in,
--- no process that lives has an alarm armed, and no write, no request for random bytes and none for storage waits; a read
--- may, where nothing that came in is left.
+-- no process that lives has an alarm armed, and no write, no request for random bytes and none for storage waits; a
+-- read may, where nothing that came in is left.
 pub record NothingIsLeft (w : World) : Type 0 where
   pub slots : (slot : ℕ) → can_run (slice_get w.records slot) ≡ false
   pub devices : (slot : ℕ) → slot < SLOT_COUNT → (device : Dev) → (work_with w slot).ready device ≡ false

@@ -11,8 +11,8 @@ use Rattle.kernel_model.specs.Named.{slots_in}
 abbrev pub JoinsOrLeaves : ℕ → List ℕ → List ℕ → Type 0
 JoinsOrLeaves slot before later = (later ≡ before ++ slot ∷ []) ⊎ (later ≡ queue_without slot before)
 
--- A queue before a step and later, by what the step tells: it is as it was; or a label names the one slot that joined it
--- or left it.
+-- A queue before a step and later, by what the step tells: it is as it was; or a label names the one slot that joined
+-- it or left it.
 abbrev pub ChangesByOne : List Label → List ℕ → List ℕ → Type 0
 ChangesByOne told before later = (later ≡ before) ⊎ Any (λ label. JoinsOrLeaves label.slot before later) told
 

@@ -24,8 +24,8 @@ abbrev pub UnreadyTurnsDoNothing : Type 0
 UnreadyTurnsDoNothing = (settings : Settings) (time : ℕ) (r : Record) →
     may_turn r ≡ false → turned settings time r ≡ idle r
 
--- Something is due to a process that has yielded: it waits for any upcall, and one is pending; or it waited for one alone,
--- which came.
+-- Something is due to a process that has yielded: it waits for any upcall, and one is pending; or it waited for one
+-- alone, which came.
 abbrev pub HasDue : Inbox → Type 0
 HasDue inbox =
     ((inbox.wait ≡ No) × (0 < length inbox.pending)) ⊎ ((args : List ℕ) × (inbox.wait ≡ Given args))

@@ -1,5 +1,5 @@
--- Where requests come and go: by the commands of their process, by answers of their device, and with its lives (TRD 104,
--- "Command", "Exit").
+-- Where requests come and go: by the commands of their process, by answers of their device, and with its lives (TRD
+-- 104, "Command", "Exit").
 use Rattle.std.specs.Prelude.{◌≡◌, ◌≢◌, ◌⊎◌, ℕ, All, List, Option, None, Some, IsSomeAnd}
 use Rattle.tk_base.specs.declared.process.Choice.{Choice}
 use Rattle.tk_base.specs.declared.process.Verb.TheVariants.{Restart}
@@ -21,8 +21,8 @@ SetsRequest queue now before args later =
     ((before ≡ None) × IsSomeAnd later (λ request. IsAskedBy queue request args))
     ⊎ ((queue ≡ Reads) × (AreOf 0x1 3 args × (later ≡ None)))
 
--- A turn leaves each request that its process keeps as it is; or it tells the accepted command that sets it; or the next
--- life begins, which has none.
+-- A turn leaves each request that its process keeps as it is; or it tells the accepted command that sets it; or the
+-- next life begins, which has none.
 pub record RequestsAreSet (now : ℕ) (r s : Record) (told : TurnTrace) : Type 0 where
   pub each : (queue : QueueName) → Becomes (SetsRequest queue) None now told r s (request_in (kind_in queue) r.own)
       (request_in (kind_in queue) s.own)

@@ -88,8 +88,8 @@ pub fn alarms_fire_when_due()
 {}
 
 /// Time passes no further than to the nearest time at which there is something to do: where the next
-/// choice, of the round robin or of the windows, is a pass, no device step of any device is ready
-/// at any time before it ends.
+/// choice, of the round robin or of the windows, is a pass, no device step is ready, for those that
+/// are served now, at any time before it ends.
 pub fn passes_stop_at_the_nearest()
     ensures { PassesStopAtTheNearest }
 {
