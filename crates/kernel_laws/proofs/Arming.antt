@@ -1,9 +1,12 @@
 -- That what a driver keeps of its settings is what its commands said: for any value that is read of what one driver
 -- keeps, and then for the alarm and the buttons.
-use Rattle.std.proofs.Common.{◌≡◌, ◌⊎◌, inl, inr, ℕ, ◌+◌, ◌-◌, ◌==◌, Bool, true, false, cond, nat_lt, List, [], ◌∷◌, Option}
-use Rattle.std.proofs.Common.{None, Some, Result, Ok, Err, slice_get, slice_set, unwrap_or, option_map, refl, sym, ap}
-use Rattle.std.proofs.Common.{subst, ◌∙◌, eqb-true}
-use Rattle.std.specs.Prelude.{IsSomeAnd}
+use Rattle.std.proofs.Common.{◌≡◌, ◌⊎◌, inl, inr, ℕ, ◌+◌, ◌-◌, ◌*◌, ◌/◌, ◌%◌, ◌^◌, ◌==◌, Bool, true, false, cond, nat_lt}
+use Rattle.std.proofs.Common.{List, [], ◌∷◌, Option}
+use Rattle.std.proofs.Common.{None, Some, Result, Ok, Err, slice_get, slice_index, slice_set, unwrap_or, option_map, refl}
+use Rattle.std.proofs.Common.{sym, ap, subst, ◌∙◌, arith, eqb-true}
+use Rattle.std.specs.Prelude.{IfSome, IsSomeAnd}
+use Rattle.std.specs.List.{list_any}
+use Rattle.std.proofs.lemmas.Bool.{false≢true}
 use Rattle.tk_base.specs.Bits.{bit_of, has_bit, with_bit}
 use Rattle.tk_base.specs.declared.access.Denial.{Denial}
 use Rattle.tk_base.specs.declared.call.CallRule.{CallRule}
@@ -34,7 +37,7 @@ use Rattle.process_record.specs.declared.process.State.TheVariants.{Faulted}
 use Rattle.process_record.specs.Process.{after_call, waiting}
 use Rattle.driver_model.specs.Alarm as alarm
 use Rattle.driver_model.specs.Buttons as buttons
-use Rattle.driver_model.specs.Commands.{Commanded, accepting, by_number, refusing}
+use Rattle.driver_model.specs.Commands.{BoardRequest, Commanded, accepting, by_number, refusing}
 use Rattle.driver_model.specs.Drivers.{CommandContext, CommandHandler, handler_by, handler_of}
 use Rattle.driver_model.specs.Steps.{own_after}
 use Rattle.kernel_model.specs.Record.{Record, record_with_step}
@@ -45,8 +48,10 @@ use Rattle.kernel_model.specs.Parts.{with_break_at, with_process}
 use Rattle.kernel_model.specs.Turn.{Turned, faulted, made, settled, surroundings, turn_counted, turned}
 use Rattle.kernel_model.specs.World.{now_in}
 use Rattle.kernel_model.proofs.Memops.{by_test}
-use Rattle.kernel_laws.specs.Arming.{AlarmsAndButtonsAreSetByCommands, AreSetByCommands, Becomes, SetsAlarm, SetsBy}
-use Rattle.kernel_laws.specs.Arming.{SetsButtons}
+use Rattle.process_record.specs.declared.emit.CallMade.{CallMade}
+use Rattle.kernel_laws.specs.Arming.{AlarmsAndButtonsAreSetByCommands, AlarmsAndButtonsFollowCommands, AreSetByCommands}
+use Rattle.kernel_laws.specs.Arming.{Becomes, CommandSets, SetsAlarm, SetsBy, SetsButtons, is_among}
+use Rattle.kernel_laws.proofs.Accepted.{Accepts, comes_of, if_called, of_accepted}
 use Rattle.kernel_laws.proofs.Asking.{command_args, of_restart}
 use Rattle.kernel_laws.proofs.Beside.{scheduled_keeps}
 use Rattle.kernel_laws.proofs.Between.{of_turn, of_turns_at}
@@ -93,9 +98,23 @@ handed_value other driver kind number pair (g ∷ gs) =
 same_call : (a b : CommandHandler) → Some a ≡ Some b → a ≡ b
 same_call a b e = cc
 
--- For a value that is read of what a driver keeps, where a driver that is entered tells what is told of none.
+-- What a command leaves of a value: it is as it was, and the command is none of those of some numbers, or it was refused;
+-- or it was accepted, and sets the value.
+abbrev pub LeavesOrSets : {X : Type 0} → List ℕ → ℕ → Result Reply CallRule → X → X → Type 0 → Type 0
+LeavesOrSets numbers number answer before later Sets =
+    ((later ≡ before) × (list_any (λ n. n == number) numbers ≡ true → (reply : Reply) → answer ≡ Ok reply → ⊥))
+    ⊎ (((reply : Reply) × (answer ≡ Ok reply)) × Sets)
+
+-- the row of another number is none of these
+pub no_row : {P : Type 0} (numbers : List ℕ) (number n : ℕ) → list_any (λ m. m == n) numbers ≡ false → number ≡ n
+    → list_any (λ m. m == number) numbers ≡ true → P
+no_row numbers number n none is among =
+    absurd (false≢true (sym none ∙ sym (ap (λ (k : ℕ). list_any (λ m. m == k) numbers) is) ∙ among))
+
+-- For a value that is read of what a driver keeps, and that commands of some numbers set, where a driver that is entered
+-- tells what is told of none.
 module _ {X : Type 0} (driver : ℕ) (read : Option KeptValue → X) (Sets : ℕ → X → List ℕ → X → Type 0)
-    (blank : (o : Option KeptValue) → read (Some (unwrap_or o (fresh_value driver))) ≡ read o) where
+    (numbers : List ℕ) (blank : (o : Option KeptValue) → read (Some (unwrap_or o (fresh_value driver))) ≡ read o) where
   abbrev value : Own → X
   value own = read (kept driver own)
 
@@ -120,9 +139,8 @@ module _ {X : Type 0} (driver : ℕ) (read : Option KeptValue → X) (Sets : ℕ
   -- what a command leaves of it
   abbrev Leaves : CommandContext → ℕ → ℕ → ℕ → Own → Commanded → Type 0
   Leaves around number x y own c =
-      (value (own_after c.step) ≡ value own)
-      ⊎ (((reply : Reply) × (c.answer ≡ Ok reply))
-      × Sets around.now (value own) (driver ∷ number ∷ x ∷ y ∷ []) (value (own_after c.step)))
+      LeavesOrSets numbers number c.answer (value own) (value (own_after c.step))
+      (Sets around.now (value own) (driver ∷ number ∷ x ∷ y ∷ []) (value (own_after c.step)))
 
   abbrev AtDriver : Type 0
   AtDriver =
@@ -140,15 +158,39 @@ module _ {X : Type 0} (driver : ℕ) (read : Option KeptValue → X) (Sets : ℕ
       (number x y : ℕ) (own : Own) → LeavesAt other around number x y own (taker around number x y own)
   of_any here other taker is around number x y own = by_driver (other == driver) refl
     where
+      at_driver : Leaves around number x y own (taker around number x y own)
+          → LeavesAt driver around number x y own (taker around number x y own)
+      at_driver (inl same) = inl same.0
+      at_driver (inr sets) = inr sets
+
       by_driver : (b : Bool) → (other == driver) ≡ b
           → LeavesAt other around number x y own (taker around number x y own)
       by_driver true e =
           let same = eqb-true other driver e in
           subst (λ (d : ℕ). LeavesAt d around number x y own (taker around number x y own)) (sym same)
-          (here taker (subst (λ (d : ℕ). handler_of d ≡ Some taker) same is) around number x y own)
+          (at_driver (here taker (subst (λ (d : ℕ). handler_of d ≡ Some taker) same is) around number x y own))
       by_driver false e =
           inl (ap read (scheduled_keeps driver (taker around number x y own).step
           ∙ command_leaves_others other taker is around number x y own driver e))
+
+  -- an accepted command to the driver sets it, if its number is one of those
+  pub accepted_sets : AtDriver → (around : CommandContext) (own o : Own) (acts : List BoardRequest) (call : CallMade)
+      → Accepts around own o acts call → slice_index call.args 0 ≡ driver → is_among numbers call ≡ true
+      → Sets around.now (value own) call.args (value o)
+  accepted_sets here around own o acts call takes is among =
+      by_leaves (here takes.taker (subst (λ (d : ℕ). handler_of d ≡ Some takes.taker) is takes.there) around
+      (slice_index call.args 1) (slice_index call.args 2) (slice_index call.args 3) own)
+    where
+      by_leaves : Leaves around (slice_index call.args 1) (slice_index call.args 2) (slice_index call.args 3) own
+          (comes_of around own takes.taker call)
+          → Sets around.now (value own) call.args (value o)
+      by_leaves (inl same) = absurd (same.1 among takes.reply takes.accepts)
+      by_leaves (inr sets) =
+          subst (λ (args : List ℕ). Sets around.now (value own) args (value o))
+          (ap (λ (d : ℕ). d ∷ slice_index call.args 1 ∷ slice_index call.args 2 ∷ slice_index call.args 3 ∷ []) (sym is)
+          ∙ takes.args)
+          (subst (λ (later : Own). Sets around.now (value own) (driver ∷ slice_index call.args 1
+          ∷ slice_index call.args 2 ∷ slice_index call.args 3 ∷ []) (value later)) (sym takes.own) sets.1)
 
   -- and what a turn leaves
   abbrev LeavesTurn : ℕ → Record → Turned → Type 0
@@ -277,18 +319,23 @@ unfolding drivers
 buttons_blank None = refl
 buttons_blank (Some v) = refl
 
+-- the numbers of the commands that set each
+abbrev set_alarm : List ℕ
+set_alarm = 3 ∷ 5 ∷ 6 ∷ []
+
+abbrev set_buttons : List ℕ
+set_buttons = 1 ∷ 2 ∷ []
+
 module _ (around : CommandContext) (number x y : ℕ) (own : Own) where
   abbrev LeavesAlarm : Commanded → Type 0
   LeavesAlarm c =
-      (alarm.alarm_in (own_after c.step) ≡ alarm.alarm_in own)
-      ⊎ (((reply : Reply) × (c.answer ≡ Ok reply))
-      × SetsAlarm around.now (alarm.alarm_in own) (0x0 ∷ number ∷ x ∷ y ∷ []) (alarm.alarm_in (own_after c.step)))
+      LeavesOrSets set_alarm number c.answer (alarm.alarm_in own) (alarm.alarm_in (own_after c.step))
+      (SetsAlarm around.now (alarm.alarm_in own) (0x0 ∷ number ∷ x ∷ y ∷ []) (alarm.alarm_in (own_after c.step)))
 
   abbrev LeavesButtons : Commanded → Type 0
   LeavesButtons c =
-      (buttons.enabled (own_after c.step) ≡ buttons.enabled own)
-      ⊎ (((reply : Reply) × (c.answer ≡ Ok reply))
-      × SetsButtons around.now (buttons.enabled own) (0x3 ∷ number ∷ x ∷ y ∷ []) (buttons.enabled (own_after c.step)))
+      LeavesOrSets set_buttons number c.answer (buttons.enabled own) (buttons.enabled (own_after c.step))
+      (SetsButtons around.now (buttons.enabled own) (0x3 ∷ number ∷ x ∷ y ∷ []) (buttons.enabled (own_after c.step)))
 
   abbrev chosen : Option (ℕ × Commanded) → Commanded
   chosen found = unwrap_or (option_map (λ row. row.1) found) (refusing NoCommand own)
@@ -330,22 +377,23 @@ module _ (around : CommandContext) (number x y : ℕ) (own : Own) where
         (SuccessU32 (alarm.expiration armed), refl),
         subst (SetsAlarm around.now (alarm.alarm_in own) (0x0 ∷ number ∷ x ∷ y ∷ [])) (sym (armed_put armed)) sets,
       ))
-      (inl refl)
+      (inl (refl, λ among reply e. cc))
 
   by_stopping : number ≡ 3 → (armed : Option Armed) → LeavesAlarm (alarm.stopping armed own)
-  by_stopping three None = inl refl
+  by_stopping three None = inl (refl, λ among reply e. cc)
   by_stopping three (Some armed) = inr ((Success, refl), (refl, inl (three, none_put)))
 
   of_alarm : LeavesAlarm (by_number (alarm.commands around.now x y) number own)
   unfolding alarm.commands
   of_alarm =
-      row LeavesAlarm 0 _ _ (λ is. inl refl) (row LeavesAlarm 1 _ _ (λ is. inl refl)
-      (row LeavesAlarm 2 _ _ (λ is. inl refl)
+      row LeavesAlarm 0 _ _ (λ is. inl (refl, no_row set_alarm number 0 refl is))
+      (row LeavesAlarm 1 _ _ (λ is. inl (refl, no_row set_alarm number 1 refl is))
+      (row LeavesAlarm 2 _ _ (λ is. inl (refl, no_row set_alarm number 2 refl is))
       (row LeavesAlarm 3 _ _ (λ is. by_stopping is (alarm.alarm_in own))
       (row LeavesAlarm 5 _ _ (λ is. by_arming (record { reference = around.now; delta = x })
       (refl, inr (inl (is, refl))))
       (row LeavesAlarm 6 _ _ (λ is. by_arming (record { reference = x; delta = y }) (refl, inr (inr (is, refl))))
-      (inl refl))))))
+      (inl (refl, λ among reply e. cc)))))))
 
   -- a mask that is put, which is put only where the driver keeps something
   enabled_put : (mask : ℕ) → buttons.enabled (with_kept buttons.buttons (ButtonsValue mask)
@@ -359,7 +407,7 @@ module _ (around : CommandContext) (number x y : ℕ) (own : Own) where
       ap buttons.enabled_in (kept_entering buttons.buttons own) ∙ buttons_blank (kept buttons.buttons own)
 
   there : (c : Commanded) → LeavesButtons c → LeavesButtons (buttons.of_button around.buttons x own c)
-  there c h = if_so LeavesButtons (nat_lt x around.buttons) c (refusing Range own) h (inl refl)
+  there c h = if_so LeavesButtons (nat_lt x around.buttons) c (refusing Range own) h (inl (refl, λ among reply e. cc))
 
   by_enabling : number ≡ 1 → LeavesButtons (buttons.enabling x own)
   by_enabling is =
@@ -377,7 +425,11 @@ module _ (around : CommandContext) (number x y : ℕ) (own : Own) where
           ),
         ),
       ))
-      (inl refl)
+      (inl (refl, λ among reply e. cc))
+
+  -- a bit of a mask in which none is 1
+  none_less : (bit : ℕ) → 0 - bit + 0 ≡ 0
+  none_less bit = omega arith
 
   by_disabling : number ≡ 2 → LeavesButtons (accepting Success (buttons.set_enabled x false own))
   by_disabling is = by_kept (kept buttons.buttons own) refl
@@ -395,18 +447,30 @@ module _ (around : CommandContext) (number x y : ℕ) (own : Own) where
 
       by_kept : (o : Option KeptValue) → kept buttons.buttons own ≡ o
           → LeavesButtons (accepting Success (buttons.set_enabled x false own))
-      by_kept None none = inl (put None none ∙ sym (ap buttons.enabled_in none))
+      by_kept None none =
+          inr (
+            (Success, refl),
+            (
+              refl,
+              inr (
+                is,
+                put None none ∙ sym (none_less (0 / 2 ^ x % 2 * 2 ^ x))
+                    ∙ sym (ap (λ (o : Option KeptValue). with_bit (buttons.enabled_in o) x false) none),
+              ),
+            ),
+          )
       by_kept (Some v) some = inr ((Success, refl), (refl, inr (is, put (Some v) some)))
 
   of_buttons : LeavesButtons (by_number (buttons.commands around.buttons around.pressed x) number own)
   unfolding buttons.commands
   of_buttons =
-      row LeavesButtons 0 _ _ (λ is. inl refl)
+      row LeavesButtons 0 _ _ (λ is. inl (refl, no_row set_buttons number 0 refl is))
       (row LeavesButtons 1 _ _ (λ is. there (buttons.enabling x own) (by_enabling is))
       (row LeavesButtons 2 _ _
       (λ is. there (accepting Success (buttons.set_enabled x false own)) (by_disabling is))
       (row LeavesButtons 3 _ _
-      (λ is. there (accepting (SuccessU32 (bit_of (has_bit around.pressed x))) own) (inl refl)) (inl refl))))
+      (λ is. there (accepting (SuccessU32 (bit_of (has_bit around.pressed x))) own)
+      (inl (refl, no_row set_buttons number 3 refl is))) (inl (refl, λ among reply e. cc)))))
 
 alarm_here : (taker : CommandHandler) → handler_of alarm.alarm_driver ≡ Some taker → (around : CommandContext)
     (number x y : ℕ) (own : Own) → LeavesAlarm around number x y own (taker around number x y own)
@@ -425,8 +489,23 @@ buttons_here taker is around number x y own =
 pub alarms_and_buttons : CallsAreOfEcall → AlarmsAndButtonsAreSetByCommands
 alarms_and_buttons of_ecall w choice =
     of_turns_at (AreSetByCommands (now_in w)) w (λ r. record {
-      alarm = of_turns alarm.alarm_driver alarm.armed_in SetsAlarm alarm_blank alarm_here w.settings w.clock.time r
-          of_ecall;
-      buttons = of_turns buttons.buttons buttons.enabled_in SetsButtons buttons_blank buttons_here w.settings
+      alarm = of_turns alarm.alarm_driver alarm.armed_in SetsAlarm set_alarm alarm_blank alarm_here w.settings
+          w.clock.time r of_ecall;
+      buttons = of_turns buttons.buttons buttons.enabled_in SetsButtons set_buttons buttons_blank buttons_here w.settings
           w.clock.time r of_ecall;
     }) choice
+
+pub follow_commands : CallsAreOfEcall → AlarmsAndButtonsFollowCommands
+follow_commands of_ecall w choice =
+    of_turns_at (λ r s told. IfSome told.call (CommandSets (now_in w) r s)) w (λ r.
+    let t = turned w.settings w.clock.time r in
+    let around = surroundings w.settings w.clock.time r in
+    if_called t.told.call (λ call. call.class ≡ 2 → call.rule ≡ None
+    → Accepts around r.own t.after.own t.acts call) (CommandSets (now_in w) r t.after) (λ call accepts. record {
+      alarm = λ is among.
+          accepted_sets alarm.alarm_driver alarm.armed_in SetsAlarm set_alarm alarm_blank alarm_here around r.own
+          t.after.own t.acts call (accepts is.class is.accepted) is.of_driver among;
+      buttons = λ is among.
+          accepted_sets buttons.buttons buttons.enabled_in SetsButtons set_buttons buttons_blank buttons_here around r.own
+          t.after.own t.acts call (accepts is.class is.accepted) is.of_driver among;
+    }) (of_accepted of_ecall w.settings w.clock.time r)) choice

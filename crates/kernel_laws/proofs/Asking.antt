@@ -639,6 +639,15 @@ pub none_put : (queue : QueueName) (o : Option KeptValue)
 none_put queue None = refl
 none_put queue (Some value) = refl
 
+-- where nothing is asked for nothing waits
+pub none_waits : (queue : QueueName) (own : Own) → asks queue own ≡ None → waits queue own ≡ None
+none_waits queue own none =
+    ap (λ (q : Option (RequestOf queue)). cond own.lives q None) none ∙ by_life own.lives
+  where
+    by_life : (b : Bool) → ◌≡◌ {A = Option (RequestOf queue)} (cond b None None) None
+    by_life true = refl
+    by_life false = refl
+
 -- by whether the process lives
 goes_by : (queue : QueueName) (lives : Bool) (before later : Option (RequestOf queue))
     → (lives ≡ true → GoesOn queue before later)

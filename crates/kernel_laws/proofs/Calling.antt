@@ -1,5 +1,5 @@
 -- All that a call may come to, with what it leaves of its process: the walk for laws of what a process gets.
-use Rattle.std.proofs.Common.{◌≡◌, ℕ, ◌==◌, Bool, Option, None, Some, refl}
+use Rattle.std.proofs.Common.{◌≡◌, ℕ, ◌==◌, Bool, true, false, cond, Option, None, Some, refl}
 use Rattle.tk_base.specs.declared.call.CallRule.{CallRule}
 use Rattle.tk_base.specs.declared.call.CallRule.TheVariants.{NoDriver, NoOperation, Permission}
 use Rattle.driver_model.specs.Drivers.{CommandContext, CommandHandler, handler_of}
@@ -14,6 +14,7 @@ use Rattle.kernel_model.specs.Record.{Record}
 use Rattle.kernel_model.specs.Calls.{Served, by_form, ended, exit, failure_of, refused_with, replied, restart}
 use Rattle.kernel_model.specs.Calls.{served, swap_by, swap_refusal, taken_by, yielding}
 use Rattle.kernel_model.specs.Parts.{commanded, object_permits, own_swapped, with_break_at}
+use Rattle.kernel_model.specs.Turn.{rule_shown}
 use Rattle.kernel_model.proofs.Memops.{by_test, memop_gives}
 
 -- what holds of each of them, by the form of the call
@@ -58,3 +59,16 @@ module _ (P : Served → Type 0) (around : CommandContext) (r : Record) where
   unfolding served
   of_served strict form each =
       by_test P (object_permits strict r.object form) _ _ (of_form form each) (each.refused Permission)
+
+-- a call that broke no rule is what its form comes to
+pub of_permitted : (P : Served → Type 0) (strict : Bool) (around : CommandContext) (r : Record) (form : CallForm)
+    → P (by_form around r form)
+    → let s = served strict around r form in rule_shown s.outcome ≡ None → P s
+unfolding served
+of_permitted P strict around r form holds = by_permit (object_permits strict r.object form)
+  where
+    by_permit : (b : Bool)
+        → let s = cond b (by_form around r form) (refused_with r Permission (failure_of form Permission)) in
+        rule_shown s.outcome ≡ None → P s
+    by_permit true none = holds
+    by_permit false none = absurd (cc)

@@ -10,12 +10,13 @@ mod Caused
 pub mod OneRun
 pub mod Between
 pub mod Calling
+pub mod Accepted
 mod Registers
 mod Replies
 mod Delivered
 pub mod Asking
 mod Arming
-mod Withdrawing
+pub mod Withdrawing
 mod Restarting
 mod Alarms
 mod Passes

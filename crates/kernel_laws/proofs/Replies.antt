@@ -1,16 +1,23 @@
 -- What a call gets stands in the registers of its process, and a refused one changes nothing else of it.
-use Rattle.std.proofs.Common.{◌≡◌, ◌≢◌, ◌⊎◌, inl, inr, ◌<◌, ◌≤◌, ℕ, ◌+◌, ◌%◌, ◌^◌, ◌==◌, Bool, true, false, cond, List, []}
-use Rattle.std.proofs.Common.{◌∷◌, length, Option, None, Some, Result, Ok, Err, IfSome, slice_get, refl, sym, ap, subst}
-use Rattle.std.proofs.Common.{◌∙◌, arith}
+use Rattle.std.proofs.Common.{◌≡◌, ◌≢◌, ◌⊎◌, inl, inr, ◌<◌, ◌≤◌, ℕ, zero, suc, ◌+◌, ◌%◌, ◌^◌, ◌==◌, Bool, true, false}
+use Rattle.std.proofs.Common.{cond, find, List, [], ◌∷◌, length, Option, None, Some, is_some, option_map, Result, Ok, Err}
+use Rattle.std.proofs.Common.{IfSome, slice_get, refl, sym, ap, subst, ◌∙◌, arith}
 use Rattle.std.specs.Prelude.{All}
+use Rattle.std.proofs.lemmas.Bool.{false≢true}
 use Rattle.std.proofs.lemmas.List.Elements.{All-nil, All-cons, All-head, All-tail}
 use Rattle.tk_base.specs.Call.{code_of, error_of}
 use Rattle.tk_base.specs.Regs.{Registers, register, with_register}
+use Rattle.tk_base.specs.declared.access.Denial.{Denial}
 use Rattle.tk_base.specs.declared.call.CallRule.{CallRule}
 use Rattle.tk_base.specs.declared.kinds.PairKind.{PairKind}
 use Rattle.tk_base.specs.declared.kinds.PairKind.TheVariants.{Upcall, ReadOnly, ReadWrite, Readable}
 use Rattle.tk_base.specs.declared.upcall.Upcall.{Upcall as Scheduled}
-use Rattle.rv32_model.specs.Laws.{CallsAreOfEcall}
+use Rattle.rv32_model.specs.Laws.{CallsAreOfEcall, Denies, IsInstrAt}
+use Rattle.rv32_model.specs.UserTurn.{MemoryAccess, executed, on_word, user_turn}
+use Rattle.rv32_model.specs.declared.instr.Instr.{Instr}
+use Rattle.rv32_model.specs.declared.instr.Instr.TheVariants.{Ecall}
+use Rattle.rv32_model.specs.declared.turn_end.TurnEnd.{TurnEnd}
+use Rattle.rv32_model.specs.declared.turn_end.TurnEnd.TheVariants.{Call}
 use Rattle.upcall_queue.specs.Pending.{place_of}
 use Rattle.driver_model.specs.Commands.{BoardRequest}
 use Rattle.syscall_abi.specs.declared.form.CallForm.{CallForm}
@@ -18,25 +25,29 @@ use Rattle.syscall_abi.specs.declared.form.CallForm.TheVariants as forms
 use Rattle.syscall_abi.specs.declared.reply.Reply.{Reply}
 use Rattle.syscall_abi.specs.declared.reply.Reply.TheVariants as replies
 use Rattle.syscall_abi.specs.declared.reply.Reply.TheVariants.{Failure, FailureU32U32}
-use Rattle.syscall_abi.specs.Call.{a2, a3, call_of, class}
+use Rattle.syscall_abi.specs.Call.{a2, a3, call_of, class, class_table}
 use Rattle.syscall_abi.specs.Reply.{put_reply, reply_words}
 use Rattle.process_record.specs.declared.outcome.Outcome.{Outcome}
 use Rattle.process_record.specs.declared.outcome.Outcome.TheVariants as outcomes
 use Rattle.process_record.specs.declared.outcome.Outcome.TheVariants.{Replied}
 use Rattle.process_record.specs.declared.process.Process.{Process}
 use Rattle.process_record.specs.Process.{after_call, after_reply, waiting}
-use Rattle.kernel_model.specs.Record.{Record}
+use Rattle.process_model.specs.Permission.{denied}
+use Rattle.process_record.specs.declared.process.State.{State}
+use Rattle.kernel_model.specs.Record.{Record, byte_at, instruction, with_effect}
 use Rattle.kernel_model.specs.declared.settings.Settings.{Settings}
 use Rattle.kernel_model.specs.Calls.{Served, comes_to, driver_answered, failure_of, refused_with, served, yield_for, yield_now}
 use Rattle.kernel_model.specs.Calls.{yielding}
 use Rattle.kernel_model.specs.Histories.{class_of}
-use Rattle.kernel_model.specs.Parts.{with_process}
-use Rattle.kernel_model.specs.Turn.{arguments, made, reply_shown, surroundings, turn_counted}
+use Rattle.kernel_model.specs.Parts.{calls, with_process}
+use Rattle.kernel_model.specs.Turn.{Turned, arguments, at_turn_end, made, reply_shown, surroundings, turn_counted, turn_in}
+use Rattle.kernel_model.specs.Turn.{turned}
 use Rattle.kernel_model.specs.World.{Label, World, after, labels}
 use Rattle.kernel_model.specs.Refused.{IfRefused, RefusalsChangeLittle}
 use Rattle.kernel_model.proofs.Classes.{of_registers}
 use Rattle.kernel_model.proofs.Memops.{by_test}
-use Rattle.kernel_laws.specs.Replies.{CallIsSeen, ChangesByRefusal, IfRefusedSeen}
+use Rattle.kernel_model.proofs.Places.{free_turned}
+use Rattle.kernel_laws.specs.Replies.{CallIsSeen, ChangesByRefusal, EcallsAreTold, IfRefusedSeen, TellsItsCall}
 use Rattle.kernel_laws.specs.Replies.{RefusalsAreSeen, RepliesStand, ReplyStands, is_swap_class}
 use Rattle.kernel_laws.proofs.Between.{of_each_turn, of_turn}
 use Rattle.kernel_laws.proofs.Calling.{of_served}
@@ -182,9 +193,19 @@ call_seen r form is s gets = record {
   class = refl;
   args = refl;
   reply = λ a b c d shows. by_outcome a b c d s.outcome refl shows;
+  whole = four_words s.outcome;
   silent = gets.silent;
 }
   where
+    four_words : (outcome : Outcome) → IfSome (reply_shown r.process.regs outcome) (λ words. length words ≡ 4)
+    four_words (Replied reply rule) = refl
+    four_words outcomes.ToDriver = tt
+    four_words outcomes.Waits = tt
+    four_words outcomes.Delivered = tt
+    four_words outcomes.GoesOn = tt
+    four_words outcomes.Ended = tt
+    four_words outcomes.Again = tt
+
     by_outcome : (a b c d : ℕ) (outcome : Outcome) → s.outcome ≡ outcome
         → reply_shown r.process.regs outcome ≡ Some (a ∷ b ∷ c ∷ d ∷ []) → ReplyStands r s.after a b c d
     by_outcome a b c d (Replied reply rule) same shows =
@@ -216,10 +237,57 @@ replies_stand of_ecall =
               pc = stands.pc;
               others = stands.others;
             };
+            whole = s.whole;
             silent = s.silent;
           };
       delivers = λ next is yielded. tt;
     }))
+
+-- The turn of a process that stands at an ECALL tells a call.
+some_call : (regs : Registers) (n : ℕ) → n ≤ 7
+    → is_some (option_map (λ row. row.1) (find (λ row. row.0 == n) (class_table regs))) ≡ true
+unfolding class_table
+some_call regs zero few = refl
+some_call regs (suc zero) few = refl
+some_call regs (suc (suc zero)) few = refl
+some_call regs (suc (suc (suc zero))) few = refl
+some_call regs (suc (suc (suc (suc zero)))) few = refl
+some_call regs (suc (suc (suc (suc (suc zero))))) few = refl
+some_call regs (suc (suc (suc (suc (suc (suc zero)))))) few = refl
+some_call regs (suc (suc (suc (suc (suc (suc (suc zero))))))) few = refl
+some_call regs (suc (suc (suc (suc (suc (suc (suc (suc n)))))))) few = absurd (omega (arith, few))
+
+known_call : (regs : Registers) → class regs ≤ 7 → is_some (call_of regs) ≡ true
+unfolding call_of
+known_call regs few = some_call regs (class regs) few
+
+ends_in_call : (denies : Denies) (bytes : ℕ → ℕ) (regs : Registers) → IsInstrAt denies bytes regs.pc (Some Ecall)
+    → (user_turn denies bytes regs).end ≡ Call
+unfolding user_turn on_word executed
+ends_in_call denies bytes regs at =
+    ap (λ (word : Result ℕ Denial). (on_word denies bytes word regs).end) at.fetch
+    ∙ ap (λ (instr : Option Instr). (executed denies bytes (cond (at.word % 4 == 3) 4 2) instr regs).end) at.means
+
+tells_its_call : CallsAreOfEcall → (settings : Settings) (time : ℕ) (r : Record)
+    → TellsItsCall r (turned settings time r).told
+tells_its_call of_ecall settings time r free running at known =
+    let t = instruction r in
+    let ends = ends_in_call (denied r.own.layout) (byte_at r) r.process.regs at in
+    let regs = (of_ecall (denied r.own.layout) (byte_at r) r.process.regs ends).1 in
+    ap (λ (u : Turned). is_some u.told.call) (free_turned settings time r free)
+    ∙ ap (λ (state : State). is_some (turn_in settings time state r).told.call) running
+    ∙ ap (λ (end : TurnEnd).
+    is_some (at_turn_end settings time (with_effect (turn_counted r) t) t.accesses end).told.call) ends
+    ∙ told (with_effect (turn_counted r) t) t.accesses (call_of t.regs)
+    (ap (λ (x : Registers). is_some (call_of x)) regs ∙ known_call r.process.regs known)
+  where
+    told : (s : Record) (accesses : List MemoryAccess) (o : Option CallForm) → is_some o ≡ true
+        → is_some (calls settings time s accesses o).told.call ≡ true
+    told s accesses None some = absurd (false≢true some)
+    told s accesses (Some form) some = refl
+
+pub ecalls_are_told : CallsAreOfEcall → EcallsAreTold
+ecalls_are_told of_ecall = of_each_turn (λ r s told. TellsItsCall r told) (tells_its_call of_ecall)
 
 -- The registers of a refused call.
 module _ (regs : Registers) (many : length regs.x ≡ 32) (rule : CallRule) where

@@ -297,7 +297,7 @@ same_inbox : (r s : Record) → s.own.inbox ≡ r.own.inbox → s.pressed ≡ r.
 same_inbox r s inbox pressed =
     record { remains = subst (IsRemainder r.own.inbox) (sym inbox) (all_remain r.own.inbox); pressed = pressed }
 
-flag_inbox : (at byte : ℕ) (own : Own) → (with_flag at byte own).inbox ≡ own.inbox
+pub flag_inbox : (at byte : ℕ) (own : Own) → (with_flag at byte own).inbox ≡ own.inbox
 flag_inbox at byte own = by_place (lies_in_ram own.layout at 1)
   where
     by_place : (b : Bool)

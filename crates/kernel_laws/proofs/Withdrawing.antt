@@ -1,7 +1,9 @@
 -- That no request is lost: by the rows of the drivers' tables, and by what each device's answer leaves.
-use Rattle.std.proofs.Common.{◌≡◌, ◌≢◌, ◌⊎◌, inl, inr, ℕ, ◌+◌, ◌==◌, Bool, true, false, cond, nat_le, [], ◌∷◌, Option}
-use Rattle.std.proofs.Common.{None, Some, Ok, unwrap_or, refl, sym, ap, subst, ◌∙◌, eqb-true}
+use Rattle.std.proofs.Common.{◌≡◌, ◌≢◌, inl, inr, ℕ, ◌+◌, ◌==◌, Bool, true, false, cond, nat_le, List, [], ◌∷◌}
+use Rattle.std.proofs.Common.{Option, None, Some, IfSome, unwrap_or, slice_index, refl, sym, ap, ap₂, subst, ◌∙◌}
+use Rattle.std.proofs.Common.{arith, eqb-true}
 use Rattle.std.specs.Prelude.{IsSomeAnd}
+use Rattle.std.specs.List.{list_any}
 use Rattle.std.specs.Option.{option_map}
 use Rattle.std.proofs.lemmas.Bool.{false≢true}
 use Rattle.tk_base.specs.declared.call.CallRule.TheVariants.{NoCommand, NoRoom}
@@ -14,7 +16,6 @@ use Rattle.grant_values.specs.declared.storage.StorageRequest.{StorageRequest}
 use Rattle.grant_values.specs.Drivers.{drivers}
 use Rattle.grant_values.specs.Values.{KeptValue, fresh_value}
 use Rattle.rv32_model.specs.Laws.{CallsAreOfEcall}
-use Rattle.syscall_abi.specs.declared.reply.Reply.{Reply}
 use Rattle.syscall_abi.specs.declared.reply.Reply.TheVariants.{Success}
 use Rattle.process_model.specs.Handed.{has_place, own_entering}
 use Rattle.process_model.specs.Own.{Own, own_ended}
@@ -33,25 +34,34 @@ use Rattle.driver_model.specs.Storage as storage
 use Rattle.kernel_model.specs.Record.{Record}
 use Rattle.kernel_model.specs.declared.settings.Settings.{Settings}
 use Rattle.kernel_model.specs.Turn.{Act, Alarmed, Edge, Event, Input, NoWord, Stored, Taken, Turn, Word, WriteDone, apply}
-use Rattle.kernel_model.specs.Turn.{is_turn, operated}
+use Rattle.kernel_model.specs.Laws.{DriversPromise}
+use Rattle.kernel_model.specs.Turn.{is_turn, operated, surroundings, turned}
 use Rattle.kernel_model.specs.World.{now_in}
 use Rattle.kernel_model.proofs.Steps.{IsAnswer}
-use Rattle.kernel_laws.specs.Asking.{IsAskedBy}
+use Rattle.kernel_laws.specs.Arming.{Becomes}
+use Rattle.kernel_laws.specs.Asking.{AreOf, CommandAsks, CommandsAsk, IsAskedBy}
 use Rattle.kernel_laws.specs.Queues.{queue_for}
 use Rattle.kernel_laws.specs.Withdrawing.{RequestsAreLeft, RequestsAreNotLost, RequestsAreSet, SetsRequest}
-use Rattle.kernel_laws.proofs.Arming.{of_turns}
-use Rattle.kernel_laws.proofs.Asking.{asks, beside_asks, begun, entered_asks, entering_asks, none_put, put_asks}
+use Rattle.kernel_laws.proofs.Accepted.{Accepts, if_called, of_accepted}
+use Rattle.kernel_laws.proofs.Arming.{LeavesOrSets, accepted_sets, no_row, of_turns}
+use Rattle.kernel_laws.proofs.Asking.{asks, beside_asks, begun, entered_asks, entering_asks, none_put, none_waits, put_asks}
 use Rattle.kernel_laws.proofs.Asking.{read_by_done, read_by_write, same_taker, told, write_by_input}
 use Rattle.kernel_laws.proofs.Beside.{answers_beside, driver_answering, scheduled_keeps}
-use Rattle.kernel_laws.proofs.Between.{of_each_answer, of_turns_at}
+use Rattle.kernel_laws.proofs.Between.{of_each_answer, of_each_turn, of_turns_at}
+
+-- the numbers of the commands that set the request of each queue
+abbrev numbers_of : QueueName → List ℕ
+numbers_of Writes = 1 ∷ []
+numbers_of Reads = 2 ∷ 3 ∷ []
+numbers_of Randoms = 1 ∷ []
+numbers_of Stores = 2 ∷ 3 ∷ []
 
 -- what a command leaves of the request of a queue
 module _ (queue : QueueName) (driver number x y : ℕ) (own : Own) where
   abbrev Sets : Commanded → Type 0
   Sets c =
-      (asks queue (own_after c.step) ≡ asks queue own)
-      ⊎ (((reply : Reply) × (c.answer ≡ Ok reply))
-      × SetsRequest queue 0 (asks queue own) (driver ∷ number ∷ x ∷ y ∷ []) (asks queue (own_after c.step)))
+      LeavesOrSets (numbers_of queue) number c.answer (asks queue own) (asks queue (own_after c.step))
+      (SetsRequest queue 0 (asks queue own) (driver ∷ number ∷ x ∷ y ∷ []) (asks queue (own_after c.step)))
 
   if_so : (b : Bool) (c d : Commanded) → Sets c → Sets d → Sets (cond b c d)
   if_so true c d h k = h
@@ -85,53 +95,66 @@ module _ (queue : QueueName) (driver number x y : ℕ) (own : Own) where
                   (λ q. IsAskedBy queue q (driver ∷ number ∷ x ∷ y ∷ []))) (sym (entered_asks queue (Some request) own)) asked,
             ),
           ))
-          (inl refl)
-      by_waiting (Some waiting) e = inl refl
+          (inl (refl, λ among reply e. cc))
+      by_waiting (Some waiting) e = inl (refl, λ among reply f. cc)
 
-  sets_other : (here : QueueName) → is_same here queue ≡ false → (request : RequestOf here)
+  sets_other : (here : QueueName) → is_same here queue ≡ false
+      → (list_any (λ n. n == number) (numbers_of queue) ≡ true → ⊥) → (request : RequestOf here)
       → Sets (asking (kind_in here) request own)
-  sets_other here apart request = by_waiting (asks here own)
+  sets_other here apart none request = by_waiting (asks here own)
     where
       by_waiting : (waiting : Option (RequestOf here)) → Sets (asking_beside (kind_in here) waiting request own)
       by_waiting None =
           if_so (has_place (kind_in here).driver own) (begun queue driver number x y own here request)
           (refusing NoRoom own)
-          (inl (beside_asks here queue apart (Some request) (own_entering (kind_in here).driver own)
-          ∙ entering_asks queue (kind_in here).driver own)) (inl refl)
-      by_waiting (Some waiting) = inl refl
+          (inl (
+            beside_asks here queue apart (Some request) (own_entering (kind_in here).driver own)
+                ∙ entering_asks queue (kind_in here).driver own,
+            λ among reply e. none among,
+          ))
+          (inl (refl, λ among reply e. cc))
+      by_waiting (Some waiting) = inl (refl, λ among reply e. cc)
 
 module _ (number x y : ℕ) (own : Own) where
   writes_set : Sets Writes console.console number x y own (by_number (console.commands x) number own)
   unfolding console.commands
   writes_set =
-      row Writes console.console number x y own 0 _ _ (λ is. inl refl)
+      row Writes console.console number x y own 0 _ _ (λ is. inl (refl, no_row (1 ∷ []) number 0 refl is))
       (row Writes console.console number x y own 1 _ _
       (λ is. sets_here Writes console.console number x y own (record { length = x; taken = 0 }) ((refl, is), refl))
       (row Writes console.console number x y own 2 _ _
-      (λ is. if_so Writes console.console number x y own (x == 0) _ _ (inl refl)
-      (sets_other Writes console.console number x y own Reads refl (record { length = x })))
-      (row Writes console.console number x y own 3 _ _ (λ is. cancelled (request_in console_reads own)) (inl refl))))
+      (λ is. if_so Writes console.console number x y own (x == 0) _ _ (inl (refl, λ among reply e. cc))
+      (sets_other Writes console.console number x y own Reads refl (no_row (1 ∷ []) number 2 refl is)
+      (record { length = x })))
+      (row Writes console.console number x y own 3 _ _ (λ is. cancelled is (request_in console_reads own))
+      (inl (refl, λ among reply e. cc)))))
     where
-      cancelled : (read : Option WaitingRead) → Sets Writes console.console number x y own (console.cancelling read own)
-      cancelled None = inl refl
-      cancelled (Some read) =
-          inl (ap (told Writes) (scheduled_keeps console.console (console.dropping_read own))
-          ∙ beside_asks Reads Writes refl None own)
+      cancelled : number ≡ 3 → (read : Option WaitingRead)
+          → Sets Writes console.console number x y own (console.cancelling read own)
+      cancelled is None = inl (refl, λ among reply e. cc)
+      cancelled is (Some read) =
+          inl (
+            ap (told Writes) (scheduled_keeps console.console (console.dropping_read own))
+                ∙ beside_asks Reads Writes refl None own,
+            no_row (1 ∷ []) number 3 refl is,
+          )
 
   reads_set : Sets Reads console.console number x y own (by_number (console.commands x) number own)
   unfolding console.commands
   reads_set =
-      row Reads console.console number x y own 0 _ _ (λ is. inl refl)
+      row Reads console.console number x y own 0 _ _ (λ is. inl (refl, no_row (2 ∷ 3 ∷ []) number 0 refl is))
       (row Reads console.console number x y own 1 _ _
-      (λ is. sets_other Reads console.console number x y own Writes refl (record { length = x; taken = 0 }))
+      (λ is. sets_other Reads console.console number x y own Writes refl (no_row (2 ∷ 3 ∷ []) number 1 refl is)
+      (record { length = x; taken = 0 }))
       (row Reads console.console number x y own 2 _ _
-      (λ is. if_so Reads console.console number x y own (x == 0) _ _ (inl refl)
+      (λ is. if_so Reads console.console number x y own (x == 0) _ _ (inl (refl, λ among reply e. cc))
       (sets_here Reads console.console number x y own (record { length = x }) ((refl, is), refl)))
-      (row Reads console.console number x y own 3 _ _ (λ is. cancelled is (request_in console_reads own)) (inl refl))))
+      (row Reads console.console number x y own 3 _ _ (λ is. cancelled is (request_in console_reads own))
+      (inl (refl, λ among reply e. cc)))))
     where
       cancelled : number ≡ 3 → (read : Option WaitingRead)
           → Sets Reads console.console number x y own (console.cancelling read own)
-      cancelled is None = inl refl
+      cancelled is None = inl (refl, λ among reply e. cc)
       cancelled is (Some read) =
           inr (
             (Success, refl),
@@ -148,36 +171,36 @@ module _ (number x y : ℕ) (own : Own) where
   randoms_set : Sets Randoms random.random number x y own (by_number (random.commands x) number own)
   unfolding random.commands
   randoms_set =
-      row Randoms random.random number x y own 0 _ _ (λ is. inl refl)
+      row Randoms random.random number x y own 0 _ _ (λ is. inl (refl, no_row (1 ∷ []) number 0 refl is))
       (row Randoms random.random number x y own 1 _ _
       (λ is. sets_here Randoms random.random number x y own (record { count = x; written = 0 }) ((refl, is), refl))
-      (inl refl))
+      (inl (refl, λ among reply e. cc)))
 
   stores_set : (size : ℕ)
       → Sets Stores storage.storage number x y own (by_number (storage.commands size x y) number own)
   unfolding storage.commands
   stores_set size =
-      row Stores storage.storage number x y own 0 _ _ (λ is. inl refl)
-      (row Stores storage.storage number x y own 1 _ _ (λ is. inl refl)
+      row Stores storage.storage number x y own 0 _ _ (λ is. inl (refl, no_row (2 ∷ 3 ∷ []) number 0 refl is))
+      (row Stores storage.storage number x y own 1 _ _ (λ is. inl (refl, no_row (2 ∷ 3 ∷ []) number 1 refl is))
       (row Stores storage.storage number x y own 2 _ _
       (λ is. if_fits (record { kind = Read; offset = x; length = y }) (inl ((refl, is), refl)))
       (row Stores storage.storage number x y own 3 _ _
-      (λ is. if_fits (record { kind = Write; offset = x; length = y }) (inr ((refl, is), refl))) (inl refl))))
+      (λ is. if_fits (record { kind = Write; offset = x; length = y }) (inr ((refl, is), refl)))
+      (inl (refl, λ among reply e. cc)))))
     where
       if_fits : (request : StorageRequest) → IsAskedBy Stores request (storage.storage ∷ number ∷ x ∷ y ∷ [])
           → Sets Stores storage.storage number x y own (storage.requesting size request own)
       if_fits request asked =
           if_so Stores storage.storage number x y own (nat_le (request.offset + request.length) size) _ _
-          (sets_here Stores storage.storage number x y own request asked) (inl refl)
+          (sets_here Stores storage.storage number x y own request asked) (inl (refl, λ among reply e. cc))
 
 SetsAt : QueueName → Type 0
 SetsAt queue =
     (taker : CommandHandler) → handler_of (kind_in queue).driver ≡ Some taker → (around : CommandContext)
     (number x y : ℕ) (own : Own) →
     let c = taker around number x y own in
-    (asks queue (own_after c.step) ≡ asks queue own)
-    ⊎ (((reply : Reply) × (c.answer ≡ Ok reply))
-    × SetsRequest queue around.now (asks queue own) ((kind_in queue).driver ∷ number ∷ x ∷ y ∷ [])
+    LeavesOrSets (numbers_of queue) number c.answer (asks queue own) (asks queue (own_after c.step))
+    (SetsRequest queue around.now (asks queue own) ((kind_in queue).driver ∷ number ∷ x ∷ y ∷ [])
     (asks queue (own_after c.step)))
 
 sets_at : (queue : QueueName) → SetsAt queue
@@ -261,7 +284,7 @@ module _ (settings : Settings) (r : Record) where
       by_test_of false = refl
   act_left verbs.Restart apart queue = absurd (apart refl)
 
-  leaves : (event : Event) → is_turn event ≡ false → RequestsAreLeft event r (apply settings event r)
+  pub leaves : (event : Event) → is_turn event ≡ false → RequestsAreLeft event r (apply settings event r)
   unfolding apply
   leaves (Turn time) no_turn apart queue none = absurd (false≢true (sym no_turn))
   leaves (Act verb) no_turn apart queue none = act_left verb apart queue
@@ -274,14 +297,98 @@ module _ (settings : Settings) (r : Record) where
   leaves NoWord no_turn apart queue none = left queue NoWord refl none
   leaves (Stored moved) no_turn apart queue none = left queue (Stored moved) refl none
 
-pub requests_are_not_lost : CallsAreOfEcall → RequestsAreNotLost
+-- what a turn leaves of the request of a queue
+pub request_becomes : CallsAreOfEcall → (queue : QueueName) (settings : Settings) (time : ℕ) (r : Record)
+    → let t = turned settings time r in
+    Becomes (SetsRequest queue) None (surroundings settings time r).now t.told r t.after (asks queue r.own)
+    (asks queue t.after.own)
 unfolding SetsAt
+request_becomes of_ecall queue settings time r =
+    of_turns (kind_in queue).driver (told queue) (SetsRequest queue) (numbers_of queue) (blank queue) (sets_at queue)
+    settings time r of_ecall
+
+pub requests_are_not_lost : CallsAreOfEcall → RequestsAreNotLost
 requests_are_not_lost of_ecall = record {
   turns = λ w choice.
       of_turns_at (RequestsAreSet (now_in w)) w (λ r. record {
-        each = λ queue.
-            of_turns (kind_in queue).driver (told queue) (SetsRequest queue) (blank queue) (sets_at queue) w.settings
-            w.clock.time r of_ecall;
+        each = λ queue. request_becomes of_ecall queue w.settings w.clock.time r;
       }) choice;
   answers = of_each_answer RequestsAreLeft (λ settings event r. leaves settings r event);
 }
+
+-- What an accepted command asks for is determined by its arguments, and its number is one that sets the queue's request.
+is_of : (queue : QueueName) (request : RequestOf queue) (args : List ℕ) → IsAskedBy queue request args
+    → (slice_index args 0 ≡ (kind_in queue).driver)
+    × (list_any (λ n. n == slice_index args 1) (numbers_of queue) ≡ true)
+is_of Writes request args asked = (asked.0.0, ap (λ (k : ℕ). list_any (λ n. n == k) (1 ∷ [])) asked.0.1)
+is_of Reads request args asked = (asked.0.0, ap (λ (k : ℕ). list_any (λ n. n == k) (2 ∷ 3 ∷ [])) asked.0.1)
+is_of Randoms request args asked = (asked.0.0, ap (λ (k : ℕ). list_any (λ n. n == k) (1 ∷ [])) asked.0.1)
+is_of Stores request args asked = by_kind asked
+  where
+    by_kind : IsAskedBy Stores request args
+        → (slice_index args 0 ≡ storage.storage) × (list_any (λ n. n == slice_index args 1) (2 ∷ 3 ∷ []) ≡ true)
+    by_kind (inl reading) = (reading.0.0, ap (λ (k : ℕ). list_any (λ n. n == k) (2 ∷ 3 ∷ [])) reading.0.1)
+    by_kind (inr writing) = (writing.0.0, ap (λ (k : ℕ). list_any (λ n. n == k) (2 ∷ 3 ∷ [])) writing.0.1)
+
+one_asked : (queue : QueueName) (a b : RequestOf queue) (args : List ℕ) → IsAskedBy queue a args
+    → IsAskedBy queue b args → a ≡ b
+one_asked Writes a b args x y = x.1 ∙ sym y.1
+one_asked Reads a b args x y = x.1 ∙ sym y.1
+one_asked Randoms a b args x y = x.1 ∙ sym y.1
+one_asked Stores a b args x y = by_kinds x y
+  where
+    by_kinds : IsAskedBy Stores a args → IsAskedBy Stores b args → a ≡ b
+    by_kinds (inl p) (inl q) = p.1 ∙ sym q.1
+    by_kinds (inl p) (inr q) = absurd (omega (arith, p.0.1, q.0.1))
+    by_kinds (inr p) (inl q) = absurd (omega (arith, p.0.1, q.0.1))
+    by_kinds (inr p) (inr q) = p.1 ∙ sym q.1
+
+no_cancel : (args : List ℕ) → AreOf 0x1 3 args → (request : WaitingRead) → IsAskedBy Reads request args → ⊥
+no_cancel args cancels request asked = omega (arith, cancels.1, asked.0.1)
+
+set_is : (queue : QueueName) (before later : Option (RequestOf queue)) (args : List ℕ) (request : RequestOf queue)
+    → IsAskedBy queue request args → SetsRequest queue 0 before args later → later ≡ Some request
+set_is queue before later args request asked (inl new) = by_request later new.1
+  where
+    by_request : (o : Option (RequestOf queue)) → IsSomeAnd o (λ q. IsAskedBy queue q args) → o ≡ Some request
+    by_request None none = absurd none
+    by_request (Some q) is = ap Some (one_asked queue q request args is asked)
+set_is queue before later args request asked (inr gone) =
+    absurd (subst (λ (q : QueueName). (request : RequestOf q) → IsAskedBy q request args → ⊥) (sym gone.0)
+    (no_cancel args gone.1.0) request asked)
+
+gone_is : (before later : Option WaitingRead) (args : List ℕ) → AreOf 0x1 3 args
+    → SetsRequest Reads 0 before args later → later ≡ None
+gone_is before later args cancels (inl new) = by_request later new.1
+  where
+    by_request : (o : Option WaitingRead) → IsSomeAnd o (λ q. IsAskedBy Reads q args) → o ≡ None
+    by_request None none = refl
+    by_request (Some q) is = absurd (no_cancel args cancels q is)
+gone_is before later args cancels (inr gone) = gone.1.1
+
+-- So an accepted command leaves what it asks for.
+pub commands_ask : DriversPromise → CallsAreOfEcall → CommandsAsk
+unfolding SetsAt
+commands_ask promise of_ecall =
+    of_each_turn (λ r s told. IfSome told.call (CommandAsks r s)) (λ settings time r.
+    let t = turned settings time r in
+    let around = surroundings settings time r in
+    if_called t.told.call (λ call. call.class ≡ 2 → call.rule ≡ None
+    → Accepts around r.own t.after.own t.acts call) (CommandAsks r t.after) (λ call accepts.
+    let sets = λ (queue : QueueName) (takes : Accepts around r.own t.after.own t.acts call).
+    accepted_sets (kind_in queue).driver (told queue) (SetsRequest queue) (numbers_of queue) (blank queue)
+    (sets_at queue) around r.own t.after.own t.acts call takes in
+    record {
+      asks = λ lives queue request asks.
+          let takes = accepts asks.class asks.accepted in
+          let is = is_of queue request call.args asks.asks in
+          let alive : t.after.own.lives ≡ true =
+          ap (λ (o : Own). o.lives) takes.own
+          ∙ ap (λ (o : Own). o.lives) (promise.stay (slice_index call.args 0) takes.taker takes.there around
+          (slice_index call.args 1) (slice_index call.args 2) (slice_index call.args 3) r.own) ∙ lives in
+          ap₂ (λ (q : Option (RequestOf queue)) (b : Bool). cond b q None)
+          (set_is queue _ _ call.args request asks.asks (sets queue takes is.0 is.1)) alive;
+      cancels = λ class accepted cancels.
+          none_waits Reads t.after.own (gone_is _ _ call.args cancels (sets Reads (accepts class accepted) cancels.0
+          (ap (λ (k : ℕ). list_any (λ n. n == k) (2 ∷ 3 ∷ [])) cancels.1)));
+    }) (of_accepted of_ecall settings time r))

@@ -1,7 +1,6 @@
 -- Worked cases, computed from the definitions alone: for each cause for which a byte of a process may change a step in
--- which one does, so that no law of causes holds for want of a change; and for the laws what they have and what they
--- refuse. Words were put together by hand from the
--- unprivileged RISC-V manual, TRD 104 and the Tock Binary Format.
+-- which one does, so that no law of causes holds for want of a change; and for other laws what they have, and what they
+-- refuse. Words were put together by hand from the unprivileged RISC-V manual, TRD 104 and the Tock Binary Format.
 use Rattle.std.specs.Prelude.{IsSomeAnd}
 use Rattle.tk_base.specs.Regs.{with_register}
 use Rattle.tk_base.specs.declared.access.TheConstants.{FLASH_START, RAM_START}
@@ -44,6 +43,7 @@ use Rattle.kernel_model.specs.Worked.{board, standing}
 use Rattle.kernel_model.specs.World.{World, after, carried_out, labels, may_be_made, stepped, with_queue}
 use Rattle.std.proofs.Common.{◌≡◌, ◌⊎◌, inl, inr, ◌<◌, ◌≤◌, ℕ, zero, suc, ◌+◌, ◌-◌, ◌%◌, ◌^◌, List, [], ◌∷◌, None, Option, Some}
 use Rattle.std.proofs.Common.{option_map, replicate, slice_get, slice_index_or, unwrap_or, true, false, sym, ap, subst, refl, arith}
+use Rattle.std.proofs.Common.{◌∙◌}
 use Rattle.std.specs.List.{Any}
 use Rattle.std.proofs.lemmas.Bool.{true≢false}
 use Rattle.tk_base.specs.Regs.{Registers, register}
@@ -72,17 +72,17 @@ use Rattle.kernel_laws.specs.OneRun.{NothingIsLeft}
 use Rattle.kernel_laws.specs.Passes.{NoneIsReadyBefore}
 use Rattle.tk_base.specs.Bits.{with_bit}
 use Rattle.kernel_laws.specs.Asking.{GoesOnAs, IsAskedBy, IsOfCommand}
-use Rattle.kernel_laws.specs.Delivered.{RunsFunction}
+use Rattle.kernel_laws.specs.Delivered.{RunsFunction, StandsBehind}
 use Rattle.kernel_laws.specs.Queues.{ChangesByOne, JoinsOrLeaves}
 use Rattle.kernel_laws.specs.Ready.{HasDue, MayHaveTurn}
-use Rattle.kernel_laws.specs.Replies.{CallIsSeen, ChangesByRefusal, ReplyStands}
+use Rattle.kernel_laws.specs.Replies.{CallIsSeen, ChangesByRefusal, ReplyStands, TellsItsCall}
 use Rattle.tk_base.specs.declared.call.CallRule.TheVariants.{Break}
 use Rattle.upcall_queue.specs.declared.inbox.Delivery.TheVariants.{Function}
 use Rattle.process_record.specs.Process.{delivery_regs}
 use Rattle.kernel_model.specs.Calls.{failure_of, refused_with}
 use Rattle.kernel_model.specs.Turn.{turn_counted}
 use Rattle.kernel_model.proofs.Classes.{memop_in}
-use Rattle.kernel_laws.specs.Restarting.{HasStartedAgain}
+use Rattle.kernel_laws.specs.Restarting.{HasEnded, HasStartedAgain}
 use Rattle.kernel_laws.proofs.Delivered.{runs_function}
 use Rattle.kernel_laws.proofs.Registers.{words_beside}
 use Rattle.kernel_laws.proofs.Replies.{changes}
@@ -93,8 +93,14 @@ use Rattle.driver_model.specs.Alarm.{due_slot}
 use Rattle.kernel_laws.specs.OneRun.{work_with}
 use Rattle.kernel_laws.specs.Delivered.{HasArguments}
 use Rattle.kernel_laws.proofs.Delivered.{has_arguments}
-use Rattle.kernel_laws.specs.Arming.{Becomes}
-use Rattle.kernel_laws.specs.Withdrawing.{SetsRequest}
+use Rattle.kernel_laws.specs.Arming.{AreSetByCommands, Becomes, CommandSets}
+use Rattle.kernel_laws.specs.Withdrawing.{RequestsAreLeft, SetsRequest}
+use Rattle.kernel_laws.specs.Asking.{CommandAsks}
+use Rattle.kernel_model.specs.Turn.{Edge}
+use Rattle.driver_model.specs.Buttons.{enabled}
+use Rattle.driver_model.specs.Console.{console_writes}
+use Rattle.driver_model.specs.Lines.{RequestOf, kind_in}
+use Rattle.driver_model.specs.Requests.{waiting_in}
 
 -- a process whose block has the byte 9 throughout, and whose object is an `ecall` after the header of an application;
 -- with registers that make a call of a class, or none
@@ -467,7 +473,7 @@ none_arms_at_once set = by_number set.sets.1
             let delta : a.delta ≡ b.delta = ap (λ (x : Armed). x.delta) same in omega (arith, delta, zero_is, nine)
     by_number (inr (inr six)) = let n = six.0 in omega (arith, n)
 
--- Command 2 of the buttons; a kernel that leaves the process told of the button.
+-- Command 2 of the buttons; it does not set that the process is told of the button still.
 none_disables_nothing : SetsBy SetsButtons 0 1 1 (commands (3 ∷ 2 ∷ 0 ∷ 0 ∷ [])) → ⊥
 none_disables_nothing set = by_number set.sets.1
   where
@@ -534,3 +540,120 @@ none_lost : (r : Record)
 none_lost r (inl same) = cc
 none_lost r (inr (inl set)) = set
 none_lost r (inr (inr again)) = let life = again.0 in omega (arith, life)
+
+-- An alarm that is armed; a kernel that takes it away in a turn without a call.
+abbrev stopped : Record
+stopped = record armed { own = alarm.with_alarm None armed.own }
+
+none_stops_alone : AreSetByCommands 4 armed stopped untraced → ⊥
+unfolding counts_of drivers shape_of
+none_stops_alone set = by_alarm set.alarm
+  where
+    by_alarm : Becomes SetsAlarm None 4 untraced armed stopped (Some (record { reference = 0; delta = 5 })) None → ⊥
+    by_alarm (inl same) = cc
+    by_alarm (inr (inl set)) = set
+    by_alarm (inr (inr again)) = let life = again.0 in omega (arith, life)
+
+-- A read that waits, and a button that is pressed; a kernel that takes the read away then.
+abbrev reads_two : Record
+reads_two = allows (calls 0 0 0) (λ at own.
+    with_request console_reads (Some (record { length = 2 })) (handing ReadWrite console.console 1 (at, 4) own))
+
+stays_so : RequestsAreLeft (Edge 0 true) reads_two reads_two
+stays_so other queue apart = refl
+
+abbrev read_lost : Record
+read_lost = record reads_two { own = with_request console_reads None reads_two.own }
+
+none_by_an_edge : RequestsAreLeft (Edge 0 true) reads_two read_lost → ⊥
+unfolding counts_of drivers shape_of
+none_by_an_edge left = let same = left (λ e. absurd (cc)) Reads (λ e. absurd (cc)) in absurd (cc)
+
+-- A command that is accepted arms the alarm; a kernel in which command 2 of the buttons disables nothing.
+abbrev armed_at_four : Record
+armed_at_four = allows (calls 0 0 0) (λ at own.
+    alarm.with_alarm (Some (record { reference = 4; delta = 9 })) (own_entering alarm.alarm_driver own))
+
+sets_nine : CommandSets 4 (calls 0 0 0) armed_at_four (commands (0 ∷ 5 ∷ 9 ∷ 0 ∷ []))
+unfolding counts_of drivers shape_of
+sets_nine = record {
+  alarm = λ is among. (refl, inr (inl (refl, refl)));
+  buttons = λ is among. let driver = is.of_driver in absurd (omega (arith, driver));
+}
+
+none_stays_enabled : (r : Record) → enabled r.own ≡ 1 → CommandSets 0 r r (commands (3 ∷ 2 ∷ 0 ∷ 0 ∷ [])) → ⊥
+none_stays_enabled r on sets =
+    none_disables_nothing (record {
+      class = refl;
+      accepted = refl;
+      sets = subst (λ (mask : ℕ). SetsButtons 0 mask (3 ∷ 2 ∷ 0 ∷ 0 ∷ []) mask) on
+          (sets.buttons (record { class = refl; accepted = refl; of_driver = refl }) refl);
+    })
+
+-- A write of seven bytes that waits once its command was accepted; a kernel in which none does.
+abbrev writes_seven : Record
+writes_seven = allows (calls 0 0 0) (λ at own.
+    with_request console_writes (Some (record { length = 7; taken = 0 })) (own_entering console.console own))
+
+seven_wait : CommandAsks (calls 0 0 0) writes_seven (commands (1 ∷ 1 ∷ 7 ∷ 0 ∷ []))
+unfolding counts_of drivers shape_of
+seven_wait = record {
+  asks = λ lives queue request asks. by_queue queue request asks.asks;
+  cancels = λ class accepted cancels. let number = cancels.1 in absurd (omega (arith, number));
+}
+  where
+    by_queue : (queue : QueueName) (request : RequestOf queue) → IsAskedBy queue request (1 ∷ 1 ∷ 7 ∷ 0 ∷ [])
+        → waiting_in (kind_in queue) writes_seven.own ≡ Some request
+    by_queue Writes request asked = ap Some (sym asked.1)
+    by_queue Reads request asked = absurd (omega (arith, asked.0.1))
+    by_queue Randoms request asked = absurd (omega (arith, asked.0.0))
+    by_queue Stores request asked = absurd (no_storage request asked)
+      where
+        no_storage : (request : StorageRequest) → IsAskedBy Stores request (1 ∷ 1 ∷ 7 ∷ 0 ∷ []) → ⊥
+        no_storage request (inl reading) = omega (arith, reading.0.1)
+        no_storage request (inr writing) = omega (arith, writing.0.1)
+
+none_forgets : CommandAsks (calls 0 0 0) (calls 0 0 0) (commands (1 ∷ 1 ∷ 7 ∷ 0 ∷ [])) → ⊥
+none_forgets asks =
+    let waits = asks.asks refl Writes (record { length = 7; taken = 0 }) (record {
+      class = refl;
+      accepted = refl;
+      asks = ((refl, refl), refl);
+    }) in
+    cc
+
+-- A yield with 0 and nothing pending, which goes on; a kernel that changes a0 then, or has the process wait.
+stands_behind : let r = calls 0 0 0 in StandsBehind Running r.own.inbox r (turn_of r).after
+unfolding user_turn on_word executed fetched instr_of decoding instruction_table denied ram_after
+    call_of class_table served by_form yielding turned header_reading meaning_of tlv_places_from
+stands_behind = record { registers = refl; state = refl; scheduled = refl }
+
+none_with_another : (s : Record) → register s.process.regs 10 ≡ 7
+    → StandsBehind Running (calls 0 0 0).own.inbox (calls 0 0 0) s → ⊥
+none_with_another s seven stands =
+    let first = ap (λ (regs : Registers). register regs 10) stands.registers in
+    omega (arith, first, seven)
+
+none_waits_on : (s : Record) → s.process.state ≡ Yielded
+    → StandsBehind Running (calls 0 0 0).own.inbox (calls 0 0 0) s → ⊥
+none_waits_on s yielded stands = let running = stands.state in cc
+
+-- An exit with 0 and the code 7; a kernel in which the process lives on.
+ends_with_seven : HasEnded 7 (turn_of (calls 6 0 7)).after
+unfolding user_turn on_word executed fetched instr_of decoding instruction_table denied ram_after
+    call_of class_table served by_form exit turned header_reading meaning_of tlv_places_from
+ends_with_seven = record { state = refl; lives = refl; held = refl; pending = refl }
+
+none_lives_on : (s : Record) → s.own.lives ≡ true → HasEnded 7 s → ⊥
+none_lives_on s lives ended = let dead = ended.lives in true≢false (sym lives ∙ dead)
+
+-- The `ecall` of a process is told; a kernel that swallows it.
+told_so : let r = asks 2 0 in TellsItsCall r (turn_of r).told
+unfolding user_turn on_word executed fetched instr_of decoding instruction_table denied ram_after
+    call_of class_table header_reading served by_form memop memops turned
+told_so free running ecall known = refl
+
+none_swallows : TellsItsCall (asks 2 0) untraced → ⊥
+unfolding fetched instr_of decoding instruction_table denied
+none_swallows tells =
+    true≢false (sym (tells refl refl (record { word = 0x73; fetch = refl; means = refl }) (omega arith)))

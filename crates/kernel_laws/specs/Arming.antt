@@ -1,6 +1,8 @@
 -- That the alarm of a process, and the buttons of which it is told, are what its commands said (TRD 104, "Command";
 -- Tock's drivers 0x0 and 0x3).
-use Rattle.std.specs.Prelude.{◌≡◌, ◌⊎◌, ℕ, ◌+◌, true, false, All, List, slice_index, Option, None, Some, IsSomeAnd}
+use Rattle.std.specs.Prelude.{◌≡◌, ◌⊎◌, ℕ, ◌+◌, ◌==◌, Bool, true, false, All, List, [], ◌∷◌, slice_index, Option, None}
+use Rattle.std.specs.Prelude.{Some, IfSome, IsSomeAnd}
+use Rattle.std.specs.List.{list_any}
 use Rattle.tk_base.specs.Bits.{with_bit}
 use Rattle.tk_base.specs.declared.process.Choice.{Choice}
 use Rattle.grant_values.specs.declared.alarm.Armed.{Armed}
@@ -54,3 +56,27 @@ pub record AreSetByCommands (now : ℕ) (r s : Record) (told : TurnTrace) : Type
 abbrev pub AlarmsAndButtonsAreSetByCommands : Type 0
 AlarmsAndButtonsAreSetByCommands =
     (w : World) (choice : Choice) → All (OfTurnIn (AreSetByCommands (now_in w)) w (after w choice)) (labels w choice)
+
+-- an accepted command to a driver
+pub record IsAccepted (driver : ℕ) (call : CallMade) : Type 0 where
+  pub class : call.class ≡ 2
+  pub accepted : call.rule ≡ None
+  pub of_driver : slice_index call.args 0 ≡ driver
+
+-- whether the number of a command is one of some
+abbrev pub is_among : List ℕ → CallMade → Bool
+is_among numbers call = list_any (λ n. n == slice_index call.args 1) numbers
+
+-- An accepted command sets what its arguments say, whatever was set before: of the alarm 3, 5 and 6 do, and of the
+-- buttons 1 and 2.
+pub record CommandSets (now : ℕ) (r s : Record) (call : CallMade) : Type 0 where
+  pub alarm : IsAccepted 0x0 call → is_among (3 ∷ 5 ∷ 6 ∷ []) call ≡ true
+      → SetsAlarm now (alarm_in r.own) call.args (alarm_in s.own)
+  pub buttons : IsAccepted 0x3 call → is_among (1 ∷ 2 ∷ []) call ≡ true
+      → SetsButtons now (enabled r.own) call.args (enabled s.own)
+
+-- so it is with each that a turn tells, in every step of every world
+abbrev pub AlarmsAndButtonsFollowCommands : Type 0
+AlarmsAndButtonsFollowCommands =
+    (w : World) (choice : Choice) →
+    All (OfTurnIn (λ r s told. IfSome told.call (CommandSets (now_in w) r s)) w (after w choice)) (labels w choice)

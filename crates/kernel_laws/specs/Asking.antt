@@ -1,8 +1,9 @@
 -- That a request of a process asks for what its command said (TRD 104, "Command"; Tock's drivers 0x1 and 0x40001, and
 -- 0x50001 in its list).
-use Rattle.std.specs.Prelude.{◌≡◌, ◌⊎◌, ℕ, List, slice_index, Option, None, Some, IfSome, IsSomeAnd}
+use Rattle.std.specs.Prelude.{◌≡◌, ◌⊎◌, ℕ, true, List, slice_index, Option, None, Some, IfSome, IsSomeAnd}
 use Rattle.grant_values.specs.declared.storage.StorageKind.TheVariants.{Read, Write}
 use Rattle.driver_model.specs.Commands.{QueueName, Writes, Reads, Randoms, Stores}
+use Rattle.driver_model.specs.Console.{console_reads}
 use Rattle.driver_model.specs.Lines.{RequestOf, kind_in}
 use Rattle.driver_model.specs.Requests.{waiting_in}
 use Rattle.process_record.specs.declared.emit.CallMade.{CallMade}
@@ -42,7 +43,7 @@ abbrev pub IsOfCommand : (queue : QueueName) → Option (RequestOf queue) → Op
 IsOfCommand queue before call request =
     (before ≡ Some request) ⊎ ((before ≡ None) × IsSomeAnd call (AsksFor queue request))
 
--- so it is of each queue of the board
+-- so it is with the request of each queue that waits after a turn
 pub record RequestsAreOfCommands (r s : Record) (told : TurnTrace) : Type 0 where
   pub each : (queue : QueueName) →
       IfSome (waiting_in (kind_in queue) s.own) (IsOfCommand queue (waiting_in (kind_in queue) r.own) told.call)
@@ -64,3 +65,14 @@ pub record RequestsGoOn (r s : Record) : Type 0 where
 pub record RequestsAreAsAsked : Type 0 where
   pub turns : OfEachTurn RequestsAreOfCommands
   pub answers : OfEachAnswer (λ event. RequestsGoOn)
+
+-- After a turn of a process that lives what its accepted command asks for waits; and after command 3 of the console no
+-- read does.
+pub record CommandAsks (r s : Record) (call : CallMade) : Type 0 where
+  pub asks : r.own.lives ≡ true → (queue : QueueName) (request : RequestOf queue) →
+      AsksFor queue request call → waiting_in (kind_in queue) s.own ≡ Some request
+  pub cancels : call.class ≡ 2 → call.rule ≡ None → AreOf 0x1 3 call.args → waiting_in console_reads s.own ≡ None
+
+-- so it is with each that a turn tells, in every step of every world
+abbrev pub CommandsAsk : Type 0
+CommandsAsk = OfEachTurn (λ r s told. IfSome told.call (CommandAsks r s))

@@ -1,18 +1,20 @@
-//! Laws of steps: what a turn keeps, what a refused call leaves, which words are drawn, who has
-//! turns and who is served; and of tables.
+//! Laws of steps: what a turn keeps, what a call and a delivery leave in registers, which commands
+//! set requests, alarms and buttons, which words are drawn, who has turns and who is served; and of
+//! tables.
 ghost use Rattle.kernel_model.specs.Laws.{DropsAtMostOne, GrantsChangeAtCalls, TurnsActAtCalls};
 ghost use Rattle.kernel_model.specs.Laws.{TurnsKeepLines};
 ghost use Rattle.kernel_model.specs.Refused.{RefusalsChangeLittle};
 ghost use Rattle.kernel_laws.specs.Arming.{AlarmsAndButtonsAreSetByCommands};
-ghost use Rattle.kernel_laws.specs.Asking.{RequestsAreAsAsked};
+ghost use Rattle.kernel_laws.specs.Arming.{AlarmsAndButtonsFollowCommands};
+ghost use Rattle.kernel_laws.specs.Asking.{CommandsAsk, RequestsAreAsAsked};
 ghost use Rattle.kernel_laws.specs.Clock.{TimeComesInByTheAlarm};
 ghost use Rattle.kernel_laws.specs.Delivered.{DeliveriesAreSeen};
 ghost use Rattle.kernel_laws.specs.Inputs.{InputIsKept};
 ghost use Rattle.kernel_laws.specs.Queues.{FirstAreServed, QueuesKeepOrder};
 ghost use Rattle.kernel_laws.specs.Ready.{TurnsAreOfReadyProcesses, TurnsAreOfThose};
 ghost use Rattle.kernel_laws.specs.Ready.{UnreadyTurnsDoNothing};
-ghost use Rattle.kernel_laws.specs.Replies.{RefusalsAreSeen, RepliesStand};
-ghost use Rattle.kernel_laws.specs.Restarting.{RestartsAreMade};
+ghost use Rattle.kernel_laws.specs.Replies.{EcallsAreTold, RefusalsAreSeen, RepliesStand};
+ghost use Rattle.kernel_laws.specs.Restarting.{ExitsEnd, RestartsAreMade};
 ghost use Rattle.kernel_laws.specs.Tables.{EachRowFitsAWord, SameDrivers};
 ghost use Rattle.kernel_laws.specs.Withdrawing.{RequestsAreNotLost};
 ghost use Rattle.kernel_laws.specs.Words.{WordsAreDrawnInOrder};
@@ -97,9 +99,8 @@ pub fn only_ready_processes_have_turns()
 {}
 
 /// The board's queues are first come, first served: in every step, whoever makes the choices, a
-/// queue stays as it was, or the one slot that the step names joins it as its last one or leaves
-/// it, so that all others stand as they stood; and a device answers the first of those that may be
-/// served.
+/// queue stays as it was, or a slot that the step names joins it as its last one or leaves it, so
+/// that all others stand as they stood; and a device answers the first of those that may be served.
 pub fn queues_are_first_come_first_served()
     ensures order { QueuesKeepOrder }
     ensures first { FirstAreServed }
@@ -109,13 +110,15 @@ pub fn queues_are_first_come_first_served()
 }
 
 /// What a process gets of a call stands where it looks for it, in every step, whoever makes the
-/// choices: the call that a turn tells is that of the process's a4 and a0 to a3; its reply stands
-/// in a0 to a3 then, pc stands behind the `ecall`, and each other register is as it was (TRD 104,
-/// "System Call API", "Return Values"). A refused call changes nothing but a0 and a1, which have
-/// the failure and its error, pc, the count of turns and the recorded refusal; all else of the
-/// process, of each other one and of the devices is as it was.
+/// choices: the call that a turn tells is that of the process's a4 and a0 to a3; its reply of four
+/// words stands in a0 to a3 then, pc stands behind the `ecall`, and each other register is as it was
+/// (TRD 104, "System Call API", "Return Values"); and each `ecall` of a class that there is is told.
+/// A refused call of a process with 32 registers changes nothing but a0 and a1, which have the
+/// failure and its error, pc, the count of turns and the recorded refusal; all else of the process,
+/// of each other one and of the devices is as it was.
 pub fn replies_stand_in_registers()
     ensures replies { RepliesStand }
+    ensures told { EcallsAreTold }
     ensures refused { RefusalsAreSeen }
 {
     refusals_change_little();
@@ -126,8 +129,10 @@ pub fn replies_stand_in_registers()
 /// choices: where the function of an upcall runs, a0 to a2 have its arguments, a3 the application
 /// data, ra the address to go back to, and pc is the function; where a process goes on with
 /// arguments alone, a0 to a2 have them. Each other register is as it was. It is the first upcall
-/// that waits, or the first of the driver and number for which the process asks (TRD 104,
-/// "Subscribe", "Yield").
+/// that waits, or the first of the driver and number for which the process asks, and the others
+/// wait still. Of registers it is said where these are 32, and the arguments three. A yield that
+/// delivers nothing changes pc alone, which stands behind the `ecall`; the process goes on, or waits
+/// (TRD 104, "Subscribe", "Yield").
 pub fn deliveries_stand_in_registers()
     ensures { DeliveriesAreSeen }
 {
@@ -137,9 +142,11 @@ pub fn deliveries_stand_in_registers()
 /// What a request of a process asks for is what its command said, in every step, whoever makes the
 /// choices: one that waits after a turn waited before it, and is the same, or the turn tells the
 /// accepted command of which it has the arguments; and while it waits no more of it changes than how
-/// much of it was done (TRD 104, "Command").
+/// much of it was done. And what an accepted command asks for waits after its turn, of a process
+/// that lives; and after one that cancels a read none does (TRD 104, "Command").
 pub fn requests_are_as_asked()
-    ensures { RequestsAreAsAsked }
+    ensures asked { RequestsAreAsAsked }
+    ensures begin { CommandsAsk }
 {
     drivers_promise();
     drivers_keep_places_and_order();
@@ -148,19 +155,23 @@ pub fn requests_are_as_asked()
 
 /// The alarm of a process, and the buttons of which it is told, are what its commands said: where a
 /// turn leaves another alarm, or other buttons, than before, it tells the accepted command of which
-/// they have the arguments, or the next life of the process begins, which has none (TRD 104,
-/// "Command"; Tock's drivers 0x0 and 0x3).
+/// they have the arguments, or the next life of the process begins, which has none; and where it
+/// tells an accepted command that sets one, they are as its arguments say, whatever was before (TRD
+/// 104, "Command"; Tock's drivers 0x0 and 0x3).
 pub fn alarms_and_buttons_are_set_by_commands()
-    ensures { AlarmsAndButtonsAreSetByCommands }
+    ensures set { AlarmsAndButtonsAreSetByCommands }
+    ensures follow { AlarmsAndButtonsFollowCommands }
 {
     denials_are_due();
 }
 
 /// A process starts again where it asks for that, or an operator does, in every step, whoever makes
 /// the choices: an accepted exit with 1, and an act that has it start again, make its restarts one
-/// more, and it runs in its next life, if its object is that of an application (TRD 104, "Exit").
+/// more, and it runs in its next life, if its object is that of an application. And an accepted exit
+/// with 0 ends it with the completion code that it gives (TRD 104, "Exit").
 pub fn restarts_are_made()
-    ensures { RestartsAreMade }
+    ensures made { RestartsAreMade }
+    ensures ends { ExitsEnd }
 {
     denials_are_due();
 }

@@ -1,5 +1,8 @@
-use Rattle.kernel_laws.proofs.Arming.{alarms_and_buttons}
+use Rattle.kernel_laws.proofs.Arming.{alarms_and_buttons, follow_commands}
 use Rattle.kernel_laws.proofs.steps.alarms_and_buttons_are_set_by_commands.Goals as goal
 
-pub returns : goal.returns
-returns c = alarms_and_buttons c.denials_are_due.ensures.calls
+pub returns-clause-set : goal.returns-clause-set
+returns-clause-set c = alarms_and_buttons c.denials_are_due.ensures.calls
+
+pub returns-clause-follow : goal.returns-clause-follow
+returns-clause-follow c = follow_commands c.denials_are_due.ensures.calls
