@@ -28,7 +28,8 @@ use Rattle.kernel_laws.specs.OneRun.{NothingIsLeft}
 use Rattle.kernel_laws.specs.Words.{of_lane, words_told}
 use Rattle.kernel_histories.specs.Drops.{drops_of}
 use Rattle.kernel_lives.specs.Lists.{ListsAreOfRequests, once_if}
-use Rattle.kernel_lives.specs.Requests.{asks_in, begins_in, requests_begun, requests_completed, tells_asking}
+use Rattle.kernel_lives.specs.Requests.{AddUp, asks_in, begins_in, requests_begun, requests_completed, requests_withdrawn}
+use Rattle.kernel_lives.specs.Requests.{tells_asking}
 use Rattle.kernel_lives.specs.StoredBytes.{GaveStorage, all_written, writes_in}
 use Rattle.kernel_lives.specs.Counts.{ticks_passed, turns_made, turns_of_all}
 use Rattle.kernel_lives.specs.Writes.{StillWaits, WritesTruly, write_in}
@@ -147,14 +148,14 @@ ReadsFromBootGiveStorage =
     slice_get v.records slot ≡ Some r → slice_get (after v choice).records slot ≡ Some s →
     history slot v (choice ∷ []) ≡ Stored true ∷ [] → GaveStorage r s
 
--- after any choices from a boot the answers that completed a request of a process in a queue, and the one that waits
--- still, are no more than its requests that began to wait there
-abbrev pub RequestsFromBootCompleteOnce : Type 0
-RequestsFromBootCompleteOnce =
+-- after any choices from a boot the requests of a process in a queue that began to wait are exactly those that an answer
+-- completed, the one that waits still, and those that were withdrawn
+abbrev pub RequestsFromBootAddUp : Type 0
+RequestsFromBootAddUp =
     (script : Script) (flash : List ℕ) (choices : List Choice) (queue : QueueName) (slot : ℕ) →
     let w = opening script flash in
-    requests_completed queue slot w choices + once_if (asks_in queue slot (after_all w choices))
-    ≤ requests_begun queue slot w choices
+    AddUp (requests_begun queue slot w choices) 0 (requests_completed queue slot w choices)
+    (once_if (asks_in queue slot (after_all w choices))) (requests_withdrawn queue slot w choices)
 
 -- after any choices from a boot a request of a process begins to wait by an accepted command to its driver alone
 abbrev pub RequestsFromBootBeginByCommands : Type 0

@@ -13,7 +13,7 @@ ghost use Rattle.board_opening.specs.Certified.{InputFromBootIsKept};
 ghost use Rattle.board_opening.specs.Certified.{IsDoneFromBoot, ListsFromBootAreOfRequests};
 ghost use Rattle.board_opening.specs.Certified.{ReadsFromBootGiveStorage};
 ghost use Rattle.board_opening.specs.Certified.{RequestsFromBootBeginByCommands};
-ghost use Rattle.board_opening.specs.Certified.{RequestsFromBootCompleteOnce, RestartsFromBoot};
+ghost use Rattle.board_opening.specs.Certified.{RequestsFromBootAddUp, RestartsFromBoot};
 ghost use Rattle.board_opening.specs.Certified.{RunsFromBootAreAccountedFor};
 ghost use Rattle.board_opening.specs.Certified.{StorageFromBootIsMemory};
 ghost use Rattle.board_opening.specs.Certified.{WordsFromBootAreTheScripts};
@@ -73,8 +73,8 @@ pub fn drops_from_boot_add_up()
 }
 
 /// After any choices from a boot the round robin is done exactly where no process and no device is
-/// ready, nothing is still to come in, no process that lives has an alarm armed, and no write
-/// waits.
+/// ready, nothing is still to come in, no process that lives has an alarm armed, and no request
+/// waits but a read to which nothing came in.
 pub fn runs_from_boot_are_done_where_nothing_is_left()
     ensures { IsDoneFromBoot }
 {
@@ -112,7 +112,7 @@ pub fn input_from_boot_is_kept()
 /// first bytes of the buffer that its process has allowed, in order, as long as that stays as it
 /// is; and where it completes, its upcall's first argument is how many bytes were printed of it,
 /// which are no more than it asked for, and at least the lesser of that and of what the buffer has
-/// that is held then (TRD 104, "Read-Only Allow").
+/// that is held then, and the step that tells it prints nothing of it (TRD 104, "Read-Only Allow").
 pub fn writes_from_boot_complete_truly()
     ensures { WritesFromBootCompleteTruly }
 {
@@ -197,11 +197,12 @@ pub fn alarms_from_boot_are_exact()
     places_never_change();
 }
 
-/// Whatever choices are made after a boot, the answers that completed a request of a process in a
-/// queue, and the one that waits still, are no more than its requests that began to wait there. And
-/// one begins to wait by an accepted command to its driver alone (TRD 104, "Command").
+/// Whatever choices are made after a boot, the requests of a process in a queue that began to wait
+/// are exactly those that an answer completed, the one that waits still, and those that were
+/// withdrawn. And one begins to wait by an accepted command to its driver alone (TRD 104,
+/// "Command").
 pub fn requests_from_boot_complete_once()
-    ensures once { RequestsFromBootCompleteOnce }
+    ensures whole { RequestsFromBootAddUp }
     ensures begin { RequestsFromBootBeginByCommands }
 {
     requests_complete_once();

@@ -30,7 +30,7 @@ use Rattle.process_model.specs.Served.{fitting, kept, with_written}
 use Rattle.driver_model.specs.Alarm as alarm
 use Rattle.driver_model.specs.Commands.{QueueName, Writes, Reads, Randoms, Stores}
 use Rattle.driver_model.specs.Console as console
-use Rattle.driver_model.specs.Lines.{RequestOf, kind_in}
+use Rattle.driver_model.specs.Lines.{kind_in}
 use Rattle.driver_model.specs.Random as random
 use Rattle.driver_model.specs.Requests.{unanswered, with_request}
 use Rattle.driver_model.specs.Steps.{own_after, silently}
@@ -48,20 +48,18 @@ use Rattle.kernel_model.specs.World.{receive_step, storing, telling_edge, transm
 use Rattle.kernel_model.proofs.Places.{of_stepped, set_own}
 use Rattle.kernel_model.proofs.Told.{edge_answer, of_device, told_labels, with_rest}
 use Rattle.kernel_laws.specs.Between.{OfAnswerIn}
-use Rattle.kernel_laws.proofs.Asking.{asks, none_put, put_asks, told, waits, waits_kept}
+use Rattle.kernel_laws.proofs.Asking.{asks, none_put, none_waits, put_asks, told, waits, waits_kept}
 use Rattle.kernel_laws.proofs.Values.{kept_put}
 use Rattle.kernel_lives.specs.Given.{AlarmIsGiven, AnswersAreGiven, InputIsGiven, IsGiven, NoWordIsGiven, StorageIsDone}
 use Rattle.kernel_lives.specs.Given.{WordIsGiven, WriteIsDone, due_to}
 use Rattle.kernel_lives.proofs.OwnBuffers.{read_write_lies}
-
--- bytes that are put into a buffer from a place on stand there
-over_read : (ram bytes : List ℕ) (from k : ℕ) → k < length bytes → from + length bytes ≤ length ram
-    → slice_index (over ram from bytes) (from + k) ≡ slice_index bytes k
-over_read ram bytes from k less fits = grind (arith, places)
+use Rattle.kernel_lives.proofs.Shown.{clock_shown}
+use Rattle.kernel_lives.proofs.StoredBytes.{over_read}
 
 take_read : (xs : List ℕ) (n k : ℕ) → k < n → k < length xs → slice_index (take n xs) k ≡ slice_index xs k
 take_read xs n k less within = grind (arith, places)
 
+-- bytes that are put into a buffer from a place on stand there
 put_read : (ram bytes : List ℕ) (buffer : ℕ × ℕ) (start place k : ℕ) → start ≤ buffer.0
     → buffer.0 + buffer.1 ≤ start + length ram → place + length bytes ≤ buffer.1 → k < length bytes
     → slice_index (over ram (buffer.0 - start + place) (fitting buffer place bytes)) (buffer.0 + place + k - start)
@@ -73,15 +71,6 @@ put_read ram bytes buffer start place k above below few less =
     (take_all (buffer.1 - place) bytes (omega (arith, few)))
     ∙ ap (slice_index (over ram from bytes)) at
     ∙ over_read ram bytes from k less (omega (arith, few, above, below))
-
--- where nothing is asked for nothing waits
-none_waits : (queue : QueueName) (own : Own) → asks queue own ≡ None → waits queue own ≡ None
-none_waits queue own none =
-    ap (λ (q : Option (RequestOf queue)). cond own.lives q None) none ∙ by_life own.lives
-  where
-    by_life : (b : Bool) → ◌≡◌ {A = Option (RequestOf queue)} (cond b None None) None
-    by_life true = refl
-    by_life false = refl
 
 pub put_none : (queue : QueueName) (own : Own) → waits queue (with_request (kind_in queue) None own) ≡ None
 put_none queue own =
@@ -170,6 +159,7 @@ module _ (settings : Settings) (r : Record) where
           (silently r.own))))
       by_due None = tt
       by_due (Some armed) = record {
+        shows = clock_shown now r _ (λ at. refl);
         tells = refl;
         done = ap alarm.armed_in (kept_put alarm.alarm_driver (AlarmValue None) (alarm.showing now r.own))
             ∙ none_kept (kept alarm.alarm_driver (alarm.showing now r.own));

@@ -13,9 +13,11 @@ mod OwnBuffers
 mod Requests
 mod Queues
 mod Begun
+mod Withdrawn
 mod StoredBytes
 mod Within
 mod Writing
 mod Writes
+mod Shown
 mod Given
 mod Worked

@@ -1,11 +1,12 @@
 -- Where the buffers of a process lie whose own is whole.
-use Rattle.std.proofs.Common.{◌≡◌, ◌⊎◌, inl, inr, ◌≤◌, ℕ, ◌+◌, ◌==◌, ◌||◌, Bool, true, false, refl, arith, eqb-true}
-use Rattle.std.proofs.Common.{length}
+use Rattle.std.proofs.Common.{◌≡◌, ◌⊎◌, inl, inr, ◌≤◌, ℕ, ◌+◌, ◌==◌, ◌||◌, Bool, true, false, refl, sym}
+use Rattle.std.proofs.Common.{ap, ◌∙◌, arith, eqb-true, length}
 use Rattle.std.specs.Prelude.{IsTrue}
+use Rattle.std.proofs.lemmas.Bool.{false≢true}
 use Rattle.std.proofs.lemmas.Bool.Decides.{nat_tests}
 use Rattle.tk_base.specs.declared.kinds.PairKind.{PairKind}
 use Rattle.tk_base.specs.declared.kinds.PairKind.TheVariants.{Upcall, ReadOnly, ReadWrite, Readable}
-use Rattle.tk_base.specs.Kinds.{is_buffer}
+use Rattle.tk_base.specs.Kinds.{is_buffer, is_writable}
 use Rattle.process_layout.specs.Interval.{lies_within}
 use Rattle.process_layout.specs.Bounds.{Bounds}
 use Rattle.process_model.specs.Changes.{IsInside}
@@ -84,14 +85,21 @@ pub record LiesInOwn (own : Own) (pair : ℕ × ℕ) : Type 0 where
   pub low : own.layout.start ≤ pair.0
   pub fits : pair.0 + pair.1 ≤ own.layout.start + length own.ram
 
-pub read_write_lies : (r : Record) → HasWholeOwn r → (driver number : ℕ) → 1 ≤ (held ReadWrite driver number r.own).1
-    → LiesInOwn r.own (held ReadWrite driver number r.own)
-read_write_lies r whole driver number some = by_place (lies r whole ReadWrite driver number refl some)
+pub writable_lies : (kind : PairKind) → is_writable kind ≡ true → (r : Record) → HasWholeOwn r → (driver number : ℕ)
+    → 1 ≤ (held kind driver number r.own).1 → LiesInOwn r.own (held kind driver number r.own)
+writable_lies kind is r whole driver number some =
+    by_place (lies r whole kind driver number (is_buffer_too kind is) some)
   where
     pair : ℕ × ℕ
-    pair = held ReadWrite driver number r.own
+    pair = held kind driver number r.own
 
-    by_place : LiesIn ReadWrite (record r.own.layout { brk = r.own.layout.mark }) pair → LiesInOwn r.own pair
+    is_buffer_too : (kind : PairKind) → is_writable kind ≡ true → is_buffer kind ≡ true
+    is_buffer_too Upcall is = absurd (cc)
+    is_buffer_too ReadOnly is = absurd (cc)
+    is_buffer_too ReadWrite is = refl
+    is_buffer_too Readable is = refl
+
+    by_place : LiesIn kind (record r.own.layout { brk = r.own.layout.mark }) pair → LiesInOwn r.own pair
     by_place (inl ram) =
         let within = in_interval r.own.layout.start r.own.layout.mark pair.0 pair.1 ram in
         let order = whole.0.places in
@@ -99,4 +107,11 @@ read_write_lies r whole driver number some = by_place (lies r whole ReadWrite dr
           low = within.0;
           fits = omega (arith, within.1, order.mark, order.brk, order.grants, whole.1.bytes);
         }
-    by_place (inr flash) = absurd (cc)
+    by_place (inr flash) = absurd (read_only kind is flash.0)
+      where
+        read_only : (kind : PairKind) → is_writable kind ≡ true → kind ≡ ReadOnly → ⊥
+        read_only kind is same = false≢true (sym (ap is_writable same) ∙ is)
+
+pub read_write_lies : (r : Record) → HasWholeOwn r → (driver number : ℕ) → 1 ≤ (held ReadWrite driver number r.own).1
+    → LiesInOwn r.own (held ReadWrite driver number r.own)
+read_write_lies = writable_lies ReadWrite refl

@@ -25,7 +25,7 @@ use Rattle.kernel_laws.specs.Queues.{FirstAreServed, IsOfFirst, queue_for}
 use Rattle.kernel_lives.proofs.Lists.{act_keeps}
 use Rattle.kernel_lives.proofs.Lives.{over_turn, same_some}
 use Rattle.kernel_lives.specs.Lists.{ListsAreOfRequests, ListsStay, once_if, times_in}
-use Rattle.kernel_lives.specs.Requests.{HasRequestsOfItsLife, RequestsAddUp, RequestsCompleteOnce}
+use Rattle.kernel_lives.specs.Requests.{HasRequestsOfItsLife, RequestsAddUp}
 use Rattle.kernel_lives.specs.Requests.{RequestsEndWithTheirLife}
 use Rattle.kernel_lives.specs.Requests.{answers_for, asks_in}
 
@@ -115,27 +115,6 @@ module _ (w : World) (h : ListsAreOfRequests w) (queue : QueueName) (slot : ℕ)
       by_label false e is later = later is
 
 -- one step: by whether an answer was told, and whether a request waited before it and waits after it
-one_step : (told before later : Bool) → (told ≡ true → before ≡ true)
-    → once_if (told && not later) + once_if later ≤ once_if (not before && later) + once_if before
-one_step true true true h = omega arith
-one_step true true false h = omega arith
-one_step true false later h = absurd (false≢true (h refl))
-one_step false true true h = omega arith
-one_step false true false h = omega arith
-one_step false false true h = omega arith
-one_step false false false h = omega arith
-
-pub requests_complete_once : FirstAreServed → ListsStay → RequestsCompleteOnce
-requests_complete_once serve stay w [] queue slot h = omega arith
-requests_complete_once serve stay w (choice ∷ choices) queue slot h =
-    let v = after w choice in
-    let later = requests_complete_once serve stay v choices queue slot (stay w (choice ∷ []) h) in
-    let here =
-    one_step (list_any (answers_for queue slot) (labels w choice)) (asks_in queue slot w) (asks_in queue slot v)
-    (told_asks w h queue slot (labels w choice) (serve w choice)) in
-    omega (arith, later, here)
-
--- and exactly, with what is withdrawn
 step_adds : (told before later : Bool) → (told ≡ true → before ≡ true)
     → once_if (not before && later) + once_if before
     ≡ once_if (told && not later) + once_if later + once_if (before && (not later && not told))

@@ -260,7 +260,7 @@ storage_is_memory w choices slot first is =
     (history_writes w.settings (history slot w choices) first)
 
 -- bytes that are written over others are read there, and so are bytes of an interval
-over_read : (ram copied : List ℕ) (from k : ℕ) → k < length copied → from + length copied ≤ length ram
+pub over_read : (ram copied : List ℕ) (from k : ℕ) → k < length copied → from + length copied ≤ length ram
     → slice_index (over ram from copied) (from + k) ≡ slice_index copied k
 over_read ram copied from k less fits = grind (arith, places)
 

@@ -13,7 +13,6 @@ use Rattle.process_model.specs.Handed.{handing}
 use Rattle.process_record.specs.Parts.{cleared}
 use Rattle.driver_model.specs.Commands.{QueueName}
 use Rattle.driver_model.specs.Console as console
-use Rattle.driver_model.specs.Console.{console_reads}
 use Rattle.kernel_model.specs.Record.{Record, record_with_step}
 use Rattle.kernel_model.specs.Worked.{standing, worked_settings}
 use Rattle.kernel_model.specs.World.{World}
@@ -32,6 +31,22 @@ use Rattle.driver_model.specs.Random as random
 use Rattle.driver_model.specs.Random.{randoms}
 use Rattle.kernel_lives.specs.Given.{NoWordIsGiven, StorageIsDone, WordIsGiven, WriteIsDone}
 use Rattle.kernel_lives.proofs.Given.{put_none, word_given}
+use Rattle.std.proofs.Common.{◌+◌, length, slice_index, subst, take}
+use Rattle.std.specs.Int.{w32, to_le_bytes}
+use Rattle.std.proofs.lemmas.Bool.{false≢true}
+use Rattle.tk_base.specs.declared.kinds.PairKind.TheVariants.{Readable}
+use Rattle.process_model.specs.Changes.{IsOwnAddress, own_byte}
+use Rattle.process_model.specs.Flag.{with_flag}
+use Rattle.process_record.specs.declared.emit.CallMade.{CallMade}
+use Rattle.driver_model.specs.Alarm as alarm
+use Rattle.driver_model.specs.Bytes.{clock_buffer}
+use Rattle.driver_model.specs.Commands.{Randoms, Reads}
+use Rattle.kernel_model.specs.Turn.{Edge, Turn, untraced}
+use Rattle.kernel_model.specs.Wholes.{HasWholeOwn}
+use Rattle.kernel_model.specs.World.{Label}
+use Rattle.kernel_lives.specs.Given.{ClockIsShown, FlagTells, HasFlag}
+use Rattle.kernel_lives.specs.Requests.{AddUp, IsWithdrawnBy}
+use Rattle.kernel_lives.proofs.Shown.{clock_shown}
 
 -- a process that holds a buffer of four bytes for what comes in, and a function for the alarm, at the start of its block
 abbrev holds : Record
@@ -60,7 +75,11 @@ told_with args = record holds {
 
 tells_so : AlarmIsGiven 7 (record { reference = 0; delta = 5 }) holds (told_with (7 ∷ 5 ∷ 0 ∷ []))
 unfolding counts_of drivers shape_of
-tells_so = record { tells = refl; done = refl }
+tells_so = record {
+  shows = record { stand = λ whole k less. absurd (omega (arith, less)); others = λ whole at inside out. refl };
+  tells = refl;
+  done = refl;
+}
 
 none_tells_otherwise :
     AlarmIsGiven 7 (record { reference = 0; delta = 5 }) holds (told_with (5 ∷ 7 ∷ 0 ∷ [])) → ⊥
@@ -170,3 +189,80 @@ tells_fault : StorageIsDone false (record { kind = Read; offset = 0; length = 2 
     (told_by 0x50001 0 (0 ∷ 1 ∷ 0 ∷ []))
 unfolding counts_of drivers shape_of
 tells_fault = record { tells = refl; done = refl }
+
+-- no word is left, and it is told so
+tells_none_left : NoWordIsGiven (record { count = 4; written = 0 }) asks_four
+    (record_with_step asks_four (random.advanced (random.progress None (record { count = 4; written = 0 }) asks_four.own)).step)
+unfolding counts_of drivers shape_of
+tells_none_left = record { tells = (1, inr (refl, omega arith), refl); done = put_none Randoms asks_four.own }
+
+-- The clock, in a buffer of four bytes; a kernel that shows its bytes in the other order, or writes a fifth one.
+abbrev holds_clock : Record
+holds_clock = record holds { own = handing Readable 0x0 0 (RAM_START, 4) holds.own }
+
+shows_clock : ClockIsShown 5 holds_clock (record holds_clock { own = alarm.showing 5 holds_clock.own })
+shows_clock = clock_shown 5 holds_clock (record holds_clock { own = alarm.showing 5 holds_clock.own }) (λ at. refl)
+
+none_in_reverse : (r s : Record) → HasWholeOwn r → (clock_buffer r.own).1 ≡ 4
+    → own_byte s.own ((clock_buffer r.own).0 + 0 + 0) ≡ 4 → ClockIsShown 0x04030201 r s → ⊥
+none_in_reverse r s whole four last shown =
+    let less = subst (λ (n : ℕ). 0 < length (take n (to_le_bytes w32 0x04030201))) (sym four) (omega arith) in
+    let first = shown.stand whole 0 less
+    ∙ ap (λ (n : ℕ). slice_index (take n (to_le_bytes w32 0x04030201)) 0) four in
+    omega (arith, first, last)
+
+none_writes_five : (now : ℕ) (r s : Record) → HasWholeOwn r → IsOwnAddress ((clock_buffer r.own).0 + 4) r.own
+    → (own_byte s.own ((clock_buffer r.own).0 + 4) ≡ own_byte r.own ((clock_buffer r.own).0 + 4) → ⊥)
+    → ClockIsShown now r s → ⊥
+none_writes_five now r s whole inside changed shown =
+    changed (shown.others whole ((clock_buffer r.own).0 + 4) inside (inr (omega arith)))
+
+-- A yield with a flag, for which no upcall waits; a kernel that tells 0 after a delivery.
+abbrev yields_at : ℕ → CallMade
+yields_at at = record { class = 0; args = 0 ∷ at ∷ 0 ∷ 0 ∷ []; reply = None; rule = None }
+
+tells_zero : FlagTells holds (record holds { own = with_flag RAM_START 0 holds.own }) (yields_at RAM_START)
+unfolding counts_of drivers shape_of
+tells_zero =
+    record { delivered = λ has whole u rest pending. absurd (cc); none = λ has whole pending. refl }
+
+none_tells_zero : (r s : Record) (call : CallMade) → HasFlag r call → HasWholeOwn r → (u : Scheduled)
+    (rest : List Scheduled) → r.own.inbox.pending ≡ u ∷ rest → own_byte s.own (slice_index call.args 1) ≡ 0
+    → FlagTells r s call → ⊥
+none_tells_zero r s call has whole u rest pending zero tells =
+    let one = tells.delivered has whole u rest pending in omega (arith, one, zero)
+
+-- A read that its process cancels; a kernel that withdraws one as a button is pressed, and one that loses a request.
+abbrev cancels : Label
+cancels = record {
+  slot = 0;
+  event = Turn 0;
+  trace = record untraced {
+    call = Some (record { class = 2; args = 1 ∷ 3 ∷ 0 ∷ 0 ∷ []; reply = None; rule = None });
+  };
+  printed = [];
+}
+
+withdrawn_so : (r s : Record) → IsWithdrawnBy Reads 0 r s cancels
+withdrawn_so r s = record {
+  of_it = refl;
+  why = inl (
+    refl,
+    record { accepted = record { class = refl; accepted = refl; of_driver = refl }; number = refl },
+  );
+}
+
+none_by_an_edge : (r : Record) → r.own.lives ≡ true
+    → IsWithdrawnBy Reads 0 r r (record { slot = 0; event = Edge 0 true; trace = untraced; printed = [] }) → ⊥
+none_by_an_edge r lives withdrawn = by_cause withdrawn.why
+  where
+    by_cause : ((Reads ≡ Reads) × ⊥) ⊎ ((r.own.lives ≡ false) ⊎ (r.own.life ≡ r.own.life + 1)) → ⊥
+    by_cause (inl cancelled) = cancelled.1
+    by_cause (inr (inl dead)) = false≢true (sym dead ∙ lives)
+    by_cause (inr (inr next)) = omega (arith, next)
+
+adds_up : AddUp 2 0 1 1 0
+adds_up = refl
+
+none_is_lost : AddUp 2 0 1 0 0 → ⊥
+none_is_lost sum = omega (arith, sum)

@@ -1,9 +1,13 @@
 -- That what a device tells of a process is what the process gets: the bytes in its buffer, and the arguments of the
--- upcall (Tock's drivers 0x0, 0x1 and 0x40001, and 0x50001 in its list; TRD 104, "Subscribe", "Read-Write Allow").
+-- upcall (Tock's drivers 0x0, 0x1 and 0x40001, and 0x50001 in its list; TRD 104, "Subscribe", "Read-Write Allow"); and
+-- that the bytes which its own calls have written are those that they promise (TRD 104, "Yield"; that the alarm shows
+-- its clock is this board's own rule).
 use Rattle.std.specs.Prelude.{◌≡◌, ◌⊎◌, ◌<◌, ◌≤◌, ℕ, ◌+◌, ◌%◌, ◌^◌, ◌==◌, Bool, true, false, min, if◌then◌else◌, List}
-use Rattle.std.specs.Prelude.{[], ◌∷◌, length, slice_index, None, Some, IfSome}
+use Rattle.std.specs.Prelude.{[], ◌∷◌, length, slice_index, take, None, Some, IfSome, All}
 use Rattle.std.specs.Int.{w32, to_le_bytes}
 use Rattle.tk_base.specs.declared.kinds.PairKind.TheVariants.{ReadOnly, ReadWrite}
+use Rattle.tk_base.specs.declared.process.Choice.{Choice}
+use Rattle.tk_base.specs.declared.upcall.Upcall.{Upcall as Scheduled}
 use Rattle.upcall_queue.specs.Pending.{scheduled}
 use Rattle.grant_values.specs.declared.alarm.Armed.{Armed}
 use Rattle.grant_values.specs.declared.console.WaitingRead.{WaitingRead}
@@ -12,10 +16,12 @@ use Rattle.grant_values.specs.declared.random.RandomRequest.{RandomRequest}
 use Rattle.grant_values.specs.declared.storage.StorageKind.{StorageKind}
 use Rattle.grant_values.specs.declared.storage.StorageKind.TheVariants.{Read, Write}
 use Rattle.grant_values.specs.declared.storage.StorageRequest.{StorageRequest}
-use Rattle.process_model.specs.Changes.{own_byte}
+use Rattle.process_model.specs.Changes.{IsOwnAddress, own_byte}
 use Rattle.process_model.specs.Handed.{held}
 use Rattle.process_model.specs.Served.{upcall_of}
+use Rattle.process_record.specs.declared.emit.CallMade.{CallMade}
 use Rattle.driver_model.specs.Alarm.{alarm_in, due_alarm}
+use Rattle.driver_model.specs.Bytes.{clock_buffer}
 use Rattle.driver_model.specs.Console.{console_reads, console_writes}
 use Rattle.driver_model.specs.Random.{randoms}
 use Rattle.driver_model.specs.Requests.{waiting_in}
@@ -23,7 +29,10 @@ use Rattle.driver_model.specs.Storage.{storages}
 use Rattle.kernel_model.specs.Record.{Record}
 use Rattle.kernel_model.specs.Turn.{Event, Alarmed, Taken, WriteDone, Input, Word, NoWord, Stored}
 use Rattle.kernel_model.specs.Wholes.{HasWholeOwn}
-use Rattle.kernel_laws.specs.Between.{OfEachAnswer}
+use Rattle.kernel_model.specs.World.{World, after, labels, now_in}
+use Rattle.kernel_laws.specs.Arming.{IsAccepted}
+use Rattle.kernel_laws.specs.Between.{OfEachAnswer, OfEachTurn, OfTurnIn}
+use Rattle.kernel_laws.specs.Delivered.{IsYield}
 
 -- of what was scheduled all is as it was, and the upcall is scheduled then that a process holds of a driver and a
 -- number, with three arguments
@@ -89,15 +98,24 @@ moved_by false kind request r = 0
 moved_by true Read request r = min request.length (held ReadWrite 0x50001 0 r.own).1
 moved_by true Write request r = min request.length (held ReadOnly 0x50001 0 r.own).1
 
--- A request for storage: its upcall, 0 for a read and 1 for a write, tells how many bytes were moved, and how it went, 0,
--- or 1 for a fault; and it waits no more.
+-- A request for storage: its upcall, 0 for a read and 1 for a write, tells how many bytes were moved, and how it went,
+-- 0, or 1 for a fault; and it waits no more.
 pub record StorageIsDone (moved : Bool) (request : StorageRequest) (r s : Record) : Type 0 where
   pub tells :
       Tells 0x50001 (upcall_of_kind request.kind) (moved_by moved request.kind request r) (if moved then 0 else 1) 0 r s
   pub done : waiting_in storages s.own ≡ None
 
--- An alarm that fires: upcall 0 tells the clock, and when the alarm expired, and none is armed any more.
+-- The clock is shown to a process whose own is whole: as many of its four bytes as the readable buffer 0 of the alarm
+-- has, the lowest first, stand there from its start on, and every other byte of the process is as it was.
+pub record ClockIsShown (now : ℕ) (r s : Record) : Type 0 where
+  pub stand : StandIn (clock_buffer r.own) 0 (take (clock_buffer r.own).1 (to_le_bytes w32 now)) r s
+  pub others : HasWholeOwn r → (at : ℕ) → IsOwnAddress at r.own →
+      (at < (clock_buffer r.own).0) ⊎ ((clock_buffer r.own).0 + min 4 (clock_buffer r.own).1 ≤ at) →
+      own_byte s.own at ≡ own_byte r.own at
+
+-- An alarm that fires: the clock is shown, upcall 0 tells it, and when the alarm expired, and none is armed any more.
 pub record AlarmIsGiven (now : ℕ) (alarm : Armed) (r s : Record) : Type 0 where
+  pub shows : ClockIsShown now r s
   pub tells : Tells 0x0 0 now ((alarm.reference + alarm.delta) % 2 ^ 32) 0 r s
   pub done : alarm_in s.own ≡ None
 
@@ -116,3 +134,28 @@ IsGiven other r s = Unit {0}
 -- so it is in every step of every world
 abbrev pub AnswersAreGiven : Type 0
 AnswersAreGiven = OfEachAnswer IsGiven
+
+-- and an accepted command 2 of the alarm shows the clock, in every step of every world
+abbrev pub ClocksAreShown : Type 0
+ClocksAreShown = (w : World) (choice : Choice) →
+    All (OfTurnIn (λ r s told. IfSome told.call (λ call.
+    IsAccepted 0x0 call → slice_index call.args 1 ≡ 2 → ClockIsShown (now_in w) r s)) w (after w choice))
+    (labels w choice)
+
+-- a yield that does not wait, with a flag: its second argument is an address of accessible RAM
+pub record HasFlag (r : Record) (call : CallMade) : Type 0 where
+  pub yield : IsYield 0 call
+  pub from : r.own.layout.start ≤ slice_index call.args 1
+  pub below : slice_index call.args 1 < r.own.layout.brk
+
+-- The flag of a yield tells a process whose own is whole whether an upcall was delivered: 1 stands there where one was,
+-- and 0 where none waited.
+pub record FlagTells (r s : Record) (call : CallMade) : Type 0 where
+  pub delivered : HasFlag r call → HasWholeOwn r → (upcall : Scheduled) (rest : List Scheduled) →
+      r.own.inbox.pending ≡ upcall ∷ rest → own_byte s.own (slice_index call.args 1) ≡ 1
+  pub none : HasFlag r call → HasWholeOwn r → r.own.inbox.pending ≡ [] →
+      own_byte s.own (slice_index call.args 1) ≡ 0
+
+-- so it is in every step of every world
+abbrev pub FlagsTell : Type 0
+FlagsTell = OfEachTurn (λ r s told. IfSome told.call (FlagTells r s))

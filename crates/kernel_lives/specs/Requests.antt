@@ -1,18 +1,20 @@
--- That requests which begin to wait are completed once at most, and that none outlives the life in which it waits.
+-- That requests which begin to wait add up, why one is withdrawn, and that none outlives the life in which it waits; and
+-- that queues follow them.
 -- Requests wait in grants (Levy et al., SOSP 2017, section 4); their queues are this board's own rule.
-use Rattle.std.specs.Prelude.{◌≡◌, ◌≤◌, ℕ, ◌+◌, ◌==◌, ◌&&◌, Bool, true, false, not, List, [], ◌∷◌, slice_get}
+use Rattle.std.specs.Prelude.{◌≡◌, ◌⊎◌, ◌≤◌, ℕ, ◌+◌, ◌==◌, ◌&&◌, Bool, true, false, not, List, [], ◌∷◌, slice_get}
 use Rattle.std.specs.Prelude.{slice_index, is_none, Some}
-use Rattle.std.specs.Prelude.{IfSome, option_map, unwrap_or, All, filter, length, ◌++◌}
+use Rattle.std.specs.Prelude.{IfSome, IsSomeAnd, option_map, unwrap_or, All, filter, length, ◌++◌}
 use Rattle.kernel_model.specs.Named.{slots_in}
-use Rattle.std.specs.List.{list_any}
+use Rattle.std.specs.List.{Any, list_any}
 use Rattle.tk_base.specs.declared.process.Choice.{Choice}
-use Rattle.driver_model.specs.Commands.{QueueName, order_of}
+use Rattle.driver_model.specs.Commands.{QueueName, Reads, order_of}
 use Rattle.driver_model.specs.Lines.{has_waiting, kind_in}
 use Rattle.process_record.specs.declared.emit.CallMade.{CallMade}
 use Rattle.kernel_model.specs.Record.{Record}
 use Rattle.kernel_model.specs.World.{Label, World, after, labels}
 use Rattle.kernel_model.specs.Lives.{LivesAsItRuns}
 use Rattle.kernel_model.specs.Replay.{after_all}
+use Rattle.kernel_laws.specs.Arming.{IsAccepted}
 use Rattle.kernel_laws.specs.Queues.{queue_for}
 use Rattle.kernel_lives.specs.Lists.{ListsAreOfRequests, asks_at, once_if}
 
@@ -47,13 +49,6 @@ requests_completed queue slot w [] = 0
 requests_completed queue slot w (choice ∷ choices) =
     once_if (completes_in queue slot w choice) + requests_completed queue slot (after w choice) choices
 
--- After any choices the answers that completed a request of a process, and the one that waits still, are no more than
--- its requests that began to wait, and the one that waited at first.
-abbrev pub RequestsCompleteOnce : Type 0
-RequestsCompleteOnce = (w : World) (choices : List Choice) (queue : QueueName) (slot : ℕ) → ListsAreOfRequests w →
-    requests_completed queue slot w choices + once_if (asks_in queue slot (after_all w choices))
-    ≤ requests_begun queue slot w choices + once_if (asks_in queue slot w)
-
 -- a process that has a request after a step is in the life in which it was before it
 abbrev pub HasRequestsOfItsLife : Record → Record → Type 0
 HasRequestsOfItsLife r s = (queue : QueueName) → has_waiting queue s.own ≡ true → s.own.life ≡ r.own.life
@@ -81,8 +76,8 @@ RequestsBeginByCommands = (w : World) (choice : Choice) (queue : QueueName) (slo
     list_any (tells_asking queue slot) (labels w choice) ≡ true
 
 -- A queue before a step and later, by who has a request there: those that have one still stand in the order in which
--- they stood, whoever has none any more is gone, and behind them all stands the one whose request begins to wait in this
--- step, if one does.
+-- they stood, whoever has none any more is gone, and behind them all stands the one whose request begins to wait in
+-- this step, if one does.
 pub record FollowsRequests (queue : QueueName) (w v : World) (before later : List ℕ) : Type 0 where
   pub come : List ℕ
   pub is : later ≡ filter (λ slot. asks_in queue slot v) before ++ come
@@ -107,10 +102,35 @@ requests_withdrawn queue slot w [] = 0
 requests_withdrawn queue slot w (choice ∷ choices) =
     once_if (withdraws_in queue slot w choice) + requests_withdrawn queue slot (after w choice) choices
 
--- After any choices: the requests of a process that began to wait, and the one that waited at first, are exactly those
--- that an answer completed, the one that waits still, and those that were withdrawn.
+-- The requests that began to wait, and the one that waited at first, are exactly those that an answer completed, the one
+-- that waits still, and those that were withdrawn.
+abbrev pub AddUp : ℕ → ℕ → ℕ → ℕ → ℕ → Type 0
+AddUp begun first completed waits withdrawn = begun + first ≡ completed + waits + withdrawn
+
+-- so it is with those of a process in a queue after any choices
 abbrev pub RequestsAddUp : Type 0
 RequestsAddUp = (w : World) (choices : List Choice) (queue : QueueName) (slot : ℕ) → ListsAreOfRequests w →
-    requests_begun queue slot w choices + once_if (asks_in queue slot w)
-    ≡ requests_completed queue slot w choices + once_if (asks_in queue slot (after_all w choices))
-    + requests_withdrawn queue slot w choices
+    AddUp (requests_begun queue slot w choices) (once_if (asks_in queue slot w))
+    (requests_completed queue slot w choices) (once_if (asks_in queue slot (after_all w choices)))
+    (requests_withdrawn queue slot w choices)
+
+-- a life of a process ended between two records of it: it lives no more, or in the next life
+abbrev pub EndsLife : Record → Record → Type 0
+EndsLife r s = (s.own.lives ≡ false) ⊎ (s.own.life ≡ r.own.life + 1)
+
+-- a call is the accepted command that cancels a read
+pub record CancelsRead (call : CallMade) : Type 0 where
+  pub accepted : IsAccepted 0x1 call
+  pub number : slice_index call.args 1 ≡ 3
+
+-- Why a request of a process is withdrawn, by what a step tells of the process: it cancels its read, or a life of it
+-- ends.
+pub record IsWithdrawnBy (queue : QueueName) (slot : ℕ) (r s : Record) (label : Label) : Type 0 where
+  pub of_it : label.slot ≡ slot
+  pub why : ((queue ≡ Reads) × IsSomeAnd label.trace.call CancelsRead) ⊎ EndsLife r s
+
+-- so it is with each that is withdrawn, in every step of every world
+abbrev pub RequestsAreWithdrawn : Type 0
+RequestsAreWithdrawn = (w : World) (choice : Choice) (queue : QueueName) (slot : ℕ) (r s : Record) →
+    slice_get w.records slot ≡ Some r → slice_get (after w choice).records slot ≡ Some s →
+    withdraws_in queue slot w choice ≡ true → Any (IsWithdrawnBy queue slot r s) (labels w choice)

@@ -1,11 +1,11 @@
 //! Laws that a certifier asks for, each the contract of a function that does nothing.
 ghost use Rattle.kernel_lives.specs.Counts.{CountsAddUp};
 ghost use Rattle.kernel_lives.specs.Ended.{IsFreeOnceEnded};
-ghost use Rattle.kernel_lives.specs.Given.{AnswersAreGiven};
+ghost use Rattle.kernel_lives.specs.Given.{AnswersAreGiven, ClocksAreShown, FlagsTell};
 ghost use Rattle.kernel_lives.specs.Lists.{ListsStay};
 ghost use Rattle.kernel_lives.specs.OwnBuffers.{WholeOwnsHoldTheirBuffers};
 ghost use Rattle.kernel_lives.specs.Requests.{QueuesFollowRequests, RequestsAddUp};
-ghost use Rattle.kernel_lives.specs.Requests.{RequestsBeginByCommands, RequestsCompleteOnce};
+ghost use Rattle.kernel_lives.specs.Requests.{RequestsAreWithdrawn, RequestsBeginByCommands};
 ghost use Rattle.kernel_lives.specs.Requests.{RequestsEndWithTheirLife};
 ghost use Rattle.kernel_lives.specs.StoredBytes.{ReadsGiveStorage, ReadsInRunsGiveStorage};
 ghost use Rattle.kernel_lives.specs.StoredBytes.{RequestsStayWithin, StorageIsMemory};
@@ -25,6 +25,7 @@ use driver_model::{
 use kernel_laws::{queues_are_first_come_first_served, steps_have_causes, turns_keep_lines};
 use kernel_model::drivers_promise;
 use process_model::only_handing_changes_pairs;
+use rv32_model::denials_are_due;
 
 /// Whatever choices are made: a process lives exactly while it is Running or Yielded, and its life
 /// is the number of its restarts, where that was so before; none that has ended is held, where that
@@ -144,15 +145,16 @@ pub fn storage_is_memory()
     owns_stay_whole();
 }
 
-/// Whatever choices are made: the answers that completed a request of a process in a queue, and the
-/// one that waits still, are no more than its requests that began to wait there, and the one that
-/// waited at first, where the lists were those of requests then; and with those that were withdrawn,
-/// of which the process is told no answer, they are exactly these. No request outlives the life in
-/// which it waits; and one begins to wait by an accepted command to its driver alone, in a turn of a
-/// process that lives as it runs (TRD 104, "Command").
+/// Whatever choices are made: the requests of a process in a queue that began to wait, and the one
+/// that waited at first, are exactly those that an answer completed, the one that waits still, and
+/// those that were withdrawn, of which the process is told no answer; where the lists were those of
+/// requests at first. One is withdrawn only as its process cancels its read, or as a life of the
+/// process ends. No request outlives the life in which it waits; and one begins to wait by an
+/// accepted command to its driver alone, in a turn of a process that lives as it runs (TRD 104,
+/// "Command").
 pub fn requests_complete_once()
-    ensures once { RequestsCompleteOnce }
     ensures whole { RequestsAddUp }
+    ensures withdrawn { RequestsAreWithdrawn }
     ensures life { RequestsEndWithTheirLife }
     ensures begin { RequestsBeginByCommands }
 {
@@ -164,6 +166,7 @@ pub fn requests_complete_once()
     lists_are_of_requests();
     drivers_keep_places_and_order();
     turns_keep_lines();
+    denials_are_due();
 }
 
 /// Writes to the console complete truly: where what is the processes' own was whole, a write that
@@ -182,10 +185,24 @@ pub fn writes_complete_truly()
 }
 
 /// What a device tells of a process is what the process gets, in every step, whoever makes the
-/// choices: bytes that came in stand in its buffer, no more than it asked for and the buffer has,
-/// and the bytes of a random word behind those written before; and the upcall by which a request
-/// completes, or an alarm fires, has the arguments of its driver, after which the request waits no
-/// more, or the alarm is not armed any more (Tock's drivers 0x0, 0x1, 0x40001 and 0x50001).
+/// choices: bytes that came in are no more than its read asked for and its buffer has; where what
+/// is its own is whole they stand in that, and the bytes of a random word behind those written
+/// before; and the upcall by which a request completes, or an alarm fires, has the arguments of its
+/// driver, after which the request waits no more, or the alarm is not armed any more. As an alarm
+/// fires the clock is shown, as by [`calls_write_what_they_promise`] (Tock's drivers 0x0, 0x1,
+/// 0x40001 and 0x50001).
 pub fn answers_are_what_is_told()
     ensures { AnswersAreGiven }
 {}
+
+/// What a process's own calls write has the bytes that they promise, in every step, whoever makes
+/// the choices, where what is the process's own is whole. An accepted command 2 of the alarm shows
+/// the clock: as many of its four bytes as the buffer has, the lowest first, and every other byte is
+/// as it was. And the flag of a yield which doesn't wait, where it lies in accessible RAM, is 1
+/// where an upcall was delivered, and 0 where none waited (TRD 104, "Yield").
+pub fn calls_write_what_they_promise()
+    ensures clocks { ClocksAreShown }
+    ensures flags { FlagsTell }
+{
+    denials_are_due();
+}

@@ -14,14 +14,14 @@ returns-clause-begin c script flash choices choice queue slot =
     c.requests_complete_once.ensures.begin (after_all w choices) choice queue slot
     (c.processes_live_as_they_run.ensures.lives w choices slot (opens_living script flash slot))
 
-pub returns-clause-once : goal.returns-clause-once
+pub returns-clause-whole : goal.returns-clause-whole
 unfolding opening
-returns-clause-once c script flash choices queue slot =
+returns-clause-whole c script flash choices queue slot =
     let w = opening script flash in
     let lists = c.lists_from_boot_are_of_requests.ensures script flash [] in
     let none = nobody queue in
     let here = lists.each queue slot in
-    let law = c.requests_complete_once.ensures.once w choices queue slot lists in
+    let law = c.requests_complete_once.ensures.whole w choices queue slot lists in
     omega (arith, law, here, none)
   where
     nobody : (queue : QueueName) → times_in slot (slots_in queue (opening script flash).devices.waiting) ≡ 0

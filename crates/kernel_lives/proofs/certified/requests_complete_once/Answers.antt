@@ -1,11 +1,7 @@
 use Rattle.kernel_lives.proofs.Begun.{requests_begin_by_commands}
-use Rattle.kernel_lives.proofs.Requests.{requests_add_up, requests_complete_once}
-use Rattle.kernel_lives.proofs.Requests.{requests_end_with_their_life}
+use Rattle.kernel_lives.proofs.Requests.{requests_add_up, requests_end_with_their_life}
+use Rattle.kernel_lives.proofs.Withdrawn.{requests_are_withdrawn}
 use Rattle.kernel_lives.proofs.certified.requests_complete_once.Goals as goal
-
-pub returns-clause-once : goal.returns-clause-once
-returns-clause-once c =
-    requests_complete_once c.queues_are_first_come_first_served.ensures.first c.lists_are_of_requests.ensures
 
 pub returns-clause-whole : goal.returns-clause-whole
 returns-clause-whole c =
@@ -19,3 +15,6 @@ pub returns-clause-begin : goal.returns-clause-begin
 returns-clause-begin c =
     requests_begin_by_commands c.lines_follow_answers.ensures c.events_tell_steps.ensures
     c.turns_keep_lines.ensures.lines c.drivers_ask_for_their_own.ensures c.a_driver_that_refuses_changes_nothing.ensures
+
+pub returns-clause-withdrawn : goal.returns-clause-withdrawn
+returns-clause-withdrawn c = requests_are_withdrawn c.denials_are_due.ensures.calls c.lines_follow_answers.ensures
