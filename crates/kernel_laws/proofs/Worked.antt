@@ -1,7 +1,7 @@
 -- Worked cases, computed from the definitions alone: for each cause for which a byte of a process may change a step in
 -- which one does, so that no law of causes holds for want of a change; and for other laws what they have, and what they
 -- refuse. Words were put together by hand from the unprivileged RISC-V manual, TRD 104 and the Tock Binary Format.
-use Rattle.std.specs.Prelude.{IsSomeAnd}
+use Rattle.std.specs.Prelude.{IfSome, IsSomeAnd, length}
 use Rattle.tk_base.specs.Regs.{with_register}
 use Rattle.tk_base.specs.declared.access.TheConstants.{FLASH_START, RAM_START}
 use Rattle.tk_base.specs.declared.kinds.PairKind.TheVariants.{ReadOnly, ReadWrite, Readable}
@@ -66,15 +66,15 @@ use Rattle.kernel_model.specs.Turn.{Stored, Turn, TurnTrace, untraced}
 use Rattle.kernel_model.specs.World.{Label}
 use Rattle.kernel_model.specs.Worked.{asks, turn_of}
 use Rattle.driver_model.specs.Commands.{Writes}
-use Rattle.kernel_laws.specs.Alarms.{IsDue}
+use Rattle.kernel_laws.specs.Alarms.{IsDue, IsLeastLeft}
 use Rattle.kernel_laws.specs.Arming.{SetsAlarm, SetsBy, SetsButtons}
 use Rattle.kernel_laws.specs.OneRun.{NothingIsLeft}
 use Rattle.kernel_laws.specs.Passes.{NoneIsReadyBefore}
 use Rattle.tk_base.specs.Bits.{with_bit}
 use Rattle.kernel_laws.specs.Asking.{GoesOnAs, IsAskedBy, IsOfCommand}
 use Rattle.kernel_laws.specs.Delivered.{RunsFunction, StandsBehind}
-use Rattle.kernel_laws.specs.Queues.{ChangesByOne, JoinsOrLeaves}
-use Rattle.kernel_laws.specs.Ready.{HasDue, MayHaveTurn}
+use Rattle.kernel_laws.specs.Queues.{ChangesByOne, IsOfFirst, JoinsOrLeaves}
+use Rattle.kernel_laws.specs.Ready.{HasDue, IsOfReady, MayHaveTurn}
 use Rattle.kernel_laws.specs.Replies.{CallIsSeen, ChangesByRefusal, ReplyStands, TellsItsCall}
 use Rattle.tk_base.specs.declared.call.CallRule.TheVariants.{Break}
 use Rattle.upcall_queue.specs.declared.inbox.Delivery.TheVariants.{Function}
@@ -89,14 +89,20 @@ use Rattle.kernel_laws.proofs.Replies.{changes}
 use Rattle.std.proofs.lemmas.Bool.Decides.{nat_tests}
 use Rattle.tk_base.specs.declared.process.Dev.{Dev}
 use Rattle.upcall_queue.specs.declared.inbox.Delivery.TheVariants.{Arguments}
-use Rattle.driver_model.specs.Alarm.{due_slot}
+use Rattle.driver_model.specs.Alarm.{due_slot, ticks_left_in}
+use Rattle.grant_model.specs.Grants.{Grant}
+use Rattle.process_record.specs.Process.{is_alive}
+use Rattle.tk_base.specs.declared.limits.TheConstants.{SLOT_COUNT}
 use Rattle.kernel_laws.specs.OneRun.{work_with}
 use Rattle.kernel_laws.specs.Delivered.{HasArguments}
 use Rattle.kernel_laws.proofs.Delivered.{has_arguments}
 use Rattle.kernel_laws.specs.Arming.{AreSetByCommands, Becomes, CommandSets}
 use Rattle.kernel_laws.specs.Withdrawing.{RequestsAreLeft, SetsRequest}
 use Rattle.kernel_laws.specs.Asking.{CommandAsks}
+use Rattle.kernel_model.specs.Laws.{IsSilent}
+use Rattle.kernel_model.specs.Lives.{BlocksAreApart, HasOrder, HasPendingWithinLimit, IsAsAtFirst, LiesAs, LivesAsItRuns}
 use Rattle.kernel_model.specs.Turn.{Edge}
+use Rattle.process_record.specs.declared.process.State.TheVariants.{Faulted}
 use Rattle.driver_model.specs.Buttons.{enabled}
 use Rattle.driver_model.specs.Console.{console_writes}
 use Rattle.driver_model.specs.Lines.{RequestOf, kind_in}
@@ -657,3 +663,110 @@ none_swallows : TellsItsCall (asks 2 0) untraced → ⊥
 unfolding fetched instr_of decoding instruction_table denied
 none_swallows tells =
     true≢false (sym (tells refl refl (record { word = 0x73; fetch = refl; means = refl }) (omega arith)))
+
+-- Two that wait for the storage: the first is told; a kernel that tells the other one.
+abbrev two_wait : World
+two_wait = let w = board 1 [] in record w { devices = with_queue Stores (λ slots. 0 ∷ 1 ∷ []) w.devices }
+
+abbrev stored_to : ℕ → Label
+stored_to slot = record { slot = slot; event = Stored true; trace = untraced; printed = [] }
+
+first_is_told : IsOfFirst two_wait (stored_to 0)
+first_is_told Writes is = absurd (cc)
+first_is_told Reads is = absurd (cc)
+first_is_told Randoms is = absurd (cc)
+first_is_told Stores is = refl
+
+none_of_second : IsOfFirst two_wait (stored_to 1) → ⊥
+none_of_second first = let same : ◌≡◌ {A = Option ℕ} (Some 0) (Some 1) = first Stores refl in
+    let one : ◌≡◌ {A = ℕ} 0 1 = cc in omega (arith, one)
+
+-- A label that tells a turn: of a process that may have one; a kernel that gives one to a process which is held.
+tells_a_turn : IsOfReady (board 1 (calls 0 0 0 ∷ [])) (named 0)
+tells_a_turn turn = refl
+
+none_of_held : IsOfReady (board 1 (record (calls 0 0 0) { process = record (calls 0 0 0).process { held = true } } ∷ []))
+    (named 0) → ⊥
+none_of_held ready = true≢false (sym (ready refl))
+
+-- An alarm of which 5 ticks are left, alone on its board; a kernel that looks for the next one in 9.
+five_left : IsLeastLeft 0 (armed.own ∷ []) (Some 5)
+unfolding counts_of drivers shape_of
+five_left = record { of_one = (0, (omega arith, refl)); none_less = each }
+  where
+    each : (slot : ℕ) → slot < SLOT_COUNT → IfSome (ticks_left_in 0 (armed.own ∷ []) slot)
+        (λ left. IsSomeAnd (Some 5) (λ ticks. ticks ≤ left))
+    each zero below = omega arith
+    each (suc slot) below = tt
+
+none_in_nine : IsLeastLeft 0 (armed.own ∷ []) (Some 9) → ⊥
+unfolding counts_of drivers shape_of
+none_in_nine least = let less = least.none_less 0 (omega arith) in omega (arith, less)
+
+-- A process as it is opened: how it lives, where it lies, what waits for it; kernels that let one live on which has
+-- faulted, move its break below the mark, have 21 upcalls wait, or move its block.
+lives_so : LivesAsItRuns (calls 0 0 0)
+unfolding header_reading meaning_of tlv_places_from
+lives_so = record { lives = refl; life = refl; application = refl }
+
+none_lives_faulted : (r : Record) → r.process.state ≡ Faulted → r.own.lives ≡ true → LivesAsItRuns r → ⊥
+none_lives_faulted r faulted lives runs =
+    true≢false (sym lives ∙ runs.lives ∙ ap is_alive faulted)
+
+has_order : HasOrder (calls 0 0 0)
+unfolding header_reading meaning_of tlv_places_from
+has_order = record {
+  places = record { mark = omega arith; brk = omega arith; grants = omega arith };
+  least = omega arith;
+}
+
+none_below_mark : (r : Record) → r.own.layout.brk ≡ 4 → r.own.layout.mark ≡ 8 → HasOrder r → ⊥
+none_below_mark r brk mark order = let places = order.places.brk in omega (arith, brk, mark, places)
+
+none_wait_so : HasPendingWithinLimit (calls 0 0 0)
+none_wait_so = omega arith
+
+none_of_21 : (r : Record) → r.own.inbox.pending ≡ replicate 21 upcall → HasPendingWithinLimit r → ⊥
+none_of_21 r many within =
+    let size : length r.own.inbox.pending ≡ 21 = ap (λ (us : List Scheduled). length us) many in omega (arith, size, within)
+
+lies_so : LiesAs (calls 0 0 0) (calls 6 1 0)
+lies_so = record {
+  bytes = refl;
+  object = refl;
+  own_object = refl;
+  flash_start = refl;
+  flash_end = refl;
+  start = refl;
+  end = refl;
+}
+
+none_moved : (r s : Record) → s.own.layout.start ≡ r.own.layout.start + 4 → LiesAs r s → ⊥
+none_moved r s moved lies = let start = lies.start in omega (arith, moved, start)
+
+alone_apart : BlocksAreApart (board 1 (calls 0 0 0 ∷ []))
+alone_apart zero zero r s apart is there = absurd (apart refl)
+alone_apart zero (suc j) r s apart is there = absurd (cc)
+alone_apart (suc i) j r s apart is there = absurd (cc)
+
+none_overlap : BlocksAreApart (board 1 (calls 0 0 0 ∷ calls 0 0 0 ∷ [])) → ⊥
+none_overlap apart =
+    apart 0 1 (calls 0 0 0) (calls 0 0 0) (λ same. omega (arith, same)) refl refl RAM_START (omega arith) (omega arith)
+    (omega arith) (omega arith)
+
+at_first_so : IsAsAtFirst (calls 0 0 0) (calls 0 0 0)
+at_first_so = refl
+
+none_keeps_grants : IsAsAtFirst (calls 0 0 0) armed → ⊥
+unfolding counts_of drivers shape_of
+none_keeps_grants first = by_grants (ap (λ (r : Record). r.own.grants) first)
+  where
+    by_grants : {x : Grant} {xs : List Grant} → ◌≡◌ {A = List Grant} (x ∷ xs) [] → ⊥
+    by_grants e = cc
+
+-- An edge of a button is told in silence; a kernel that prints a byte with it.
+told_in_silence : IsSilent (record { slot = 0; event = Edge 0 true; trace = untraced; printed = [] })
+told_in_silence = record { no_turn = refl; no_act = refl; prints = refl }
+
+none_prints_an_edge : IsSilent (record { slot = 0; event = Edge 0 true; trace = untraced; printed = 65 ∷ [] }) → ⊥
+none_prints_an_edge silent = let prints = silent.prints in cc

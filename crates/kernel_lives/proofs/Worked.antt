@@ -31,7 +31,8 @@ use Rattle.driver_model.specs.Random as random
 use Rattle.driver_model.specs.Random.{randoms}
 use Rattle.kernel_lives.specs.Given.{NoWordIsGiven, StorageIsDone, WordIsGiven, WriteIsDone}
 use Rattle.kernel_lives.proofs.Given.{put_none, word_given}
-use Rattle.std.proofs.Common.{◌+◌, length, slice_index, subst, take}
+use Rattle.std.proofs.Common.{◌+◌, zero, suc, length, slice_get, slice_index, subst, take}
+use Rattle.kernel_model.specs.Named.{slots_in}
 use Rattle.std.specs.Int.{w32, to_le_bytes}
 use Rattle.std.proofs.lemmas.Bool.{false≢true}
 use Rattle.tk_base.specs.declared.kinds.PairKind.TheVariants.{Readable}
@@ -45,7 +46,19 @@ use Rattle.kernel_model.specs.Turn.{Edge, Turn, untraced}
 use Rattle.kernel_model.specs.Wholes.{HasWholeOwn}
 use Rattle.kernel_model.specs.World.{Label}
 use Rattle.kernel_lives.specs.Given.{ClockIsShown, FlagTells, HasFlag}
-use Rattle.kernel_lives.specs.Requests.{AddUp, IsWithdrawnBy}
+use Rattle.kernel_lives.specs.Requests.{AddUp, HasRequestsOfItsLife, IsWithdrawnBy}
+use Rattle.kernel_lives.specs.Ended.{IsFreeOnceEnded}
+use Rattle.kernel_lives.specs.Lists.{ListsAreOfRequests, asks_at, once_if, times_in}
+use Rattle.kernel_lives.specs.OwnBuffers.{BuffersAreItsOwn, IsInOwnFlash, IsInOwnRam}
+use Rattle.kernel_lives.specs.StoredBytes.{GaveStorage}
+use Rattle.std.proofs.lemmas.Bool.{true≢false}
+use Rattle.process_record.specs.declared.process.State.TheVariants.{Faulted}
+use Rattle.driver_model.specs.Commands.{Stores}
+use Rattle.driver_model.specs.Storage.{storages}
+use Rattle.kernel_model.specs.Worked.{board}
+use Rattle.kernel_model.specs.World.{with_queue}
+use Rattle.process_model.specs.Served.{with_written}
+use Rattle.tk_base.specs.declared.kinds.PairKind.TheVariants.{ReadOnly}
 use Rattle.kernel_lives.proofs.Shown.{clock_shown}
 
 -- a process that holds a buffer of four bytes for what comes in, and a function for the alarm, at the start of its block
@@ -229,8 +242,8 @@ tells_zero =
 none_tells_zero : (r s : Record) (call : CallMade) → HasFlag r call → HasWholeOwn r → (u : Scheduled)
     (rest : List Scheduled) → r.own.inbox.pending ≡ u ∷ rest → own_byte s.own (slice_index call.args 1) ≡ 0
     → FlagTells r s call → ⊥
-none_tells_zero r s call has whole u rest pending zero tells =
-    let one = tells.delivered has whole u rest pending in omega (arith, one, zero)
+none_tells_zero r s call has whole u rest pending none tells =
+    let one = tells.delivered has whole u rest pending in omega (arith, one, none)
 
 -- A read that its process cancels; a kernel that withdraws one as a button is pressed, and one that loses a request.
 abbrev cancels : Label
@@ -266,3 +279,72 @@ adds_up = refl
 
 none_is_lost : AddUp 2 0 1 0 0 → ⊥
 none_is_lost sum = omega (arith, sum)
+
+-- A request waits in its own life; a kernel that keeps it in the next one.
+of_its_life : (r : Record) → HasRequestsOfItsLife r r
+of_its_life r queue waits = refl
+
+none_outlives : HasRequestsOfItsLife holds (record asks_four { own = record asks_four.own { life = 1 } }) → ⊥
+unfolding counts_of drivers shape_of
+none_outlives of_life = let life = of_life Randoms refl in omega (arith, life)
+
+-- A process that runs and is not held; a kernel that holds one which has faulted.
+runs_free : IsFreeOnceEnded holds
+runs_free ended = refl
+
+none_held_ended : IsFreeOnceEnded (record holds { process = record holds.process { state = Faulted; held = true } }) → ⊥
+none_held_ended free = true≢false (free refl)
+
+-- A process without buffers; a kernel that takes one which lies above the break.
+has_none : BuffersAreItsOwn (standing (0x73 ∷ 0 ∷ 0 ∷ 0 ∷ []) 256 (cleared FLASH_START))
+has_none kind driver number at is inside = absurd (omega (arith, inside.1))
+
+none_above_break : BuffersAreItsOwn (record holds { own = handing ReadWrite 0x1 1 (RAM_START + 100, 4) holds.own }) → ⊥
+unfolding counts_of drivers shape_of
+none_above_break its_own = by_place (its_own ReadWrite 0x1 1 (RAM_START + 100) refl (omega arith, omega arith))
+  where
+    taken : Record
+    taken = record holds { own = handing ReadWrite 0x1 1 (RAM_START + 100, 4) holds.own }
+
+    by_place : IsInOwnRam (RAM_START + 100) taken.own
+        ⊎ ((ReadWrite ≡ ReadOnly) × IsInOwnFlash (RAM_START + 100) taken.own) → ⊥
+    by_place (inl ram) = let below = ram.brk in omega (arith, below)
+    by_place (inr flash) = let same = flash.0 in cc
+
+-- A read of two bytes of the storage, which are 1 and 2; a kernel that leaves the buffer as it was.
+abbrev reads_storage : Record
+reads_storage = record holds {
+  own = with_request storages (Some (record { kind = Read; offset = 0; length = 2 }))
+      (handing ReadWrite 0x50001 0 (RAM_START, 4) holds.own);
+  storage = 1 ∷ 2 ∷ [];
+}
+
+abbrev given_two : Record
+given_two = record reads_storage { own = with_written ReadWrite 0x50001 0 0 (1 ∷ 2 ∷ []) reads_storage.own }
+
+gave_two : GaveStorage reads_storage given_two
+unfolding counts_of drivers shape_of
+gave_two read zero asked room = refl
+gave_two read (suc zero) asked room = refl
+gave_two read (suc (suc k)) asked room = absurd (omega (arith, asked))
+
+none_leaves_zeros : GaveStorage reads_storage reads_storage → ⊥
+unfolding counts_of drivers shape_of
+none_leaves_zeros gave = let first = gave refl 0 (omega arith) (omega arith) in omega (arith, first)
+
+-- A board on which nobody waits; a kernel that has a slot wait twice.
+nobody_waits : ListsAreOfRequests (board 1 [])
+nobody_waits = record { each = none; lives = λ slot. tt }
+  where
+    none : (queue : QueueName) (slot : ℕ) → times_in slot (slots_in queue (board 1 []).devices.waiting)
+        ≡ once_if (asks_at queue (slice_get (board 1 []).records slot))
+    none Writes slot = refl
+    none Reads slot = refl
+    none Randoms slot = refl
+    none Stores slot = refl
+
+abbrev waits_twice : World
+waits_twice = let w = board 1 [] in record w { devices = with_queue Reads (λ slots. 0 ∷ 0 ∷ []) w.devices }
+
+none_waits_twice : ListsAreOfRequests waits_twice → ⊥
+none_waits_twice lists = let twice = lists.each Reads 0 in omega (arith, twice)
