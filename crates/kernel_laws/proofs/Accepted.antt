@@ -15,11 +15,11 @@ use Rattle.syscall_abi.specs.declared.reply.Reply.{Reply}
 use Rattle.process_model.specs.Own.{Own}
 use Rattle.process_record.specs.declared.emit.CallMade.{CallMade}
 use Rattle.process_record.specs.declared.process.State.TheVariants.{Running}
-use Rattle.kernel_model.specs.Calls.{Served, by_form, driver_answered, exit, served, taken_by, yielding}
+use Rattle.kernel_model.specs.Calls.{Served, by_form, driver_answered, exit, memop, served, taken_by, yielding}
 use Rattle.kernel_model.specs.Record.{Record, record_with_step}
 use Rattle.kernel_model.specs.Turn.{arguments, made, rule_shown, surroundings, turn_counted, turned}
 use Rattle.kernel_model.specs.declared.settings.Settings.{Settings}
-use Rattle.kernel_model.proofs.Classes.{command_in, exit_in, yield_in}
+use Rattle.kernel_model.proofs.Classes.{command_in, exit_in, memop_in, yield_in}
 use Rattle.kernel_laws.proofs.Between.{of_turn}
 use Rattle.kernel_laws.proofs.Calling.{of_permitted}
 
@@ -109,6 +109,7 @@ ComesTo n comes =
 pub record HasCome (comes : Record → List ℕ → Served) (r s : Record) (call : CallMade) : Type 0 where
   pub runs : r.process.state ≡ Running
   pub after : s ≡ (comes (turn_counted r) call.args).after
+  pub keeps : rule_shown (comes (turn_counted r) call.args).outcome ≡ None
 
 pub accepted : CallsAreOfEcall → (n : ℕ) (comes : Record → List ℕ → Served) → ComesTo n comes → (settings : Settings)
     (time : ℕ) (r : Record)
@@ -122,16 +123,19 @@ accepted of_ecall n comes so settings time r =
       faults = λ s denial kept. tt;
       makes = λ accesses form is runs class accepted.
           let around = surroundings settings time (turn_counted r) in
-          record {
-            runs = runs;
-            after = of_permitted (λ s. s.after ≡ (comes (turn_counted r) (arguments r.process.regs)).after)
-                settings.strict around (turn_counted r) form
-                (ap (λ (s : Served). s.after) (so around (turn_counted r) form is class)) accepted;
-          };
+          let here = comes (turn_counted r) (arguments r.process.regs) in
+          let same = so around (turn_counted r) form is class in
+          let both = of_permitted (λ s. rule_shown s.outcome ≡ None
+          → (s.after ≡ here.after) × (rule_shown here.outcome ≡ None)) settings.strict around (turn_counted r) form
+          (λ none. (
+            ap (λ (s : Served). s.after) same,
+            sym (ap (λ (s : Served). rule_shown s.outcome) same) ∙ none,
+          )) accepted accepted in
+          record { runs = runs; after = both.0; keeps = both.1 };
       delivers = λ next is yielded. tt;
     })
 
--- a yield, and an exit
+-- a yield, an exit, and a memop
 abbrev pub yields : Record → List ℕ → Served
 yields r args = yielding r (slice_index args 0) (slice_index args 1) (slice_index args 2)
 
@@ -155,6 +159,18 @@ accepted_exit of_ecall =
     accepted of_ecall 6 exits (λ around r form is six.
     ap (by_form around r)
     (same_form form (exit_in r.process.regs) (sym is ∙ of_class r.process.regs 6 six)))
+
+abbrev pub memops : Record → List ℕ → Served
+memops r args = memop r (slice_index args 0) (slice_index args 1)
+
+pub accepted_memop : CallsAreOfEcall → (settings : Settings) (time : ℕ) (r : Record)
+    → let t = turned settings time r in
+    IfSome t.told.call (λ call. call.class ≡ 5 → call.rule ≡ None → HasCome memops r t.after call)
+unfolding by_form class_table
+accepted_memop of_ecall =
+    accepted of_ecall 5 memops (λ around r form is five.
+    ap (by_form around r)
+    (same_form form (memop_in r.process.regs) (sym is ∙ of_class r.process.regs 5 five)))
 
 -- what follows from what is said of a call is said of it
 pub if_called : (o : Option CallMade) (P Q : CallMade → Type 0) → ((call : CallMade) → P call → Q call) → IfSome o P

@@ -18,6 +18,7 @@ pub mod Asking
 mod Arming
 pub mod Withdrawing
 mod Restarting
+mod Breaks
 mod Alarms
 mod Passes
 mod Ready

@@ -99,6 +99,7 @@ use Rattle.kernel_laws.proofs.Delivered.{has_arguments}
 use Rattle.kernel_laws.specs.Arming.{AreSetByCommands, Becomes, CommandSets}
 use Rattle.kernel_laws.specs.Withdrawing.{RequestsAreLeft, SetsRequest}
 use Rattle.kernel_laws.specs.Asking.{CommandAsks}
+use Rattle.kernel_laws.specs.Breaks.{MovesBreak}
 use Rattle.kernel_model.specs.Laws.{IsSilent}
 use Rattle.kernel_model.specs.Lives.{BlocksAreApart, HasOrder, HasPendingWithinLimit, IsAsAtFirst, LiesAs, LivesAsItRuns}
 use Rattle.kernel_model.specs.Turn.{Edge}
@@ -770,3 +771,22 @@ told_in_silence = record { no_turn = refl; no_act = refl; prints = refl }
 
 none_prints_an_edge : IsSilent (record { slot = 0; event = Edge 0 true; trace = untraced; printed = 65 ∷ [] }) → ⊥
 none_prints_an_edge silent = let prints = silent.prints in cc
+
+-- A break that is moved to the fifth byte of the block, so to the eighth; a kernel that does not round it.
+abbrev breaks_at_five : CallMade
+breaks_at_five = record { class = 5; args = 0 ∷ (RAM_START + 5) ∷ 0 ∷ 0 ∷ []; reply = None; rule = None }
+
+moves_to_eight : MovesBreak (asks 0 (RAM_START + 5)) (turn_of (asks 0 (RAM_START + 5))).after breaks_at_five
+unfolding user_turn on_word executed fetched instr_of decoding instruction_table denied ram_after
+    call_of class_table header_reading served by_form memop memops turned
+moves_to_eight = record {
+  to = λ is. refl;
+  up = λ is small. let one = is.asks in absurd (omega (arith, one));
+  down = λ is large. let one = is.asks in absurd (omega (arith, one));
+}
+
+none_unrounded : (s : Record) → s.own.layout.brk ≡ RAM_START + 5
+    → MovesBreak (asks 0 (RAM_START + 5)) s breaks_at_five → ⊥
+none_unrounded s five moves =
+    let eight = ap (λ (o : Own). o.layout.brk) (moves.to (record { class = refl; asks = refl; accepted = refl })) in
+    omega (arith, five, eight)

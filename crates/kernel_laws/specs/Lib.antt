@@ -18,3 +18,4 @@ pub mod Arming
 pub mod Restarting
 pub mod Withdrawing
 pub mod Alone
+pub mod Breaks

@@ -14,9 +14,9 @@ pub use rounds::{
     passes_stop_at_the_nearest, ready_processes_have_turns, round_is_stretch, rounds_join,
 };
 pub use steps::{
-    alarms_and_buttons_are_set_by_commands, deliveries_stand_in_registers, grants_change_at_calls,
-    input_is_kept, only_ready_processes_have_turns, queues_are_first_come_first_served,
-    refusals_change_little, replies_stand_in_registers, requests_are_as_asked,
-    requests_are_not_lost, restarts_are_made, tables_name_the_same_drivers,
+    alarms_and_buttons_are_set_by_commands, breaks_are_moved, deliveries_stand_in_registers,
+    grants_change_at_calls, input_is_kept, only_ready_processes_have_turns,
+    queues_are_first_come_first_served, refusals_change_little, replies_stand_in_registers,
+    requests_are_as_asked, requests_are_not_lost, restarts_are_made, tables_name_the_same_drivers,
     time_comes_in_by_the_alarm, turns_keep_lines, words_are_drawn_in_order,
 };

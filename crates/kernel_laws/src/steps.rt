@@ -7,6 +7,7 @@ ghost use Rattle.kernel_model.specs.Refused.{RefusalsChangeLittle};
 ghost use Rattle.kernel_laws.specs.Arming.{AlarmsAndButtonsAreSetByCommands};
 ghost use Rattle.kernel_laws.specs.Arming.{AlarmsAndButtonsFollowCommands};
 ghost use Rattle.kernel_laws.specs.Asking.{CommandsAsk, RequestsAreAsAsked};
+ghost use Rattle.kernel_laws.specs.Breaks.{BreaksAreMoved};
 ghost use Rattle.kernel_laws.specs.Clock.{TimeComesInByTheAlarm};
 ghost use Rattle.kernel_laws.specs.Delivered.{DeliveriesAreSeen};
 ghost use Rattle.kernel_laws.specs.Inputs.{InputIsKept};
@@ -172,6 +173,15 @@ pub fn alarms_and_buttons_are_set_by_commands()
 pub fn restarts_are_made()
     ensures made { RestartsAreMade }
     ensures ends { ExitsEnd }
+{
+    denials_are_due();
+}
+
+/// An accepted memop 0 moves the break of its process to its argument, and 1 by that as a signed
+/// number, rounded up to a multiple of 4; all else of the process's own is as it was (TRD 104,
+/// "Memop").
+pub fn breaks_are_moved()
+    ensures { BreaksAreMoved }
 {
     denials_are_due();
 }
