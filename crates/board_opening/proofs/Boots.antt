@@ -9,7 +9,7 @@ use Rattle.std.proofs.lemmas.Bool.Decides.{nat_tests}
 use Rattle.std.proofs.lemmas.List.{length-replicate}
 use Rattle.std.proofs.lemmas.List.Elements.{All-nil}
 use Rattle.tk_base.specs.Numbers.{rounded_up}
-use Rattle.tk_base.specs.declared.access.TheConstants.{RAM_START}
+use Rattle.tk_base.specs.declared.access.TheConstants.{FLASH_START, RAM_START}
 use Rattle.tk_base.specs.declared.limits.TheConstants.{OBJECT_LIMIT, SLOT_COUNT}
 use Rattle.tk_base.specs.declared.process.PlaceFault.{PlaceFault}
 use Rattle.tk_base.specs.declared.process.PlaceFault.TheVariants.{NoSlot, FixedTaken, NoRoom}
@@ -40,6 +40,8 @@ use Rattle.process_model.specs.Pairs.{OnlyHandingChangesPairs}
 use Rattle.driver_model.specs.Keeping.{IsInOrder, IsSettled}
 use Rattle.kernel_model.specs.Wholes.{HasWholeOwn}
 use Rattle.kernel_lives.specs.Ended.{IsFreeOnceEnded}
+use Rattle.kernel_lives.specs.Registers.{HasRegisters}
+use Rattle.kernel_lives.proofs.Registers.{start_many}
 use Rattle.kernel_lives.specs.Lists.{ListsAreOfRequests, asks_at, once_if, times_in}
 use Rattle.kernel_lives.specs.StoredBytes.{AsksWithin}
 use Rattle.board_drivers.proofs.Routing.{slots_by}
@@ -278,6 +280,13 @@ pending_first : (storage : ℕ) (flash : List ℕ) (low : ℕ) (r : Record) → 
 unfolding opening_record
 pending_first storage flash low r o = subst HasPendingWithinLimit (sym o.is) (omega arith)
 
+registers_first : (storage : ℕ) (flash : List ℕ) (low : ℕ) (r : Record) → IsOpened storage flash low r → HasRegisters r
+unfolding opening_record
+registers_first storage flash low r o =
+    let e = extents (application o.offset o.header o.main) o.start in
+    subst HasRegisters (sym o.is)
+    (start_many (FLASH_START + o.offset) o.header o.main e.start (e.end - e.start) e.brk)
+
 up_to : (n m : ℕ) → n ≤ rounded_up (n + m)
 up_to n m = omega arith
 
@@ -369,6 +378,12 @@ pub opens_with_pending : (script : Script) (flash : List ℕ) (slot : ℕ)
     → IfSome (slice_get (opening script flash).records slot) HasPendingWithinLimit
 opens_with_pending script flash slot =
     of_each script.storage flash RAM_START HasPendingWithinLimit (pending_first script.storage flash)
+    (opening script flash).records (opening_opened script flash) slot
+
+pub opens_with_registers : (script : Script) (flash : List ℕ) (slot : ℕ)
+    → IfSome (slice_get (opening script flash).records slot) HasRegisters
+opens_with_registers script flash slot =
+    of_each script.storage flash RAM_START HasRegisters (registers_first script.storage flash)
     (opening script flash).records (opening_opened script flash) slot
 
 pub opens_at_first : (script : Script) (flash : List ℕ) (slot : ℕ)

@@ -4,6 +4,7 @@ ghost use Rattle.kernel_model.specs.Prints.{PrintsItsBuffer, PrintsWhatItCouldLo
 ghost use Rattle.kernel_model.specs.Wholes.{HasWholeOwn};
 ghost use Rattle.kernel_lives.specs.Ended.{IsFreeOnceEnded};
 ghost use Rattle.kernel_lives.specs.OwnBuffers.{BuffersAreItsOwn};
+ghost use Rattle.kernel_lives.specs.Registers.{HasRegisters};
 ghost use Rattle.board_opening.specs.Certified.{AlarmsFromBootAreExact, EndedFromBootStays};
 ghost use Rattle.board_opening.specs.Certified.{BlocksFromBootAreApart, ChangesFromBootHaveCauses};
 ghost use Rattle.board_opening.specs.Certified.{CountsFromBootAddUp, DropsFromBootAddUp};
@@ -34,9 +35,11 @@ use process_model::only_handing_changes_pairs;
 /// Whatever choices are made after a boot: a process lives exactly while it is Running or Yielded,
 /// and its life is the number of its restarts. Its memory is in order: the block's start, the mark,
 /// the break, the kernel break, which is the block's end less what the drivers cost that it has
-/// entered. No two blocks overlap. At most [`tk_base::PENDING_LIMIT`] upcalls wait.
+/// entered. No two blocks overlap. At most [`tk_base::PENDING_LIMIT`] upcalls wait. It has 32
+/// registers.
 pub fn processes_from_boot_keep_their_places()
     ensures lives { EachFromBoot LivesAsItRuns }
+    ensures registers { EachFromBoot HasRegisters }
     ensures order { EachFromBoot HasOrder }
     ensures apart { BlocksFromBootAreApart }
     ensures pending { EachFromBoot HasPendingWithinLimit }

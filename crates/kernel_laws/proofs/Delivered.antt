@@ -29,7 +29,7 @@ use Rattle.kernel_laws.specs.Delivered.{DeliveriesAreSeen, Delivers, GoesOnWith,
 use Rattle.kernel_laws.specs.Delivered.{RunsUpcall, StandsBehind}
 use Rattle.kernel_laws.proofs.Accepted.{HasCome, accepted_yield, at_call, yields}
 use Rattle.kernel_laws.proofs.Between.{of_each_turn}
-use Rattle.kernel_laws.proofs.Registers.{as_many, register_beside, register_there, words_beside, words_pc}
+use Rattle.kernel_laws.proofs.Registers.{as_many, register_beside, register_there, words_beside, words_many, words_pc}
 use Rattle.kernel_laws.proofs.Scheduled.{flag_inbox}
 
 -- the words of three arguments stand in a0 to a2
@@ -72,10 +72,6 @@ has_arguments (a ∷ b ∷ c ∷ []) regs many long =
 
 even : (n : ℕ) → n / 2 * 2 ≡ n - n % 2
 even n = omega arith
-
-words_many : (n : ℕ) (words : List ℕ) (regs : Registers) → length (with_words n words regs).x ≡ length regs.x
-words_many n [] regs = refl
-words_many n (word ∷ words) regs = words_many (n + 1) words (with_register regs n word) ∙ as_many regs n word
 
 pub runs_function : (u : Scheduled) (regs : Registers) → length regs.x ≡ 32 → length u.args ≡ 3
     → RunsFunction u regs.pc regs (delivery_regs (Function u) regs)

@@ -11,7 +11,7 @@ pub mod OneRun
 pub mod Between
 pub mod Calling
 pub mod Accepted
-mod Registers
+pub mod Registers
 mod Replies
 mod Delivered
 pub mod Asking

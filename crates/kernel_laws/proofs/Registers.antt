@@ -72,3 +72,7 @@ as_many regs n value = by_zero (n == 0)
     by_zero : (b : Bool) → length (cond b regs (record regs { x = slice_set regs.x n value })).x ≡ length regs.x
     by_zero true = refl
     by_zero false = length-set regs.x n value
+
+pub words_many : (n : ℕ) (words : List ℕ) (regs : Registers) → length (with_words n words regs).x ≡ length regs.x
+words_many n [] regs = refl
+words_many n (word ∷ words) regs = words_many (n + 1) words (with_register regs n word) ∙ as_many regs n word

@@ -9,6 +9,7 @@ mod Lists
 mod Wholes
 mod Loads
 mod Ended
+pub mod Registers
 mod OwnBuffers
 mod Requests
 mod Queues

@@ -31,7 +31,7 @@ use Rattle.driver_model.specs.Random as random
 use Rattle.driver_model.specs.Random.{randoms}
 use Rattle.kernel_lives.specs.Given.{NoWordIsGiven, StorageIsDone, WordIsGiven, WriteIsDone}
 use Rattle.kernel_lives.proofs.Given.{put_none, word_given}
-use Rattle.std.proofs.Common.{◌+◌, zero, suc, length, slice_get, slice_index, subst, take}
+use Rattle.std.proofs.Common.{◌+◌, zero, suc, length, replicate, slice_get, slice_index, subst, take}
 use Rattle.kernel_model.specs.Named.{slots_in}
 use Rattle.std.specs.Int.{w32, to_le_bytes}
 use Rattle.std.proofs.lemmas.Bool.{false≢true}
@@ -48,6 +48,7 @@ use Rattle.kernel_model.specs.World.{Label}
 use Rattle.kernel_lives.specs.Given.{ClockIsShown, FlagTells, HasFlag}
 use Rattle.kernel_lives.specs.Requests.{AddUp, HasRequestsOfItsLife, IsWithdrawnBy}
 use Rattle.kernel_lives.specs.Ended.{IsFreeOnceEnded}
+use Rattle.kernel_lives.specs.Registers.{HasRegisters}
 use Rattle.kernel_lives.specs.Lists.{ListsAreOfRequests, asks_at, once_if, times_in}
 use Rattle.kernel_lives.specs.OwnBuffers.{BuffersAreItsOwn, IsInOwnFlash, IsInOwnRam}
 use Rattle.kernel_lives.specs.StoredBytes.{GaveStorage}
@@ -348,3 +349,11 @@ waits_twice = let w = board 1 [] in record w { devices = with_queue Reads (λ sl
 
 none_waits_twice : ListsAreOfRequests waits_twice → ⊥
 none_waits_twice lists = let twice = lists.each Reads 0 in omega (arith, twice)
+
+-- A process with its 32 registers; a kernel that starts one with 31.
+has_registers : HasRegisters holds
+has_registers = refl
+
+none_of_31 : (r : Record) → r.process.regs.x ≡ replicate 31 0 → HasRegisters r → ⊥
+none_of_31 r few many =
+    let size : length r.process.regs.x ≡ 31 = ap (λ (x : List ℕ). length x) few in omega (arith, size, many)

@@ -1,6 +1,7 @@
 pub mod Counts
 pub mod Lists
 pub mod Ended
+pub mod Registers
 pub mod OwnBuffers
 pub mod Requests
 pub mod StoredBytes

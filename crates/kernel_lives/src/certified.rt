@@ -4,6 +4,7 @@ ghost use Rattle.kernel_lives.specs.Ended.{IsFreeOnceEnded};
 ghost use Rattle.kernel_lives.specs.Given.{AnswersAreGiven, ClocksAreShown, FlagsTell};
 ghost use Rattle.kernel_lives.specs.Lists.{ListsStay};
 ghost use Rattle.kernel_lives.specs.OwnBuffers.{WholeOwnsHoldTheirBuffers};
+ghost use Rattle.kernel_lives.specs.Registers.{HasRegisters};
 ghost use Rattle.kernel_lives.specs.Requests.{QueuesFollowRequests, RequestsAddUp};
 ghost use Rattle.kernel_lives.specs.Requests.{RequestsAreWithdrawn, RequestsBeginByCommands};
 ghost use Rattle.kernel_lives.specs.Requests.{RequestsEndWithTheirLife};
@@ -30,9 +31,10 @@ use rv32_model::denials_are_due;
 /// Whatever choices are made: a process lives exactly while it is Running or Yielded, and its life
 /// is the number of its restarts, where that was so before; none that has ended is held, where that
 /// was so before; and the record of one that has ended changes no more as long as no operator has
-/// it start again, but for the buttons that it knows to be pressed.
+/// it start again, but for the buttons that it knows to be pressed. It has 32 registers throughout.
 pub fn processes_live_as_they_run()
     ensures lives { HoldsThroughout LivesAsItRuns }
+    ensures registers { HoldsThroughout HasRegisters }
     ensures free { HoldsThroughout IsFreeOnceEnded }
     ensures ended { EndedStays }
 {
