@@ -1,5 +1,6 @@
 //! The memory of all processes: flash, one RAM with a block for each slot, and what the kernel
-//! keeps of each process beside its registers. Nothing above it names a place in RAM.
+//! keeps of each process beside its registers. Above it a place in RAM is named by the loan of a
+//! process to a call alone.
 #![tactic(auto)]
 
 mod grant;

@@ -1,4 +1,4 @@
-//! The process that makes a call: its registers and state, its seat and memory, lent for the call.
+//! One process, lent for what is done with it: its registers and state, its seat and memory.
 ghost use Rattle.std.specs.Prelude.{◌≡◌, ◌+◌, ◌<◌, ◌^◌, true, slice_get, IsTrue, is_ok, IfOk, OnOk, OnErr, OnSome, IfNone};
 ghost use Rattle.std.specs.Bool.{OnTrue, OnFalse};
 ghost use Rattle.process_layout.specs.Bounds.{permits_break};
@@ -28,7 +28,7 @@ use syscall_abi::Reply;
 use tk_base::{Addr, CallRule, Upcall};
 use upcall_queue::Delivery;
 
-/// The process that makes a call.
+/// The process that makes a call, gets a delivery or starts again, lent for that.
 #[derive(Drop)]
 pub struct Caller<'a> {
     pub(crate) memory: &'a mut Memory,
@@ -48,7 +48,8 @@ impl<'a> Model for Caller<'a> {
     ghost invariant = { IsCaller };
 }
 
-/// What was lent is given back. The function does nothing.
+/// What was lent is given back: each part is as it was, so that whoever lent it knows it again. The
+/// function does nothing.
 pub(crate) fn give_back(_memory: &mut Memory, _seat: &mut Seat, _process: &mut Process)
     ensures memory { _memory.new ≡ _memory.old }
     ensures seat { _seat.new ≡ _seat.old }

@@ -41,7 +41,7 @@ impl Caller<'_> {
         }
     }
 
-    /// Whether an upcall waits for it.
+    /// The upcalls that wait for it, the first one first.
     fn pending(&self) -> &[Upcall]
         ensures { result.now ≡ self.now.own.inbox.pending }
     {
