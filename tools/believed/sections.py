@@ -40,7 +40,7 @@ PARTS = [
     "button.",
     "*Whatever others do*: they may decide which answers a process gets, and how long it waits for these and for its "
     "turns. With `partition` these are the same, and at the same times, in two runs with the same object in the same "
-    "place of its slot, up to each time that both have reached (`RunIsPartitioned`); how far N steps reach, others "
+    "place of its slot, up to each time that both have reached (`IsAccountedTask`); how far N steps reach, others "
     "decide.",
 ]
 

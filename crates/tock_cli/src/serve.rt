@@ -7,7 +7,6 @@ ghost use Rattle.tool_words.specs.Words.{command_of};
 ghost use Rattle.tool_tasks.specs.Comes.{Running};
 ghost use Rattle.tool_tasks.specs.Causes.{shelf_account};
 ghost use Rattle.tool_tasks.specs.Ready.{IsWithinLimits, task_of};
-ghost use Rattle.tool_answers.specs.Accounts.{RunIsAccountedFor, RunIsPartitioned};
 ghost use Rattle.tool_answers.specs.Served.{Serves};
 ghost use Rattle.tool_answers.specs.Parts.{Happens, TaskEnds, TaskIs, sink_account};
 
@@ -107,6 +106,8 @@ fn act<H: Shelf, K: Sink>(
         (command_of words.now) last.new result }
 {
     drop(last.take());
+    runs_from_boot_are_accounted_for();
+    partitions_from_boot_see_themselves_alone();
     match prepare(alloc, words, shelf) {
         Ok(ready) => finish(alloc, ready, out, last),
         Err(refusal) => refuse(refusal, out),
@@ -136,8 +137,7 @@ fn act<H: Shelf, K: Sink>(
 /// any other image under that script that has the same object in the same place of its slot they
 /// are the same, up to each time that both runs have reached.
 ///
-/// Clauses `run` and `partitions` speak of the run that the words and the files make, clause
-/// `serves` of what is written of it.
+/// So it is with the run of which text is written, whole or in part.
 ///
 /// | Answer | Comes |
 /// |---|---|
@@ -158,11 +158,6 @@ pub fn serve<H: Shelf, K: Sink>(
 ) -> u8
     ensures serves { Serves H.tells shelf.old shelf.new K.tells out.old out.new words.now last.new
         result }
-    ensures run { RunIsAccountedFor (shelf_account H.tells shelf.old shelf.new) (command_of words.now) }
-    ensures partitions { RunIsPartitioned (shelf_account H.tells shelf.old shelf.new)
-        (command_of words.now) }
 {
-    runs_from_boot_are_accounted_for();
-    partitions_from_boot_see_themselves_alone();
     act(alloc, words, shelf, out, last).answer()
 }

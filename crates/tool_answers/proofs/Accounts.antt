@@ -1,35 +1,21 @@
 -- The run that the program tells is one from a boot, and so it is accounted for.
 use Rattle.std.proofs.Common.{[], Option, None, Some}
 use Rattle.image_make.specs.Generator.{soak_flash}
-use Rattle.board_opening.specs.Certified.{IsAccountedRun, RunsFromBootAreAccountedFor}
+use Rattle.board_opening.specs.Certified.{RunsFromBootAreAccountedFor}
 use Rattle.board_partitions.specs.Boot.{RunsArePartitioned}
 use Rattle.tool_words.specs.Words.{Command}
-use Rattle.tool_tasks.specs.Comes.{Task, IsTask, Running, files_of}
+use Rattle.tool_tasks.specs.Comes.{Task, IsTask, files_of}
 use Rattle.tool_tasks.specs.Causes.{ShelfAccount}
-use Rattle.tool_answers.specs.Accounts.{RunIsAccountedFor, RunIsPartitioned}
+use Rattle.tool_answers.specs.Accounts.{IsAccountedTask}
 use Rattle.tool_tasks.proofs.Files.{all_texts}
 use Rattle.tool_answers.proofs.Tasks.{of_command}
 
--- each step of a task that is a run is accounted for
-abbrev IsAccountedTask : Task → Type 0
-IsAccountedTask (Running mode n world) = IsAccountedRun world n
-IsAccountedTask other = Unit {0}
-
-task_is_accounted_for : RunsFromBootAreAccountedFor → (told : ShelfAccount) (words : Option Command) (task : Task)
-    → IsTask told.before.bytes words task → IsAccountedTask task
-task_is_accounted_for law told None task is = absurd is
-task_is_accounted_for law told (Some command) task is =
+pub task_is_accounted : RunsFromBootAreAccountedFor → RunsArePartitioned → (told : ShelfAccount)
+    (words : Option Command) (task : Task) → IsTask told.before.bytes words task → IsAccountedTask task
+task_is_accounted law times told None task is = absurd is
+task_is_accounted law times told (Some command) task is =
     let all = all_texts told.before.bytes command _ (files_of command) [] is in
     of_command (λ c t. IsAccountedTask t)
-    (λ mode name script turns flash settings. law settings flash turns)
-    (λ number turns settings. law settings (soak_flash number) turns)
+    (λ mode name script turns flash settings. (law settings flash turns, times _ turns))
+    (λ number turns settings. (law settings (soak_flash number) turns, times _ turns))
     (λ name flash. tt) (λ names flash. tt) (λ name offset edit flash. tt) command all.0 task all.1
-
-pub run_is_accounted_for : RunsFromBootAreAccountedFor → (told : ShelfAccount) (words : Option Command)
-    → RunIsAccountedFor told words
-run_is_accounted_for law told words mode n world is = task_is_accounted_for law told words (Running mode n world) is
-
--- and its times no other process decides
-pub run_is_partitioned : RunsArePartitioned → (told : ShelfAccount) (words : Option Command)
-    → RunIsPartitioned told words
-run_is_partitioned law told words mode n world is = law world n

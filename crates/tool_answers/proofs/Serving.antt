@@ -12,6 +12,7 @@ use Rattle.tool_words.specs.Words.{Command}
 use Rattle.tool_words.specs.Refusals.{refusal_line}
 use Rattle.tool_tasks.specs.Comes.{Task, IsTask, comes_to, files_of, world_left_by}
 use Rattle.tool_tasks.specs.Causes.{ShelfAccount, Cause}
+use Rattle.tool_answers.specs.Accounts.{IsAccountedTask}
 use Rattle.tool_answers.specs.Served.{SinkAccount, All}
 use Rattle.tool_answers.specs.Parts.{IsWritten, SinkRose}
 use Rattle.script_text.specs.declared.rule.ScriptRule.{ScriptRule}
@@ -191,18 +192,18 @@ refused_happens told sent words last refusal SinkFailed c e r = (inr (refusal, c
 
 -- what doing a task leads to
 pub task_happens : (told : ShelfAccount) (sent : SinkAccount) (words : Option Command) (last : Option World)
-    (task : Task) (o : ServeOutcome) → IsTask told.before.bytes words task → TaskIs sent task last o
-    → Happens told sent words last o
-task_happens told sent words last task Done h r = (task, h, r.0, r.1)
-task_happens told sent words last task (Refused refusal) h r = absurd r
-task_happens told sent words last task SinkFailed h r = (inl (task, h, r.0), r.1)
+    (task : Task) (o : ServeOutcome) → IsTask told.before.bytes words task → IsAccountedTask task
+    → TaskIs sent task last o → Happens told sent words last o
+task_happens told sent words last task Done h a r = (task, h, r.0, r.1, a)
+task_happens told sent words last task (Refused refusal) h a r = absurd r
+task_happens told sent words last task SinkFailed h a r = (inl (task, h, r.0, a), r.1)
 
 -- and where a board may have to be made first
 pub ends_happen : (told : ShelfAccount) (sent : SinkAccount) (words : Option Command) (last : Option World)
-    (task : Task) (o : ServeOutcome) → IsTask told.before.bytes words task → TaskEnds sent task last o
-    → Happens told sent words last o
-ends_happen told sent words last task o h (inl r) = task_happens told sent words last task o h r
-ends_happen told sent words last task o h (inr r) =
+    (task : Task) (o : ServeOutcome) → IsTask told.before.bytes words task → IsAccountedTask task
+    → TaskEnds sent task last o → Happens told sent words last o
+ends_happen told sent words last task o h a (inl r) = task_happens told sent words last task o h a r
+ends_happen told sent words last task o h a (inr r) =
     refused_happens told sent words last Memory o (no_memory words h) r.1 r.0
   where
     no_memory : (words : Option Command) → IsTask told.before.bytes words task → Cause told words Memory

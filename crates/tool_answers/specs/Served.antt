@@ -15,6 +15,7 @@ use Rattle.tool_words.specs.Words.{Command, Runs, Soaks, command_of}
 use Rattle.tool_words.specs.Refusals.{refusal_line, status_of}
 use Rattle.tool_tasks.specs.Comes.{Named, Task, IsTask, files_of, world_left_by, refused_at, task_text}
 use Rattle.tool_tasks.specs.Causes.{ShelfAccount, Cause, shelf_account}
+use Rattle.tool_answers.specs.Accounts.{IsAccountedTask}
 
 -- what a sink was before the call and after it, and what it tells
 pub record SinkAccount : Type 1 where
@@ -32,20 +33,22 @@ abbrev pub Part : SinkAccount → List ℕ → Type 0
 Part sent text = WrotePart sent.tells sent.old sent.new text
 
 -- The command's task was done, its whole text written: the text of the run from the opening world of the files, which
--- are read or generated, the list of the flash file, or an image. The board that a run leaves shows its last world.
+-- are read or generated, the list of the flash file, or an image. The board that a run leaves shows its last world, and
+-- the run is accounted for.
 abbrev pub TaskIsDone : ShelfAccount → SinkAccount → Option Command → Option World → Type 0
 TaskIsDone told sent words last =
     (task : Task) × IsTask told.before.bytes words task × All sent (task_text task) × (last ≡ world_left_by task)
+    × IsAccountedTask task
 
 -- a refusal: its cause holds, and its line was written
 abbrev pub TaskIsRefused : ShelfAccount → SinkAccount → Option Command → Refusal → Type 0
 TaskIsRefused told sent words refusal = Cause told words refusal × All sent (refusal_line refusal)
 
--- The sink failed: its count of faults rose, and a proper part was written of the text of the command's task or of the
--- line of a refusal whose cause holds.
+-- The sink failed: its count of faults rose, and a proper part was written of the text of the command's task, which is
+-- accounted for where it is a run, or of the line of a refusal whose cause holds.
 abbrev pub SinkFault : ShelfAccount → SinkAccount → Option Command → Type 0
 SinkFault told sent words =
-    ((task : Task) × IsTask told.before.bytes words task × Part sent (task_text task))
+    ((task : Task) × IsTask told.before.bytes words task × Part sent (task_text task) × IsAccountedTask task)
     ⊎ ((refusal : Refusal) × Cause told words refusal × Part sent (refusal_line refusal))
 
 -- an answer is this one, or 7 for want of memory
