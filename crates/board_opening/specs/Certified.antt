@@ -23,7 +23,7 @@ use Rattle.kernel_model.specs.Replay.{after_all, chosen, history}
 use Rattle.kernel_model.specs.Causes.{AllHaveCauses}
 use Rattle.kernel_model.specs.Lives.{BlocksAreApart, IsAsAtFirst}
 use Rattle.kernel_laws.specs.Alarms.{takes_time}
-use Rattle.kernel_laws.specs.Inputs.{HasRoom, KeepsInput, bytes_arriving, inputs_told, ring_in}
+use Rattle.kernel_laws.specs.Inputs.{HasRoom, KeepsInput, RingHasTheLast, bytes_arriving, inputs_told, ring_in}
 use Rattle.kernel_laws.specs.OneRun.{NothingIsLeft}
 use Rattle.kernel_laws.specs.Words.{of_lane, words_told}
 use Rattle.kernel_histories.specs.Drops.{drops_of}
@@ -103,6 +103,12 @@ InputFromBootIsKept = (script : Script) (flash : List ℕ) (choices : List Choic
     KeepsInput [] (bytes_arriving (arrivals_in w choices))
     (inputs_told (of_lane script.partition lane (labels_of_all w choices)))
     (ring_in lane (after_all w choices).devices) (Throughout (HasRoom lane) w choices)
+
+-- and each step among these choices leaves in the ring of a lane the last of what stood in it and of what came in, but
+-- for the first bytes of that, which it read
+abbrev pub RingsFromBootHaveTheLast : Type 0
+RingsFromBootHaveTheLast = (script : Script) (flash : List ℕ) (choices : List Choice) (lane : ℕ) →
+    lane < lane_count script.partition → Throughout (RingHasTheLast lane) (opening script flash) choices
 
 -- a write that begins to wait in a step after any choices from a boot, and waits after each of the next ones, prints
 -- the first bytes of its buffer, and completes truly

@@ -10,7 +10,7 @@ ghost use Rattle.board_opening.specs.Certified.{BlocksFromBootAreApart, ChangesF
 ghost use Rattle.board_opening.specs.Certified.{CountsFromBootAddUp, DropsFromBootAddUp};
 ghost use Rattle.board_opening.specs.Certified.{EachFromBoot};
 ghost use Rattle.board_opening.specs.Certified.{EachLabelFromBoot};
-ghost use Rattle.board_opening.specs.Certified.{InputFromBootIsKept};
+ghost use Rattle.board_opening.specs.Certified.{InputFromBootIsKept, RingsFromBootHaveTheLast};
 ghost use Rattle.board_opening.specs.Certified.{IsDoneFromBoot, ListsFromBootAreOfRequests};
 ghost use Rattle.board_opening.specs.Certified.{ReadsFromBootGiveStorage};
 ghost use Rattle.board_opening.specs.Certified.{RequestsFromBootBeginByCommands};
@@ -104,9 +104,11 @@ pub fn words_from_boot_are_the_scripts()
 /// Whatever choices are made after a boot, what processes are told that came in on the serial line,
 /// in that order, and then what is left in the ring, is what remains of what came in, in its order;
 /// with time partitions so it is of each slot. It is all that came in where the ring never
-/// overflowed.
+/// overflowed. Each step leaves in the ring the last of what stood in it and came in, as many bytes
+/// as it holds, but for the first of these, which it read.
 pub fn input_from_boot_is_kept()
-    ensures { InputFromBootIsKept }
+    ensures kept { InputFromBootIsKept }
+    ensures rings { RingsFromBootHaveTheLast }
 {
     input_is_kept();
 }

@@ -7,7 +7,8 @@ use Rattle.std.specs.List.{cons_option}
 use Rattle.std.specs.Option.{option_map}
 use Rattle.std.specs.Prelude.{unwrap_or}
 use Rattle.std.proofs.lemmas.Bool.{false≢true}
-use Rattle.std.proofs.lemmas.List.{append_assoc, append-nil, get_or-set_other, length-append, length-map, length-set}
+use Rattle.std.proofs.lemmas.List.{append_assoc, append-nil, get_or-set_other, length-append, length-drop}
+use Rattle.std.proofs.lemmas.List.{length-map, length-set}
 use Rattle.tk_base.specs.declared.limits.TheConstants.{RING_SIZE}
 use Rattle.tk_base.specs.declared.process.Choice.{Choice}
 use Rattle.tk_base.specs.declared.process.Choice.TheVariants.{Run, Device, Pass}
@@ -28,7 +29,7 @@ use Rattle.kernel_model.specs.Turn.{Taken, WriteDone, turned}
 use Rattle.kernel_model.specs.World.{Answer, DeviceAnswer, DeviceStep, Devices, Label, Stepped, World, acted, after}
 use Rattle.kernel_model.specs.World.{answer_label, answering, arrived, carried_out, coming_in, device_step_of, done}
 use Rattle.kernel_model.specs.World.{is_ready, labels, labels_told, lane_in, only_for, operating, queue_without, ran}
-use Rattle.kernel_model.specs.World.{random_step, receive_step, routed, serving, stepped, storing, telling_edge}
+use Rattle.kernel_model.specs.World.{random_step, receive_step, routed, stepped, storing, telling_edge}
 use Rattle.kernel_model.specs.World.{telling_nobody}
 use Rattle.kernel_model.specs.World.{transmitting, turn_label, unmade, with_queue}
 use Rattle.kernel_model.specs.Parts.{acting_on, acts_of, alarmed, drawn_event, served_by, slot_of_name}
@@ -39,9 +40,10 @@ use Rattle.kernel_model.specs.Edges.{arrival_in, arrivals_in, first_for}
 use Rattle.kernel_model.specs.Replay.{after_all}
 use Rattle.kernel_model.proofs.Told.{done_one, edge_answer, of_device as of_each_device, told_labels, with_rest}
 use Rattle.kernel_model.proofs.Places.{of_stepped, stepped_else, stepped_ready}
-use Rattle.kernel_laws.specs.Inputs.{HasRoom, InputIsKept, IsSubsequence, KeepsInput}
-use Rattle.kernel_laws.specs.Inputs.{bytes_arriving, bytes_in, input_in, input_told, inputs_told, ring_in}
+use Rattle.kernel_laws.specs.Inputs.{HasRoom, InputIsKept, IsSubsequence, IsTheLast, KeepsInput, RingsHaveTheLast}
+use Rattle.kernel_laws.specs.Inputs.{bytes_arriving, bytes_in, input_in, input_told, inputs_told, last_of, ring_in}
 use Rattle.kernel_laws.specs.Words.{of_lane}
+use Rattle.kernel_laws.proofs.Devices.{of_serving}
 use Rattle.kernel_laws.proofs.Lanes.{lane_joined, one_silent, served_here, tells_none}
 
 -- bytes of which none was taken out, or the first ones were
@@ -76,18 +78,43 @@ remain_of xs ys (z ∷ zs) h (inr g) =
     by_head (inl f) later = inl (later xs f)
     by_head (inr f) later = inr (f.0, (f.1.0, later f.0 f.1.1))
 
--- what is kept exactly is kept
-exactly : (before arrived read left : List ℕ) (Roomy : Type 0) → read ++ left ≡ before ++ arrived
-    → KeepsInput before arrived read left Roomy
-exactly before arrived read left Roomy e =
-    record { kept = subst (IsSubsequence (read ++ left)) e (all_remain (read ++ left)); whole = λ roomy. e }
+-- What a step keeps of the input of a lane, which is there where something holds: all of it where the ring has room,
+-- and else the last of it.
+record KeepsLast (before came read later : List ℕ) (There : Type 0) : Type 0 where
+  input : KeepsInput before came read later (There × (length before + length came ≤ RING_SIZE))
+  last : There → length before ≤ RING_SIZE → IsTheLast before came read later
+
+-- the last of a few bytes are all of them
+all_last : (n : ℕ) (xs : List ℕ) → length xs ≤ n → last_of n xs ≡ xs
+all_last n xs few = let none : length xs - n ≡ 0 = omega (arith, few) in ap (λ (k : ℕ). drop k xs) none
+
+-- what is kept exactly is kept, where nothing comes in
+exactly : (before read left : List ℕ) (There : Type 0) → read ++ left ≡ before
+    → KeepsLast before [] read left There
+exactly before read left There e =
+    let same : read ++ left ≡ before ++ [] = e ∙ sym (append-nil before) in
+    record {
+      input = record {
+        kept = subst (IsSubsequence (read ++ left)) same (all_remain (read ++ left));
+        whole = λ roomy. same;
+      };
+      last = λ there few.
+          let many : length (read ++ left) ≡ length before = ap (λ (xs : List ℕ). length xs) e in
+          record {
+            is = same ∙ sym (all_last RING_SIZE (before ++ []) (omega (arith, few, length-append before [])));
+            few = omega (arith, few, many, length-append read left);
+          };
+    }
 
 -- bytes that come in at a ring, of which the newest are kept
 into_ring : (lines : List SerialLine) (lane : ℕ) (bytes : List ℕ) →
     let ring = (line_at lane lines).ring in
-    KeepsInput ring bytes [] (line_at lane (map (with_input bytes) lines)).ring
-    ((lane < length lines) × (length ring + length bytes ≤ RING_SIZE))
-into_ring [] lane bytes = record { kept = nothing bytes; whole = λ h. absurd (omega (arith, h.0)) }
+    KeepsLast ring bytes [] (line_at lane (map (with_input bytes) lines)).ring (lane < length lines)
+into_ring [] lane bytes =
+    record {
+      input = record { kept = nothing bytes; whole = λ h. absurd (omega (arith, h.0)) };
+      last = λ there few. absurd (omega (arith, there));
+    }
   where
     nothing : (xs : List ℕ) → IsSubsequence [] xs
     nothing [] = refl
@@ -95,14 +122,21 @@ into_ring [] lane bytes = record { kept = nothing bytes; whole = λ h. absurd (o
 into_ring (line ∷ lines) zero bytes =
     let all = line.ring ++ bytes in
     record {
-      kept = last_remain (length all - RING_SIZE) all;
-      whole = λ h.
-          let none : length all - RING_SIZE ≡ 0 = omega (arith, h.1, length-append line.ring bytes) in
-          ap (λ (n : ℕ). drop n all) none;
+      input = record {
+        kept = last_remain (length all - RING_SIZE) all;
+        whole = λ h. all_last RING_SIZE all (omega (arith, h.1, length-append line.ring bytes));
+      };
+      last = λ there few. record {
+        is = refl;
+        few = omega (arith, length-drop (length all - RING_SIZE) all);
+      };
     }
 into_ring (line ∷ lines) (suc lane) bytes =
     let later = into_ring lines lane bytes in
-    record { kept = later.kept; whole = λ h. later.whole (omega (arith, h.0), h.1) }
+    record {
+      input = record { kept = later.input.kept; whole = λ h. later.input.whole (omega (arith, h.0), h.1) };
+      last = λ there few. later.last (omega (arith, there)) few;
+    }
 
 -- what stands in a ring after another line was put at a place
 put_there : (lines : List SerialLine) (i : ℕ) (line : SerialLine) → (length lines ≤ i → line.ring ≡ [])
@@ -177,13 +211,13 @@ module _ (w : World) (lane : ℕ) where
   -- a step by which bytes come in, or none, keeps the input of the lane
   abbrev Keeps : List ℕ → Stepped → Type 0
   Keeps bytes s =
-      KeepsInput ring bytes (inputs_told (of_lane w.pace.window lane s.labels)) (ring_in lane s.after.devices)
-      ((lane < length w.devices.lines) × (length ring + length bytes ≤ RING_SIZE))
+      KeepsLast ring bytes (inputs_told (of_lane w.pace.window lane s.labels)) (ring_in lane s.after.devices)
+      (lane < length w.devices.lines)
 
   -- where nothing comes in, nothing is told, and the ring stays
-  quietly : (read left : List ℕ) (Roomy : Type 0) → read ≡ [] → left ≡ ring → KeepsInput ring [] read left Roomy
-  quietly read left Roomy none same =
-      exactly ring [] read left Roomy (ap₂ (λ (xs ys : List ℕ). xs ++ ys) none same ∙ sym (append-nil ring))
+  quietly : (read left : List ℕ) (There : Type 0) → read ≡ [] → left ≡ ring → KeepsLast ring [] read left There
+  quietly read left There none same =
+      exactly ring read left There (ap₂ (λ (xs ys : List ℕ). xs ++ ys) none same)
 
   idle : Keeps [] (unmade w)
   idle = quietly [] ring _ refl refl
@@ -197,7 +231,7 @@ module _ (w : World) (lane : ℕ) where
   reads : (slot : ℕ) (r : Record) → served_by w dev.Receive ≡ Some slot
       → Keeps [] (one_answered w slot r (receive_step (lane_in w) w.devices slot r))
   reads slot r first =
-      exactly ring [] _ _ _ (by_lane (lane_by (only_for w.pace.window slot) == lane) refl ∙ sym (append-nil ring))
+      exactly ring _ _ _ (by_lane (lane_by (only_for w.pace.window slot) == lane) refl)
     where
       here : lane_by (only_for w.pace.window slot) ≡ lane_in w
       here = served_here w.clock.time w.pace.window slot (slots_in Reads w.devices.waiting) first
@@ -230,17 +264,6 @@ module _ (w : World) (lane : ℕ) where
       by_lane false is =
           ap (λ (x : SerialLine). x.ring) (get_or-set_other w.devices.lines (lane_in w) lane rest _
           (λ same. false≢true (sym is ∙ eq-eqb (lane_by (only_for w.pace.window slot)) lane (here ∙ sym same))))
-
-  of_serving : (make : ℕ → Record → DeviceAnswer) (served : Option ℕ)
-      → ((slot : ℕ) (r : Record) → served ≡ Some slot → Keeps [] (one_answered w slot r (make slot r)))
-      → Keeps [] (done w (serving w.records make served))
-  of_serving make None each = idle
-  of_serving make (Some slot) each = by_record (slice_get w.records slot) refl
-    where
-      by_record : (o : Option Record) → slice_get w.records slot ≡ o
-          → Keeps [] (done w (option_map (λ (r : Record). answering slot (make slot r)) o))
-      by_record None e = idle
-      by_record (Some r) e = subst (Keeps []) (sym (done_one w slot (make slot r) r e)) (each slot r refl)
 
   -- a step that tells nobody of input
   tells_no_input : (deed : DeviceStep)
@@ -287,8 +310,8 @@ module _ (w : World) (lane : ℕ) where
           let deed = coming_in (script.Input bytes) w.records (with_rest w.devices rest) in
           let none = tells_no_input deed (λ at a is. absurd (cc)) in
           subst (λ (bs : List ℕ). Keeps bs (done w (Some deed))) (sym (append-nil bytes))
-          (subst (λ (read : List ℕ). KeepsInput ring bytes read (ring_in lane deed.devices)
-          ((lane < length w.devices.lines) × (length ring + length bytes ≤ RING_SIZE))) (sym none)
+          (subst (λ (read : List ℕ). KeepsLast ring bytes read (ring_in lane deed.devices)
+          (lane < length w.devices.lines)) (sym none)
           (into_ring w.devices.lines lane bytes))
       by_kind (script.Press button) = of_edge button true rest
       by_kind (script.Release button) = of_edge button false rest
@@ -300,20 +323,20 @@ module _ (w : World) (lane : ℕ) where
       (done w (device_step_of w device))
   of_device dev.Event = of_arrived w.devices.arrivals
   of_device dev.Alarm =
-      of_serving (λ slot r. alarmed w.settings w.clock.time w.devices) (served_by w dev.Alarm)
+      of_serving w (Keeps []) idle (λ slot r. alarmed w.settings w.clock.time w.devices) (served_by w dev.Alarm)
       (λ slot r first. answers_quietly slot r (alarmed w.settings w.clock.time w.devices) refl refl)
   of_device dev.Uart =
-      of_serving (transmitting (lane_in w) w.clock.time w.devices) (served_by w dev.Uart)
+      of_serving w (Keeps []) idle (transmitting (lane_in w) w.clock.time w.devices) (served_by w dev.Uart)
       (λ slot r first. answers_quietly slot r (transmitting (lane_in w) w.clock.time w.devices slot r)
       (sent_none (console.sent (flash_of r) r.own).completed)
       (put_same w.devices.lines (lane_in w) lane _ refl))
   of_device dev.Receive =
-      of_serving (receive_step (lane_in w) w.devices) (served_by w dev.Receive) reads
+      of_serving w (Keeps []) idle (receive_step (lane_in w) w.devices) (served_by w dev.Receive) reads
   of_device dev.Random =
-      of_serving (random_step (lane_in w) w.devices) (served_by w dev.Random)
+      of_serving w (Keeps []) idle (random_step (lane_in w) w.devices) (served_by w dev.Random)
       (λ slot r first. answers_quietly slot r (random_step (lane_in w) w.devices slot r) (drawn_none _) refl)
   of_device dev.Store =
-      of_serving (storing (lane_in w) w.devices) (served_by w dev.Store)
+      of_serving w (Keeps []) idle (storing (lane_in w) w.devices) (served_by w dev.Store)
       (λ slot r first. answers_quietly slot r (storing (lane_in w) w.devices slot r) refl refl)
 
   of_choice : (choice : Choice)
@@ -330,16 +353,16 @@ module _ (w : World) (lane : ℕ) where
   of_choice (Device device) = of_device device
   of_choice (Pass ticks) = quietly [] ring _ refl refl
 
-  step_keeps : (choice : Choice) → KeepsInput ring (bytes_arriving (option_to_list (arrival_in w choice)))
+  step_keeps : (choice : Choice) → KeepsLast ring (bytes_arriving (option_to_list (arrival_in w choice)))
       (inputs_told (of_lane w.pace.window lane (labels w choice))) (ring_in lane (after w choice).devices)
-      ((lane < length w.devices.lines) × HasRoom lane w choice)
+      (lane < length w.devices.lines)
   step_keeps choice = by_ready (is_ready w choice) refl
     where
       by_ready : (b : Bool) → is_ready w choice ≡ b →
           let arrived = bytes_arriving (option_to_list (cond b (first_for choice w.devices.arrivals) None)) in
-          KeepsInput ring arrived
+          KeepsLast ring arrived
           (inputs_told (of_lane w.pace.window lane (labels w choice))) (ring_in lane (after w choice).devices)
-          ((lane < length w.devices.lines) × (length ring + length arrived ≤ RING_SIZE))
+          (lane < length w.devices.lines)
       by_ready true e =
           subst (Keeps (bytes_arriving (option_to_list (first_for choice w.devices.arrivals))))
           (sym (stepped_ready w choice e)) (of_choice choice)
@@ -417,7 +440,7 @@ input_is_kept w [] lane =
     }
 input_is_kept w (choice ∷ choices) lane =
     let v = after w choice in
-    let both = kept_on _ _ _ _ _ _ _ _ _ (step_keeps w lane choice) (input_is_kept v choices lane) in
+    let both = kept_on _ _ _ _ _ _ _ _ _ (step_keeps w lane choice).input (input_is_kept v choices lane) in
     let comes = bytes_joined (arrival_in w choice) (arrivals_in v choices) in
     let tells = lane_joined input_told w choice choices lane in
     record {
@@ -432,3 +455,9 @@ input_is_kept w (choice ∷ choices) lane =
           ∙ both.whole ((roomy.0, roomy.1.0), (there, roomy.1.1))
           ∙ ap (λ (bytes : List ℕ). ring_in lane w.devices ++ bytes) (sym comes);
     }
+
+pub rings_have_the_last : RingsHaveTheLast
+rings_have_the_last w [] lane there few = tt
+rings_have_the_last w (choice ∷ choices) lane there few =
+    let last = (step_keeps w lane choice).last there few in
+    (last, rings_have_the_last (after w choice) choices lane (omega (arith, there, as_many w choice)) last.few)

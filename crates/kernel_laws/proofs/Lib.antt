@@ -26,6 +26,7 @@ mod Queues
 mod Tables
 mod Lanes
 mod Words
+mod Devices
 mod Inputs
 pub mod Values
 pub mod Commands

@@ -306,7 +306,7 @@ flag_inbox at byte own = by_place (lies_in_ram own.layout at 1)
     by_place false = refl
 
 -- what a step of a driver leaves, which leaves what was scheduled
-step_inbox : (step : DriverStep) (inbox : Inbox) → step.own.inbox ≡ inbox
+pub step_inbox : (step : DriverStep) (inbox : Inbox) → step.own.inbox ≡ inbox
     → (own_after step).inbox ≡ scheduled_if (scheduled_by step) inbox
 step_inbox step inbox same = by_upcall step.schedules
   where

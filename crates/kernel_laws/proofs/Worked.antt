@@ -67,6 +67,14 @@ use Rattle.kernel_model.specs.World.{Label}
 use Rattle.kernel_model.specs.Worked.{asks, turn_of}
 use Rattle.driver_model.specs.Commands.{Writes}
 use Rattle.kernel_laws.specs.Alarms.{IsDue, IsLeastLeft}
+use Rattle.kernel_laws.specs.Devices.{ChangesItsOwn, SpeaksSo}
+use Rattle.kernel_laws.specs.Inputs.{HasRoom, IsTheLast, KeepsInput}
+use Rattle.kernel_model.specs.Choices.{Throughout}
+use Rattle.kernel_model.specs.Turn.{Input, Taken, Word, WriteDone}
+use Rattle.kernel_model.specs.World.{Devices}
+use Rattle.board_devices.specs.SerialLine.{line_at}
+use Rattle.std.proofs.Common.{◌++◌, ◌∙◌}
+use Rattle.std.proofs.lemmas.List.Elements.{All-cons, All-head, All-nil}
 use Rattle.kernel_laws.specs.Arming.{SetsAlarm, SetsBy, SetsButtons}
 use Rattle.kernel_laws.specs.OneRun.{NothingIsLeft}
 use Rattle.kernel_laws.specs.Passes.{NoneIsReadyBefore}
@@ -407,6 +415,57 @@ more_taken = refl
 
 none_shorter : GoesOnAs Writes (record { length = 7; taken = 0 }) (record { length = 6; taken = 2 }) → ⊥
 none_shorter goes = let length = ap (λ (q : WaitingWrite). q.length) goes in omega (arith, length)
+
+-- A ring that is full, at which a byte comes in: the oldest goes; a kernel that drops the newest, and one that reads
+-- out of the middle.
+loses_oldest : IsTheLast (replicate 256 1) (2 ∷ []) [] (replicate 255 1 ++ 2 ∷ [])
+loses_oldest = record { is = refl; few = omega arith }
+
+none_loses_newest : IsTheLast (replicate 256 1) (2 ∷ []) [] (replicate 256 1) → ⊥
+none_loses_newest last =
+    let newest : 1 ≡ 2 = ap (λ (bytes : List ℕ). slice_index_or bytes 255 0) last.is in omega (arith, newest)
+
+none_reads_the_middle : IsTheLast (5 ∷ 6 ∷ []) [] (6 ∷ []) (5 ∷ []) → ⊥
+none_reads_the_middle last = by_first last.is
+  where
+    by_first : ◌≡◌ {A = List ℕ} (6 ∷ 5 ∷ []) (5 ∷ 6 ∷ []) → ⊥
+    by_first same = cc
+
+-- Of two bytes that stood in a ring one was read; a kernel that reads the later one first.
+one_is_read : KeepsInput (1 ∷ 2 ∷ []) [] (1 ∷ []) (2 ∷ []) (Throughout (HasRoom 0) reads [])
+one_is_read = record { kept = inr (2 ∷ [], (refl, inr ([], (refl, refl)))); whole = λ roomy. refl }
+
+none_reads_later_first : KeepsInput (1 ∷ 2 ∷ []) [] (2 ∷ []) (1 ∷ []) (Throughout (HasRoom 0) reads []) → ⊥
+none_reads_later_first keeps = by_first (keeps.whole tt)
+  where
+    by_first : ◌≡◌ {A = List ℕ} (2 ∷ 1 ∷ []) (1 ∷ 2 ∷ []) → ⊥
+    by_first same = cc
+
+-- A device: a word that is drawn is told as one, and taken off those that are left; a UART that tells of input, and a
+-- word for which a ring is emptied.
+draws_alone : ChangesItsOwn dev.Random draws (after draws (Device dev.Random)) (labels draws (Device dev.Random))
+unfolding draws apply stepped carried_out may_be_made counts_of drivers shape_of random.answered
+draws_alone = record {
+  speaks = All-cons (λ label. SpeaksSo dev.Random label.event) (record (named 0) { event = Word 0x04030201 }) []
+      (inl (0x04030201, refl)) (All-nil (λ label. SpeaksSo dev.Random label.event));
+  devices = refl;
+}
+
+none_tells_input : (w v : World) → ChangesItsOwn dev.Uart w v (record (named 0) { event = Input [] } ∷ []) → ⊥
+none_tells_input w v changes =
+    by_event (All-head (λ label. SpeaksSo dev.Uart label.event) (record (named 0) { event = Input [] }) [] changes.speaks)
+  where
+    by_event : (Input [] ≡ Taken) ⊎ (Input [] ≡ WriteDone) → ⊥
+    by_event (inl taken) = cc
+    by_event (inr written) = cc
+
+none_empties_ring : (v : World) → (line_at 0 v.devices.lines).ring ≡ [] → ChangesItsOwn dev.Random reads v [] → ⊥
+unfolding reads
+none_empties_ring v empty changes =
+    by_ring (sym empty ∙ ap (λ (d : Devices). (line_at 0 d.lines).ring) changes.devices)
+  where
+    by_ring : ◌≡◌ {A = List ℕ} [] (5 ∷ 6 ∷ 7 ∷ []) → ⊥
+    by_ring same = cc
 
 -- A byte of the storage, past what the buffer reaches that is held: the request is for two bytes, the buffer has one.
 abbrev holds_one : Record

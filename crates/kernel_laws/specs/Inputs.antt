@@ -1,6 +1,6 @@
 -- That input is kept, which is this board's own rule: what comes in on the serial line is read in its order, and lost
 -- only where a ring overflows.
-use Rattle.std.specs.Prelude.{◌≡◌, ◌⊎◌, ◌≤◌, ◌<◌, ℕ, ◌+◌, List, [], ◌∷◌, ◌++◌, length, option_to_list}
+use Rattle.std.specs.Prelude.{◌≡◌, ◌⊎◌, ◌≤◌, ◌<◌, ℕ, ◌+◌, ◌-◌, List, [], ◌∷◌, ◌++◌, drop, length, option_to_list}
 use Rattle.std.specs.List.{flat_map}
 use Rattle.tk_base.specs.declared.limits.TheConstants.{RING_SIZE}
 use Rattle.tk_base.specs.declared.process.Choice.{Choice}
@@ -11,7 +11,7 @@ use Rattle.kernel_model.specs.Choices.{Throughout, labels_of_all}
 use Rattle.kernel_model.specs.Edges.{arrival_in, arrivals_in}
 use Rattle.kernel_model.specs.Replay.{after_all}
 use Rattle.kernel_model.specs.Turn.{Event, Input}
-use Rattle.kernel_model.specs.World.{Devices, Label, World}
+use Rattle.kernel_model.specs.World.{Devices, Label, World, after, labels}
 use Rattle.kernel_laws.specs.Words.{of_lane}
 
 -- the bytes that come in on the serial line by a script event; none by a button or an operator
@@ -69,3 +69,26 @@ InputIsKept = (w : World) (choices : List Choice) (lane : ℕ) →
     KeepsInput (ring_in lane w.devices) (bytes_arriving (arrivals_in w choices))
     (inputs_told (of_lane w.pace.window lane (labels_of_all w choices))) (ring_in lane v.devices)
     (NeverOverflows lane w choices)
+
+-- the last so many of some bytes
+abbrev pub last_of : ℕ → List ℕ → List ℕ
+last_of n bytes = drop (length bytes - n) bytes
+
+-- Of a ring before a step, of what came in and what was read by it, and of the ring later: what was read, and then what
+-- is in the ring later, is the last of what stood there and of what came in, as many bytes as a ring holds; and it
+-- holds no more. So what an overflow loses is the oldest, and no more of it than there is no room for.
+pub record IsTheLast (before came read later : List ℕ) : Type 0 where
+  pub is : read ++ later ≡ last_of RING_SIZE (before ++ came)
+  pub few : length later ≤ RING_SIZE
+
+-- so a step leaves the ring of a lane
+abbrev pub RingHasTheLast : ℕ → World → Choice → Type 0
+RingHasTheLast lane w choice =
+    IsTheLast (ring_in lane w.devices) (bytes_arriving (option_to_list (arrival_in w choice)))
+    (inputs_told (of_lane w.pace.window lane (labels w choice))) (ring_in lane (after w choice).devices)
+
+-- Whatever choices are made, where the ring of a lane that is there held no more than it may: each of these steps leaves
+-- it so.
+abbrev pub RingsHaveTheLast : Type 0
+RingsHaveTheLast = (w : World) (choices : List Choice) (lane : ℕ) → lane < length w.devices.lines →
+    length (ring_in lane w.devices) ≤ RING_SIZE → Throughout (RingHasTheLast lane) w choices

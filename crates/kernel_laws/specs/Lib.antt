@@ -17,5 +17,6 @@ pub mod Passes
 pub mod Arming
 pub mod Restarting
 pub mod Withdrawing
+pub mod Devices
 pub mod Alone
 pub mod Breaks

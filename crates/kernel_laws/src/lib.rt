@@ -15,8 +15,9 @@ pub use rounds::{
 };
 pub use steps::{
     alarms_and_buttons_are_set_by_commands, breaks_are_moved, deliveries_stand_in_registers,
-    grants_change_at_calls, input_is_kept, only_ready_processes_have_turns,
-    queues_are_first_come_first_served, refusals_change_little, replies_stand_in_registers,
-    requests_are_as_asked, requests_are_not_lost, restarts_are_made, tables_name_the_same_drivers,
-    time_comes_in_by_the_alarm, turns_keep_lines, words_are_drawn_in_order,
+    devices_change_their_own, grants_change_at_calls, input_is_kept,
+    only_ready_processes_have_turns, queues_are_first_come_first_served, refusals_change_little,
+    replies_stand_in_registers, requests_are_as_asked, requests_are_not_lost, restarts_are_made,
+    tables_name_the_same_drivers, time_comes_in_by_the_alarm, turns_keep_lines,
+    words_are_drawn_in_order,
 };

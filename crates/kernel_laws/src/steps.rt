@@ -10,7 +10,8 @@ ghost use Rattle.kernel_laws.specs.Asking.{CommandsAsk, RequestsAreAsAsked};
 ghost use Rattle.kernel_laws.specs.Breaks.{BreaksAreMoved};
 ghost use Rattle.kernel_laws.specs.Clock.{TimeComesInByTheAlarm};
 ghost use Rattle.kernel_laws.specs.Delivered.{DeliveriesAreSeen};
-ghost use Rattle.kernel_laws.specs.Inputs.{InputIsKept};
+ghost use Rattle.kernel_laws.specs.Devices.{DevicesChangeTheirOwn};
+ghost use Rattle.kernel_laws.specs.Inputs.{InputIsKept, RingsHaveTheLast};
 ghost use Rattle.kernel_laws.specs.Queues.{FirstAreServed, QueuesKeepOrder};
 ghost use Rattle.kernel_laws.specs.Ready.{TurnsAreOfReadyProcesses, TurnsAreOfThose};
 ghost use Rattle.kernel_laws.specs.Ready.{UnreadyTurnsDoNothing};
@@ -78,9 +79,21 @@ pub fn words_are_drawn_in_order()
 /// Input is kept: whatever choices are made, what the processes of a lane are told that came in on
 /// the serial line, in that order, and then what is left in the ring of the lane, is what remains
 /// of what stood in the ring and what came in by these choices, in its order. It is all of that
-/// where the ring never overflowed.
+/// where the ring never overflowed. Each of these steps leaves in a ring that is there, and not
+/// fuller than it may be, the last of what stood in it and came in, but for what it read of that,
+/// the first bytes: so an overflow loses the oldest bytes, and no more than there is no room for.
 pub fn input_is_kept()
-    ensures { InputIsKept }
+    ensures kept { InputIsKept }
+    ensures rings { RingsHaveTheLast }
+{}
+
+/// A device speaks to processes by its own events alone, and changes its own queue and its own part
+/// of the lane that serves, in every step, whoever makes the choices: an alarm that fires nothing,
+/// the UART how long it sends, a read the ring, a random word the words that are left, a storage
+/// request how many were served. All else of the devices is as it was. Bytes that come in change the
+/// rings, and an operator's act who waits.
+pub fn devices_change_their_own()
+    ensures { DevicesChangeTheirOwn }
 {}
 
 /// Time comes into a turn by the alarm alone: one that makes no command to the alarm leaves, tells
