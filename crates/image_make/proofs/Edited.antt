@@ -1,19 +1,25 @@
 -- What an edit of one object leaves of an image.
 use Rattle.std.proofs.Common.{◌≡◌, ℕ, ◌+◌, ◌-◌, ◌<◌, ◌≤◌, ◌==◌, Bool, true, false, cond, ◌⊎◌, inl, inr, List, map}
 use Rattle.std.proofs.Common.{length, drop, slice_index, Option, Some, None, option_and_then, Result, Ok, refl, sym, ap}
+use Rattle.std.proofs.Common.{◌≢◌, ◌/◌, ◌%◌, [], ◌∷◌, is_some}
+use Rattle.std.specs.Prelude.{IsSomeAnd}
+use Rattle.std.specs.Option.{option_map_or}
 use Rattle.std.proofs.Common.{◌∙◌, subst, arith}
-use Rattle.std.proofs.lemmas.Bool.{eqb-true, cases_lt}
+use Rattle.std.proofs.lemmas.Bool.{eqb-true, eq-eqb, ne_eqb, cases_lt, cond-true, false≢true}
 use Rattle.std.proofs.lemmas.List.{get_or-take, get_or-drop}
+use Rattle.tk_base.specs.declared.access.TheConstants.{FLASH_START}
 use Rattle.tk_base.specs.declared.access.Width.TheVariants.{Half, Word}
 use Rattle.tk_base.specs.Bus.{put}
 use Rattle.tk_base.specs.Numbers.{rounded_up}
 use Rattle.tk_base.specs.Laws.{AStoreIsPut}
 use Rattle.tbf_headers.specs.declared.fault.HeaderFault.{HeaderFault}
+use Rattle.tbf_headers.specs.declared.program.Main.{Main}
 use Rattle.tbf_headers.specs.Numbers.{half, word_at}
 use Rattle.tbf_headers.specs.Tlv.{length_at}
 use Rattle.tbf_headers.specs.Meaning.{Meaning, header_reading, meaning_of, header_of}
 use Rattle.flash_walk.specs.declared.found.Found.{Found}
-use Rattle.flash_walk.specs.Image.{objects}
+use Rattle.flash_walk.specs.declared.found.Verdict.TheVariants.{App, BadEntry, Disabled, Padding, WrongFlash}
+use Rattle.flash_walk.specs.Image.{app_verdict, objects, verdict_of}
 use Rattle.image_make.specs.Edits.{with_enabled, with_flags, mended, replaced, padded, renamed}
 use Rattle.image_make.specs.Parts.{name_place}
 use Rattle.image_make.specs.Images.{with_reading}
@@ -26,7 +32,7 @@ use Rattle.image_make.proofs.Likeness.{IsLike, half_below, word_below, like_join
 use Rattle.image_make.proofs.Readings.{mended_like, flags_are_read, take_bytes, sound_where_read}
 use Rattle.image_make.proofs.Renames.{named, names_are_read, drop_bytes}
 use Rattle.image_make.proofs.Walked.{one_object_changes, replaced_like, byte_inside, byte_before, byte_after}
-use Rattle.image_make.proofs.Walked.{found_passes}
+use Rattle.image_make.proofs.Walked.{found_passes, object_replaced}
 use Rattle.image_make.proofs.Sound.{sound_is}
 
 bytes_are : (flash : List ℕ) (f : Found) → AreBytes flash → AreBytes (found_bytes f flash)
@@ -125,6 +131,64 @@ edit_leaves flash at f object m w made =
       walked = walked_again flash at f object m w.found made;
     }
 
+-- the object at an offset is found still, with the verdict of what its header is read as
+found_with : (found : List Found) (at : ℕ) (r : Result Meaning HeaderFault) (f : Found)
+    → object_found at found ≡ Some f
+    → object_found at (map (with_reading at r) found) ≡ Some (record f { verdict = verdict_of (FLASH_START + at) r })
+found_with [] at r f e = absurd (cc)
+found_with (x ∷ xs) at r f e = by_test (x.offset == at) refl e (found_with xs at r f)
+  where
+    with_verdict : Found → Found
+    with_verdict g = record g { verdict = verdict_of (FLASH_START + at) r }
+
+    rest : Option Found
+    rest = object_found at (map (with_reading at r) xs)
+
+    shown : Bool → Option Found
+    shown b = let y = cond b (with_verdict x) x in cond (y.offset == at) (Some y) rest
+
+    by_test : (b : Bool) → (x.offset == at) ≡ b → cond b (Some x) (object_found at xs) ≡ Some f
+        → (object_found at xs ≡ Some f → rest ≡ Some (with_verdict f))
+        → shown (x.offset == at) ≡ Some (with_verdict f)
+    by_test true is found later =
+        let same : x ≡ f = cc in
+        ap shown is ∙ ap (λ (b : Bool). cond b (Some (with_verdict x)) rest) is
+        ∙ ap (λ (g : Found). Some (with_verdict g)) same
+    by_test false is found later = ap shown is ∙ ap (λ (b : Bool). cond b (Some x) rest) is ∙ later found
+
+-- the flags of a header that is read
+flags_read : (bytes : List ℕ) (m : Meaning) → header_reading bytes ≡ Ok m → word_at bytes 8 ≡ m.flags
+unfolding meaning_of
+flags_read bytes m read = ap (λ (x : Meaning). x.flags) (sound_where_read bytes m read).1
+
+-- bit 0 is another, and no other bit
+one_bit : (on : Bool) (flags : ℕ)
+    → (with_enabled on flags % 2 ≡ cond on 1 0) × (with_enabled on flags / 2 ≡ flags / 2)
+one_bit true flags = (omega arith, omega arith)
+one_bit false flags = (omega arith, omega arith)
+
+-- so one that has an entry is disabled, or is not
+even_verdict : (start : ℕ) (h : Meaning) → h.flags % 2 ≡ 0 → is_some h.main ≡ true → verdict_of start (Ok h) ≡ Disabled
+even_verdict start h even some = by_main h.main some
+  where
+    by_main : (m : Option Main) → is_some m ≡ true → option_map_or (app_verdict start h) m Padding ≡ Disabled
+    by_main None none = absurd (false≢true none)
+    by_main (Some m) is = cond-true _ _ _ (eq-eqb (h.flags % 2) 0 even)
+
+none_disabled : (even bad wrong : Bool) → even ≡ false
+    → cond even Disabled (cond bad BadEntry (cond wrong WrongFlash App)) ≢ Disabled
+none_disabled true bad wrong is e = false≢true (sym is)
+none_disabled false true wrong is e = cc
+none_disabled false false true is e = cc
+none_disabled false false false is e = cc
+
+odd_verdict : (start : ℕ) (h : Meaning) → h.flags % 2 ≡ 1 → verdict_of start (Ok h) ≢ Disabled
+odd_verdict start h odd = by_main h.main
+  where
+    by_main : (m : Option Main) → option_map_or (app_verdict start h) m Padding ≢ Disabled
+    by_main None e = cc
+    by_main (Some m) e = none_disabled _ _ _ (ne_eqb (h.flags % 2) 0 (λ none. omega (arith, none, odd))) e
+
 pub enabled_is_walked : AStoreIsPut → EnabledIsWalked
 unfolding enabled
 enabled_is_walked stores on flash at f bytes e =
@@ -142,13 +206,30 @@ enabled_is_walked stores on flash at f bytes e =
           (with_enabled_below on (word_at object 8) (word_limit object 8 w.bytes)) w.sound.read;
     } in
     let left = edit_leaves flash at f new m w made in
+    let within = w.sound.within in
+    let word : word_at (found_bytes f (replaced flash f.offset new)) 8 ≡ flags =
+    ap (λ (xs : List ℕ). word_at xs 8) (object_replaced flash new f.offset f.size (omega arith) made.size)
+    ∙ flags_read new m made.read in
+    let bits = one_bit on (word_at object 8) in
+    let there : object_found f.offset (objects (replaced flash f.offset new))
+    ≡ Some (record f { verdict = verdict_of (FLASH_START + f.offset) (Ok m) }) =
+    ap (object_found f.offset) left.walked
+    ∙ found_with (objects flash) f.offset (Ok m) f (found_again flash at f w.found) in
     record {
       size = left.size;
       bytes = λ k out. left.bytes k (λ j same. elim out [
         | inl low ↦ like.below j (omega arith)
         | inr high ↦ like.above j (omega arith)
       ]);
+      bit = ap (λ (n : ℕ). n % 2) word ∙ bits.0;
+      others = ap (λ (n : ℕ). n / 2) word ∙ bits.1;
       walked = left.walked;
+      off = λ is_off some.
+          subst (λ (o : Option Found). IsSomeAnd o (λ g. g.verdict ≡ Disabled)) (sym there)
+          (even_verdict (FLASH_START + f.offset) m (bits.0 ∙ ap (λ (b : Bool). cond b 1 0) is_off) some);
+      on_again = λ is_on.
+          subst (λ (o : Option Found). IsSomeAnd o (λ g. g.verdict ≢ Disabled)) (sym there)
+          (odd_verdict (FLASH_START + f.offset) m (bits.0 ∙ ap (λ (b : Bool). cond b 1 0) is_on));
     }
 
 some_of_test : (b : Bool) (x at : ℕ) → cond b (Some x) None ≡ Some at → (b ≡ true) × (x ≡ at)

@@ -13,3 +13,4 @@ pub mod Headers
 mod Checksums
 mod Words
 mod Called
+mod Worked

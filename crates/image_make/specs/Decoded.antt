@@ -34,6 +34,10 @@ meant (Sw rs2 rs1 offset) =
     Some (instrs.Store widths.Word (register_number rs1) (register_number rs2) (signed_number offset))
 meant Ecall = Some instrs.Ecall
 
--- the word of each instruction is decoded to what it means
+-- a word is decoded to what an instruction means
+abbrev pub IsWordOf : Instruction → ℕ → Type 0
+IsWordOf i word = IfSome (meant i) (λ instr. decoding word ≡ Some instr)
+
+-- so is the word of each instruction
 abbrev pub WordsAreDecoded : Type 0
-WordsAreDecoded = (i : Instruction) → IfSome (meant i) (λ instr. decoding (instruction_word i) ≡ Some instr)
+WordsAreDecoded = (i : Instruction) → IsWordOf i (instruction_word i)

@@ -1,31 +1,43 @@
 -- What an edit leaves of an image, in bytes and as it is walked (Tock Binary Format, "TBF Header Base"; the edits are
 -- this tool's own).
-use Rattle.std.specs.Prelude.{◌≡◌, IsSomeAnd, ◌<◌, ◌≤◌, ◌⊎◌, ℕ, ◌+◌, Bool, List, length, map, slice_index, Some, Ok}
+use Rattle.std.specs.Prelude.{◌≡◌, ◌≢◌, IsSomeAnd, ◌<◌, ◌≤◌, ◌⊎◌, ℕ, ◌+◌, ◌/◌, ◌%◌, Bool, true, false, if◌then◌else◌, List}
+use Rattle.std.specs.Prelude.{length, map, slice_index, is_some, Some, Ok}
 use Rattle.tk_base.specs.Numbers.{rounded_up}
 use Rattle.tbf_headers.specs.Numbers.{word_at}
 use Rattle.tbf_headers.specs.Meaning.{meaning_of}
 use Rattle.flash_walk.specs.declared.found.Found.{Found}
+use Rattle.flash_walk.specs.declared.found.Verdict.TheVariants.{Disabled}
 use Rattle.flash_walk.specs.Image.{objects}
 use Rattle.image_make.specs.Edits.{with_enabled}
 use Rattle.image_make.specs.Images.{with_reading}
 use Rattle.image_make.specs.Outcomes.{sound_found, found_bytes, enabled, place_for, with_name}
 use Rattle.image_make.specs.Laws.{AreBytes}
+use Rattle.image_make.specs.Parts.{object_found}
 
 -- a place outside of a range
 abbrev pub IsOutside : ℕ → ℕ → ℕ → Type 0
 IsOutside from to k = (k < from) ⊎ (to ≤ k)
 
--- an image whose object is enabled or disabled: as long as before, other in the flags and the checksum of that object
--- alone, and walked as before, but that the flags of that object are read so
-pub record IsEnabled (on : Bool) (flash : List ℕ) (f : Found) : Type 0 where
-  pub size : length (enabled on flash f) ≡ length flash
-  pub bytes : (k : ℕ) → IsOutside (f.offset + 8) (f.offset + 16) k
-      → slice_index (enabled on flash f) k ≡ slice_index flash k
+-- An image, and what it is after its object was enabled or disabled: as long as before, other in the flags and the
+-- checksum of that object alone. Of the flags bit 0 is set, or clear, and all others are as they were. It is walked as
+-- before, but that the flags of that object are read so: one that has an entry is found disabled once it was, and none
+-- is that was enabled.
+pub record IsEnabledTo (on : Bool) (flash after : List ℕ) (f : Found) : Type 0 where
+  pub size : length after ≡ length flash
+  pub bytes : (k : ℕ) → IsOutside (f.offset + 8) (f.offset + 16) k → slice_index after k ≡ slice_index flash k
+  pub bit : word_at (found_bytes f after) 8 % 2 ≡ (if on then 1 else 0)
+  pub others : word_at (found_bytes f after) 8 / 2 ≡ word_at (found_bytes f flash) 8 / 2
   pub walked :
       let object = found_bytes f flash in
       let flags = with_enabled on (word_at object 8) in
-      objects (enabled on flash f)
-      ≡ map (with_reading f.offset (Ok (record (meaning_of object) { flags = flags }))) (objects flash)
+      objects after ≡ map (with_reading f.offset (Ok (record (meaning_of object) { flags = flags }))) (objects flash)
+  pub off : on ≡ false → is_some (meaning_of (found_bytes f flash)).main ≡ true →
+      IsSomeAnd (object_found f.offset (objects after)) (λ g. g.verdict ≡ Disabled)
+  pub on_again : on ≡ true → IsSomeAnd (object_found f.offset (objects after)) (λ g. g.verdict ≢ Disabled)
+
+-- so it is with what enabling or disabling it leaves
+abbrev pub IsEnabled : Bool → List ℕ → Found → Type 0
+IsEnabled on flash f = IsEnabledTo on flash (enabled on flash f) f
 
 -- so it is with each image and each object of it that has no fault
 abbrev pub EnabledIsWalked : Type 0

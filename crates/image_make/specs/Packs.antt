@@ -68,10 +68,14 @@ PackIsWalked =
 abbrev pub contents : List ℕ → List (List ℕ)
 contents image = map (λ f. found_bytes f image) (objects image)
 
--- the objects of what is packed have exactly the bytes of the files' objects, one file after another
+-- an image's objects have exactly the bytes of the objects of some files, one file after another
+abbrev pub HasContentsOf : List (List ℕ) → List ℕ → Type 0
+HasContentsOf files image = contents image ≡ flat_map contents files
+
+-- so has what files are packed to
 abbrev pub PackKeepsContents : Type 0
 PackKeepsContents =
-    (files : List (List ℕ)) (image : List ℕ) → pack files ≡ Ok image → contents image ≡ flat_map contents files
+    (files : List (List ℕ)) (image : List ℕ) → pack files ≡ Ok image → HasContentsOf files image
 
 -- moved by a multiple of 4, an object keeps its verdict, but to or from WrongFlash
 abbrev pub KeepsVerdict : ℕ → List ℕ → Found → Type 0
