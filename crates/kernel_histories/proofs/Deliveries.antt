@@ -152,7 +152,7 @@ all_but P place xs all =
     All-append P (take place xs) (drop (suc place) xs) (All-take P place xs all) (All-drop P (suc place) xs all)
 
 -- where none is at a place, none is taken out there
-none_there : {X : Type 0} (xs : List X) (place : ℕ) → slice_get xs place ≡ None → remove xs place ≡ xs
+pub none_there : {X : Type 0} (xs : List X) (place : ℕ) → slice_get xs place ≡ None → remove xs place ≡ xs
 none_there xs place none = none_taken xs place (past_all (slice_get_cases xs place).1)
   where
     past_all : ((x : _) × (place < length xs) × (slice_get xs place ≡ Some x) × (slice_index_or xs place x ≡ x))
@@ -279,7 +279,7 @@ same_number a b = by_test (a == b) refl
     by_test true e = sym (eq-eqb b a (sym (eqb-true a b e)))
     by_test false e = sym (ne_eqb b a (λ same. false≢true (sym e ∙ eq-eqb a b (sym same))))
 
-is_subscribed : (driver number : ℕ) (pair : ℕ × ℕ) (u : Scheduled)
+pub is_subscribed : (driver number : ℕ) (pair : ℕ × ℕ) (u : Scheduled)
     → is_some (cond ((driver == u.driver && number == u.number) && true) (Some pair) None) ≡ is_of driver number u
 is_subscribed driver number pair u =
     ap (λ (b : Bool). is_some (cond b (Some pair) None)) (and-true (driver == u.driver && number == u.number))
@@ -291,7 +291,7 @@ is_subscribed driver number pair u =
     some_if false = refl
 
 -- what a turn tells that made a call, of which nothing counts here but the call
-abbrev tells : Registers → ℕ → Outcome → TurnTrace
+abbrev pub tells : Registers → ℕ → Outcome → TurnTrace
 tells regs class outcome =
     record { accesses = []; call = Some (record (made regs outcome) { class = class }); flag = None; denial = None }
 

@@ -5,5 +5,8 @@ mod Takings
 mod Delivered
 mod Schedulings
 mod Waits
+mod CommandsSchedule
+mod Inboxes
 mod EdgeRuns
 mod DropRuns
+mod Worked

@@ -2,3 +2,4 @@ pub mod Deliveries
 pub mod Waits
 pub mod Edges
 pub mod Drops
+pub mod Inboxes

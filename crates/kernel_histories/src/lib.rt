@@ -10,4 +10,4 @@ mod upcalls;
 pub use drops::drops_add_up;
 pub use edges::each_edge_comes_once;
 pub use pairs::swaps_give_back_the_last;
-pub use upcalls::{deliveries_are_of_the_last, waits_get_the_first};
+pub use upcalls::{deliveries_are_of_the_last, inboxes_are_exact, waits_get_the_first};

@@ -1,5 +1,6 @@
-//! The law of deliveries.
+//! Laws of what is scheduled for a process, and delivered to it.
 ghost use Rattle.kernel_histories.specs.Deliveries.{DeliveriesAreOfTheLast};
+ghost use Rattle.kernel_histories.specs.Inboxes.{InboxesAreExact};
 ghost use Rattle.kernel_histories.specs.Waits.{WaitsGetTheFirst};
 
 use driver_model::{drivers_leave_pairs, drivers_schedule_what_is_held};
@@ -33,4 +34,17 @@ pub fn waits_get_the_first()
 {
     denials_are_due();
     only_ready_processes_have_turns();
+}
+
+/// What is scheduled for a process after each thing that happens to it is exactly this, whoever
+/// makes the choices: after a turn all that was, but what it takes to be delivered and what it
+/// subscribes anew, or nothing where it ends a life; then upcall 2 of the console where its call
+/// cancels a read, and no other. It waits for one upcall alone where it asks for one of which none
+/// waits, and for nothing any more once it was given that one's arguments. What a device tells it
+/// leaves all, and schedules one upcall at most; an operator's act leaves all, or nothing where it
+/// ends a life (TRD 104, "Subscribe", "Command", "Yield", "Exit").
+pub fn inboxes_are_exact()
+    ensures { InboxesAreExact }
+{
+    only_handing_changes_pairs();
 }

@@ -73,7 +73,7 @@ use Rattle.kernel_model.specs.Choices.{Throughout}
 use Rattle.kernel_model.specs.Turn.{Input, Taken, Word, WriteDone}
 use Rattle.kernel_model.specs.World.{Devices}
 use Rattle.board_devices.specs.SerialLine.{line_at}
-use Rattle.std.proofs.Common.{◌++◌, ◌∙◌}
+use Rattle.std.proofs.Common.{◌++◌}
 use Rattle.std.proofs.lemmas.List.Elements.{All-cons, All-head, All-nil}
 use Rattle.kernel_laws.specs.Arming.{SetsAlarm, SetsBy, SetsButtons}
 use Rattle.kernel_laws.specs.OneRun.{NothingIsLeft}
