@@ -4,6 +4,7 @@
 use Rattle.std.proofs.Common.{◌≡◌, ℕ, List, [], ◌∷◌, ◌++◌, true, false, slice_get, unwrap_or, refl, sym, ◌∙◌, arith}
 use Rattle.std.proofs.Common.{Option, None, Some, is_some}
 use Rattle.tk_base.specs.declared.access.TheConstants.{FLASH_START}
+use Rattle.tk_base.specs.declared.process.Verb.TheVariants.{Stop as StopIt}
 use Rattle.std.proofs.lemmas.List.Elements.{All-nil}
 use Rattle.fault_policy.specs.declared.Policy.TheVariants.{Stop}
 use Rattle.tbf_headers.specs.Meaning.{header_reading, meaning_of}
@@ -12,6 +13,7 @@ use Rattle.flash_walk.specs.Image.{found_at, objects_from}
 use Rattle.app_placement.specs.Placement.{place_of, places_from}
 use Rattle.process_record.specs.Parts.{cleared}
 use Rattle.script_text.specs.Settings.{ScriptSettings as Script}
+use Rattle.script_text.specs.Settings as script
 use Rattle.kernel_model.specs.Record.{Record}
 use Rattle.kernel_model.specs.Worked.{standing}
 use Rattle.kernel_model.specs.World.{World}
@@ -93,3 +95,10 @@ others : ((opened_in (opening divides flash) 1).object ≡ calls) × ((opened_in
     breaks)
 unfolding opening opening_record header_reading meaning_of tlv_places_from found_at objects_from place_of places_from
 others = (refl, refl)
+
+-- What comes in under such a script: an edge of a button; a board on which an operator stops a process.
+edge_is_no_act : IsNoAct (record { time = 5; kind = script.Press 0 })
+edge_is_no_act = refl
+
+none_acts : IsNoAct (record { time = 5; kind = script.Act StopIt (45 ∷ []) }) → ⊥
+none_acts is = cc
