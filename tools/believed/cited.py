@@ -1,14 +1,14 @@
 """Finds in a document what it cites: names in backquotes before ` in ` or ` (` and a place in backquotes, which is a
 crate or a file of one; and each file that stands alone. A file without its crate, or its folder, stands beside the file
 before it in the line. In a section whose first paragraph has places, the names with which a line of its lists begins
-are cited from these."""
+are cited from these. What stands behind `, clause` or `, field` is one of the function or record before it."""
 
 import glob
 import os
 import re
-from dataclasses import dataclass
+from dataclasses import dataclass, field
 
-NAMES = r"((?:`[A-Za-z_][\w:]*`(?:, clause |, field |, | and | of )?)+)"
+NAMES = r"((?:`[A-Za-z_][\w:]*`(?:, clauses? |, fields? |, | and | of )?)+)"
 # A file, by its crate, its folder there and its name, of which the first two may lack.
 FILE = re.compile(r"`(crates/)?(?:(?:([a-z]\w*)/)?((?:src|specs|proofs)(?:/\w+)*)/)?(\w+\.(?:rt|antt))`")
 WHOLE = r"[a-z]\w*/(?:src|specs|proofs)/[\w/]+\.\w+"
@@ -19,11 +19,13 @@ LAW = r"^ *pub fn %s\(\)\s+ensures\b"
 
 @dataclass
 class Citation:
-    """Names that a line of a document cites, the places where they are to be found, and the heading above the line."""
+    """Names that a line of a document cites, the places where they are to be found, and the heading above the line; and
+    of names that are a clause or a field with what it is one of."""
     line: int
     heading: str
     names: list
     places: list
+    parts: list = field(default_factory=list)
 
 
 def reader(top):
@@ -63,6 +65,29 @@ def with_crates(line):
     return FILE.sub(whole, line)
 
 
+def parts_in(cited):
+    """Of the names of a citation each clause or field, with the function or record that it is said to be one of."""
+    owner, last, is_part = None, None, False
+    for before, name in re.findall(r"(, clauses? |, fields? |, | and | of )?`([\w:]+)`", cited):
+        if before == " of " and name.split("::")[-1].islower():
+            yield name, last
+        is_part = before.startswith((", clause", ", field")) or is_part and before in (", ", " and ")
+        if is_part:
+            yield owner, name
+        else:
+            owner = name
+        last = name
+
+
+def has_part(text, owner, name):
+    """Whether a function of a source has a clause of a name, or a record a field."""
+    bare, owner = re.sub(r"(?m)^\s*(//|--).*$", "", text), re.escape(owner.split("::")[-1])
+    contracts = re.findall(r"\bfn %s\b(.*?)(?:^\s*\{|;$|\Z)" % owner, bare, re.M | re.S)
+    records = re.findall(r"^pub record %s\b(.*?)(?=^\S|\Z)" % owner, bare, re.M | re.S)
+    return any(re.search(r"\bensures\*? %s \{" % name, contract) for contract in contracts) \
+        or any(re.search(r"^\s+pub %s :" % name, record, re.M) for record in records)
+
+
 def citations(page, read):
     """The citations of a document, in their order."""
     places, heading = [], ""
@@ -73,13 +98,13 @@ def citations(page, read):
             places = [place.removeprefix("crates/") for place in re.findall(r"`(crates/[\w/.]+|[a-z]\w*)`", line)
                       if place.startswith("crates/") or read(place)]
         for names, place in CITED.findall(line):
-            yield Citation(number, heading, re.findall(r"`([\w:]+)`", names), [place])
+            yield Citation(number, heading, re.findall(r"`([\w:]+)`", names), [place], list(parts_in(names)))
         cited = {place for _, place in CITED.findall(line)}
         for place in sorted(set(re.findall(r"`(?:crates/)?([\w/]+\.(?:rt|antt))`", line)) - cited):
             yield Citation(number, heading, [], [place])
         listed = re.match("- " + NAMES, line)
         if listed and places and not CITED.match(line, 2):
-            yield Citation(number, heading, re.findall(r"`([\w:]+)`", listed[1]), places)
+            yield Citation(number, heading, re.findall(r"`([\w:]+)`", listed[1]), places, list(parts_in(listed[1])))
 
 
 def rows_cited(page):
