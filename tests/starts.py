@@ -75,6 +75,10 @@ TOOLS = {
     "tools/live": Tool([(RUN + ["--plain"], r"^slot 0 lost running turns 0 restarts 0$")], (LOOK,),
                        NOTHING + [["none", "script"]]),
     "tools/prove": Tool(),
+    "tools/release": Tool([(["--test"], r""), ([], r"^program tock: "),
+                           (["lines", "lines"], r"^program tock is the same$")], ("rt", "git"),
+                          [["none"], ["--nonsense"], ["--test", "more"], ["script", "script"], ["lines", "none"]],
+                          [([], 1, "git: No such file or directory")]),
     "tools/script": Tool([(["typed"], r"^at 100 input 780a$"), (["--into", "made", "typed"], r"^$")],
                          refuses=[["none"], ["--nonsense"], ["typed", "typed"], ["--into"], ["--into", "made"]]),
     "tools/tables": TESTED,
@@ -116,9 +120,9 @@ def compiled():
 
 def write_files(program, folder):
     """Writes the files that words name: an image, its script and the trace of its run; those of its program; the bytes
-    of a program, and a line that a person typed."""
+    of a program, a line that a person typed, and lines of a release."""
     files = {"image": contents(os.path.join(IMAGES, "lost.bin")), "script": b"", "program": b"a program!",
-             "typed": b"100 type x\n", **compiled()}
+             "typed": b"100 type x\n", "lines": b"commit: 1\nprogram tock: 2\n", **compiled()}
     for name, content in files.items():
         with open(os.path.join(folder, name), "wb") as file:
             file.write(content)
