@@ -19,6 +19,13 @@ LEDS = [
         leds 0000000000000001
         end done steps 15 time 15
     """),
+    boot("led-outlives-a-life", "an LED stays as it is where its process starts again",
+         app(command(LED, 1, 1), exits(1)), turns=20, text="""
+        ==
+        slot 0 - running turns 20 restarts 2
+        leds 0100
+        end turns steps 20 time 20
+    """),
     tells("no-such-led", "a number beyond the LEDs is refused", 6, command(LED, 1, 4)),
     boot("led-of-none", "all are where there are none", app(command(LED, 1, 0), exits()), script=b"leds 0", text="""
         ==
