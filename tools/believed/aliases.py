@@ -61,13 +61,13 @@ def explained(imports, modules, text, several):
 
 
 def line_of(meanings):
-    """These in a line, none where there are none."""
+    """These in a sentence, none where there are none."""
     meanings = list(meanings)
-    return ["Here %s." % ", ".join(meanings), ""] if meanings else []
+    return ["Here %s." % ", ".join(meanings)] if meanings else []
 
 
 def meant_in_spec(spec, definitions, several):
-    """A line that says what names of some definitions of a file mean."""
+    """A sentence that says what names of some definitions of a file mean."""
     text = "\n".join(line for found in definitions for line in found.lines)
     return line_of(explained(spec.imports, spec.modules, text, several))
 

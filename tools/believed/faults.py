@@ -2,11 +2,13 @@
 
 import re
 
+from blocks import key, section_of
 from library import LIBRARY
-from page import key, section_of
 from standards import has_source
 
 NUMBERS = re.compile(r"rests on [\d,]+ definitions in [\d,]+ files \([\d,]+ lines\)")
+# A name in the picture of a run: two words in one, or what begins with a capital.
+NAMED = re.compile(r"\b[a-z]+_\w+|\b[A-Z]\w+")
 TOGETHER = re.compile(r"[\d,]+ lines as they are printed, all five guarantees on [\d,]+")
 
 
@@ -28,12 +30,15 @@ def with_numbers(document, reached):
 
 def unplaced(plan, reached):
     """Files that no section has, and entries of sections of which nothing is reached."""
-    files = {found.place: found for found in reached.under.definitions if section_of(plan, found) is None}
+    apart = {id(found) for found in reached.apart}
+    files = {found.place: found for found in reached.under.definitions
+             if section_of(plan, found) is None and id(found) not in apart}
     reaches = {entry for found in reached.under.definitions
                for entry in (found.crate, found.place, key(found))}
     missing = ["%s is in no section of tools/believed/sections.py" % place for place in files]
     idle = ["tools/believed/sections.py: nothing is reached of %s" % entry
-            for _, listed in plan.SECTIONS for entry in listed if entry not in reaches]
+            for listed in [*(listed for _, listed in plan.SECTIONS), plan.APART] for entry in listed
+            if entry not in reaches]
     return missing + idle
 
 
@@ -70,11 +75,14 @@ def untold_words(reached, library):
 
 
 def unknown_parts(plan, reached):
-    """Names that the sentences below the headline cite and that are in no definition, type or contract of the page."""
+    """Names that the sentences on the headline, or the picture, cite and that are in no definition, type or contract of
+    the pages."""
     texts = [line for part in reached.parts for found in part.definitions for line in found.lines]
     texts += [line for part in reached.parts for of in part.types for line in of.code()]
+    texts += [line for contract in reached.contracts for line in contract.code()]
     words = set(re.findall(r"\w+", "\n".join(texts)))
-    cited = re.findall(r"`(\w+)`", "\n".join(plan.PARTS))
+    told = plan.PARTS + [cell for row in plan.ARROWS for cell in row]
+    cited = re.findall(r"`(\w+)`", "\n".join(told)) + NAMED.findall(plan.PICTURE)
     return ["tools/believed/sections.py: %s is nowhere on the page" % name for name in cited if name not in words]
 
 
@@ -91,9 +99,21 @@ def source_faults(sources, plan, reached, library=LIBRARY):
             + unknown_parts(plan, reached) + too_long(plan, reached))
 
 
-def stale(reached, made, kept, document):
-    """Where what is kept differs from what the sources give."""
-    wrong = [] if made == kept else ["docs/headline.md is not what the sources give: run tools/headline"]
+def too_many_lines(plan, page):
+    """Whether the page of the headline is longer than it may be."""
+    lines = page.count("\n")
+    return ["docs/headline.md has %d lines, of at most %d" % (lines, plan.LINES)] if lines > plan.LINES else []
+
+
+def stale(pages):
+    """Pages that are kept otherwise than the sources give them: for each what these give, and what is kept."""
+    return ["docs/%s is not what the sources give: run tools/headline" % page
+            for page, (made, kept) in pages.items() if made != kept]
+
+
+def other_numbers(reached, document):
+    """Where the document of definitions has other numbers than the sources."""
+    wrong = []
     for form, sentence in sentences(reached).items():
         if not form.search(document):
             wrong.append("docs/definitions.md does not say '%s'" % sentence)

@@ -140,15 +140,35 @@ TEXTS = {
 LIBRARY = [("Numbers", NUMBERS), ("Truth", TRUTH), ("Lists", LISTS), ("Values that may be missing", VALUES),
            ("Texts, and bytes outside", TEXTS)]
 
-# How definitions are written: what is no name.
-NOTATION = """\
-A definition gives a name, its type, and what it is by cases, of which the first that fits counts. `A → B` is the type
-of functions; of two statements it says that the second follows from the first. `(x : A) → B` is B for each x, and `(x
-: A) × B` some x with B; `A × B` is both, or a pair, whose parts are `.0` and `.1`. `Type 0` and `Type 1` are the
-types of statements and of types: a statement is the type of its proofs. `⊥` never holds, `Unit {0}` always does, and
-`¬ A` is that A does not hold. `λ x. e` is the function that makes e of x; `let x = a in e` is e with a for x; `if c
-then a else b` is as it reads. A `record` has named fields, which `r.field` reads; `record r { f = a }` is r with
-another field f. In a contract `x.old` and `x.new` are what a borrowed x is before and after the call, `x.now` is what
-it is where the call does not change it, and `result` what is returned. A `data` is one of the forms that it lists. An
-argument in braces follows from the others. `◌` is where an argument of an operator stands. `abbrev`, `unfoldable` and
-`pub` say where proofs and other files may open a definition, and nothing of what it means."""
+# How definitions are written: what is no name, and what it means.
+NOTATION = [
+    ("`name : T`, then `name x = e`", "A definition: its name, its type, and what it is. Where there are cases, the "
+                                      "first that fits counts."),
+    ("`A → B`", "The functions from `A` to `B`. Of two statements: the second follows from the first."),
+    ("`f x y`", "The function `f` of `x` and `y`. `f x` alone is the function that awaits `y`."),
+    ("`λ x. e`", "The function that makes `e` of `x`."),
+    ("`Type 0`, `Type 1`", "The types of types and of statements. A statement is the type of its proofs: it holds "
+                           "where there is one."),
+    ("`abbrev name : .. → Type 0`", "So this defines a statement about its arguments."),
+    ("`(x : A) → B`", "For each `x` of `A`, `B`."),
+    ("`(x : A) × B`", "There is an `x` of `A` with `B`."),
+    ("`A × B`", "Both; or the type of pairs, as `(a, b)`, whose parts are `.0` and `.1`."),
+    ("`A ⊎ B`", "One of the two."),
+    ("`¬ A`, `⊥`", "`A` does not hold; what never holds."),
+    ("`Unit {0}`", "What always holds."),
+    ("`record r where`", "A type of values with named fields, or a statement that has a named part for each field."),
+    ("`r.field`", "That field of `r`."),
+    ("`record { f = a; g = b }`", "The record with these fields."),
+    ("`record r { f = a }`", "`r` with another field `f`."),
+    ("`data d where`", "A type of values that each have one of the forms that it lists."),
+    ("`let x = a in e`", "`e`, with `a` for `x`."),
+    ("`if c then a else b`", "As it reads."),
+    ("`{A = B}`, `{x : A} →`", "An argument that follows from the others."),
+    ("`_`", "What follows from the rest."),
+    ("`◌`", "Where an argument of an operator stands: `◌+◌` is the name of `+` in `x + y`."),
+    ("`abbrev`, `unfoldable`, `pub`", "Where proofs and other files may open a definition: nothing of what it means."),
+    ("`requires`, `ensures name { A }`", "Of a function's contract: what its caller has to see to, and what holds "
+                                         "afterwards, with a name."),
+    ("`x.old`, `x.new`, `x.now`, `result`", "In a contract: what a borrowed `x` is before and after the call; what it "
+                                            "is where the call does not change it; what is returned."),
+]

@@ -1,13 +1,16 @@
-"""What the page is made of: the one place where the tool names crates, files and functions.
+"""What the pages are made of: the one place where the tool names crates, files and functions.
 
 A section is a heading with what stands in it, in reading order: crates, files of specs/ as crate/File, or definitions
 as crate/File:Name. A definition that is named by itself stands there, then the rest of a file that is named, and the
 rest of a crate where the crate is named.
 """
 
-# The contract that the page is about, and how many lines a reader has to believe at most: what stands today fits.
+from reading import ARROWS, FIRST, PICTURE
+
+# The contract that the page is about, how many lines a reader has to believe at most, and how many its page has at
+# most: what stands today fits.
 HEADLINE = ("tock_cli/serve.rt", "serve")
-LIMIT = 3800
+LIMIT, LINES = 3800, 6000
 
 # What is proved of the program in one sentence, and which names below have each part of it.
 SENTENCE = """\
@@ -61,9 +64,6 @@ NOT_PROMISED = [
 ]
 
 SECTIONS = [
-    ("What the program promises", [
-        "tool_answers/Served", "tool_words/Refusals", "tool_tasks/Causes", "tool_tasks/Comes", "tk_outside"]),
-    ("The command line", ["tool_words/Words", "decimal_number"]),
     ("The nouns: own, record, event, label, world", [
         "process_layout/Bounds:Bounds", "process_layout/LayoutView:LayoutView", "grant_values/Values:KeptValue",
         "grant_model/Grants:Grant", "process_model/Own:Own", "kernel_model/Record:Record",
@@ -71,15 +71,15 @@ SECTIONS = [
         "board_devices/SerialLine:SerialLine", "script_text/Settings:EventKind", "script_text/Settings:ScriptEvent",
         "kernel_model/World:Pace", "kernel_model/World:WaitingSlots", "kernel_model/World:Devices",
         "kernel_model/World:Clock", "kernel_model/World:Present", "kernel_model/World:World"]),
-    ("The text of a run", [
-        "run_text/RunText", "board_report", "kernel_model/Shown", "process_record/Name",
-        "process_record/Summary", "process_record/Lines"]),
-    ("Runs by round robin, and by windows", ["kernel_model/Run", "turn_scheduler"]),
-    ("The opening world, and one step", ["board_opening/Opening", "board_opening/Settings", "kernel_model/World"]),
     ("One process, and what happens to it", [
         "kernel_model/Record", "kernel_model/Turn", "process_record/Process", "process_record/Operator",
         "process_model/Own",
         "process_model/Instruction", "fault_policy", "process_layout/LayoutView", "process_layout/Interval"]),
+    ("The opening world, and one step", ["board_opening/Opening", "board_opening/Settings", "kernel_model/World"]),
+    ("System calls", [
+        "kernel_model/Calls", "syscall_abi", "syscall_filter", "tk_base/Call", "process_model", "upcall_queue",
+        "grant_model"]),
+    ("Instructions and permission", ["rv32_model", "process_layout", "tk_base"]),
     ("What holds of the run", [
         "tool_answers/Accounts", "board_opening/Certified", "board_opening/Alone", "kernel_model/Accounts",
         "kernel_model/Causes", "kernel_model/Accesses", "kernel_model/Prints", "kernel_model/Refused",
@@ -87,15 +87,22 @@ SECTIONS = [
         "kernel_model/Replay", "kernel_model/Choices", "kernel_model/Histories", "process_model/Changes",
         "process_model/Permission", "driver_model/Bytes", "rv32_model/Laws"]),
     ("What time partitions promise of it", ["board_partitions", "kernel_partitions"]),
-    ("System calls", [
-        "kernel_model/Calls", "syscall_abi", "syscall_filter", "tk_base/Call", "process_model", "upcall_queue",
-        "grant_model"]),
     ("Drivers and devices", ["driver_model", "board_devices", "grant_values"]),
-    ("Instructions and permission", ["rv32_model", "process_layout", "tk_base"]),
+    ("Runs by round robin, and by windows", ["kernel_model/Run", "turn_scheduler"]),
     ("Images and placement", ["tbf_headers", "flash_walk", "app_placement"]),
     ("The script", ["script_text"]),
-    ("The image tool and soak runs", ["image_make"]),
+    ("What the program promises", [
+        "tool_answers/Served", "tool_words/Refusals", "tool_tasks/Causes", "tool_tasks/Comes", "tk_outside"]),
+    ("The command line", ["tool_words/Words", "decimal_number"]),
+    ("The image tool", ["image_make"]),
+    ("The text of a run", [
+        "run_text/RunText", "board_report", "kernel_model/Shown", "process_record/Name",
+        "process_record/Summary", "process_record/Lines"]),
 ]
+
+# The definitions by whose way alone the contract rests on others, which stand at the end, and what these are for.
+APART = ["image_make/Generator:soak_flash", "image_make/Generator:soak_script"]
+APART_FOR = "soak"
 
 # The type of a board, and the contracts that stand beside the headline: those of the five guarantees, and one more of
 # steps that somebody else chooses. Which laws stand after them is what the documents below cite.

@@ -1,12 +1,14 @@
-"""Tries the tool on small sources: what is reached, what the page says, and each fault."""
+"""Tries the tool on small sources: what is reached, what the pages say, and each fault."""
 
 import unittest
 from types import SimpleNamespace
 
 import aliases
 import faults
-import page
 from closure import Names, closure, contract_of, opened
+from laws_page import laws_page
+from layout import Layout, beside, one_behind_another
+from page import headline_page
 from reach import reach
 from sources import Sources, Unread, read_module, read_spec
 
@@ -111,11 +113,12 @@ impl Model for Seen {
 
 def plan(**other):
     """A table of sections for the small sources."""
-    usual = dict(HEADLINE=("top/lib.rt", "keep"), LIMIT=100, SECTIONS=[("First", ["top"]), ("Then", ["base"])],
-                 BOARD=("top/state.rt", "Seen"), GUARANTEES=[], STEPS=[],
+    usual = dict(HEADLINE=("top/lib.rt", "keep"), LIMIT=100, LINES=1000, BOARD=("top/state.rt", "Seen"), STEPS=[],
+                 SECTIONS=[("First", ["top"]), ("Then", ["base"])], GUARANTEES=[], APART=[], APART_FOR="twice",
                  ASSUMPTIONS=[("Trust this.", "a fault", "a test"), ("And that.", "a flaw", "a look")],
                  SENTENCE="It keeps its promise.", PARTS=["*Promise*: `Promises`."], NOT_PROMISED=["That it is fast."],
-                 PROOFS_ONLY="Only proofs use this")
+                 PICTURE="State -> Way", ARROWS=[("->", "it `Promises`", "1")],
+                 FIRST=[("top/Promise:Holds", "what holds")], PROOFS_ONLY="Only proofs use this")
     return SimpleNamespace(**{**usual, **other})
 
 
@@ -137,6 +140,13 @@ def names_of(found):
 def library(**other):
     """The sentences on words of the library: on those that the small sources use, and others."""
     return [("Words", {"ℕ": "numbers", **other})]
+
+
+def pages_of(sources, documents=(), **other):
+    """The two pages of small sources, under a table of sections."""
+    names, made = Names(sources), plan(**other)
+    layout = Layout(names, made, reach(names, made, documents))
+    return headline_page(layout), laws_page(layout)
 
 
 def faults_of(sources, told=None, **other):
@@ -192,13 +202,12 @@ class Following(unittest.TestCase):
 
 
 class Page(unittest.TestCase):
-    """What the page says."""
+    """What the pages say."""
 
     def setUp(self):
         self.sources = small()
-        self.names = Names(self.sources)
-        self.reached = reach(self.names, plan(), [CLAIMS])
-        self.made = page.page(self.names, plan(), self.reached)
+        self.reached = reach(Names(self.sources), plan(), [CLAIMS])
+        self.made, self.laws = pages_of(self.sources, [CLAIMS])
 
     def test_contract_and_assumptions(self):
         self.assertIn("pub fn keep(state: State) -> u8\n    requires", self.made)
@@ -206,11 +215,13 @@ class Page(unittest.TestCase):
         self.assertIn("The contract asks of its caller:", self.made)
         self.assertIn("| 1 | Trust this. | a fault | a test |\n| 2 | And that. | a flaw | a look |\n", self.made)
 
-    def test_headline_before_the_contract(self):
-        heads = ("**It keeps its promise.**", "## What is not promised\n\n- That it is fast.\n", "## Assumptions",
-                 "## The contract of `keep`")
-        places = [self.made.index(head) for head in heads]
+    def test_order(self):
+        heads = ("**It keeps its promise.**", "## What is not promised\n\n- That it is fast.\n", "State -> Way",
+                 "| -> | it `Promises` | 1 |", "## Assumptions", "## How definitions are written",
+                 "## The words of the library", "## What to read first", "## The contract of `keep`", "## 1. First")
+        places = [self.made.index("\n" + head) for head in heads if not head.startswith(("*", "S"))]
         self.assertEqual(places, sorted(places))
+        self.assertTrue(all(head in self.made for head in heads))
 
     def test_definitions_in_sections(self):
         self.assertIn("## 1. First\n\n3 definitions in 1 file, 8 lines.", self.made)
@@ -219,30 +230,68 @@ class Page(unittest.TestCase):
 
     def test_definitions_by_name(self):
         sections = [("Nouns", ["base/Sums:Pair", "top/Promise:Way"]), ("Rest", ["base", "top"])]
-        made = page.page(self.names, plan(SECTIONS=sections), self.reached)
+        made, _ = pages_of(self.sources, SECTIONS=sections)
         self.assertLess(made.index("record Pair"), made.index("data Way"))
         self.assertLess(made.index("data Way"), made.index("double : ℕ"))
+        self.assertIn("### base/specs/Sums.antt\n", made)
+        self.assertIn("### base/specs/Sums.antt (2)\n", made)
+
+    def test_what_to_read_first(self):
+        self.assertIn("1. [`Holds`](#topspecspromiseantt): what holds.", self.made)
+        with self.assertRaisesRegex(Unread, "nothing is reached of top/Promise:Gone"):
+            pages_of(self.sources, FIRST=[("top/Promise:Gone", "what is gone")])
+
+    def test_links(self):
+        self.assertIn("`Promises` → `Way`, `Holds`, [`double`](#basespecssumsantt) ← [`keep`](#the-contract-of-keep)"
+                      "<br>`Holds` ← `Promises`\n", self.made)
+        self.assertIn("`idle` → [`double`](headline.md#basespecssumsantt) ← [`it_idles`](#it_idles)\n", self.laws)
+        self.assertIn("[`idle`](laws.md#basespecssumsantt)", self.made)
+
+    def test_users_that_are_many(self):
+        more = "".join("\n-- one more\nabbrev pub more%d : ℕ\nmore%d = double 1\n" % (n, n) for n in range(9))
+        listed = ["more%d" % n for n in range(9)]
+        top = TOP.replace("(twice 1)", "(twice (%s))" % " + ".join(listed))
+        top = top.replace("{Pair,", "{Pair, %s," % ", ".join(listed))
+        made, _ = pages_of(small(top, BASE + more))
+        self.assertEqual(made.count(" and 2 more"), 1)
+
+    def test_what_stands_apart(self):
+        made, laws = pages_of(self.sources, APART=["base/Sums:double"])
+        self.assertIn("Of these 1 definition, on 2 lines, are for `twice` alone", made)
+        self.assertNotIn("abbrev pub double", made)
+        self.assertIn("## What `twice` alone needs\n", laws)
+        self.assertIn("abbrev pub double", laws)
+
+    def test_short_definitions_stand_close(self):
+        found = list(self.sources.specs["base", "Sums"].definitions.values())
+        self.assertNotIn("\n\n", one_behind_another(found))
+        found[0].written += "\n" * 20
+        self.assertIn("\n\n-- two numbers", one_behind_another(found))
 
     def test_types(self):
         self.assertIn("/// On or off.\npub enum State {\n", self.made)
-        self.assertIn("    /// It is on.\n    On { since: u8, until: u8 },", self.made)
+        self.assertIn("    On { since: u8, until: u8 }, // It is on.", self.made)
         self.assertIn("struct Seen: seen as `Pair`", self.made)
 
+    def test_comments_beside(self):
+        self.assertEqual(beside(["    /// One.", "    a: u8,"]), ["    a: u8, // One."])
+        for lines in (["    /// One", "    /// line more.", "    a: u8,"], ["    /// " + "long " * 30, "    a: u8,"]):
+            self.assertEqual(beside(lines), lines)
+
     def test_laws_that_are_cited(self):
-        self.assertIn("## Laws: Rest", self.made)
-        self.assertIn("### `it_idles`\n\n`top/src/law.rt`\n\nHere `lazy` is `idle` of `base/Sums`.", self.made)
-        self.assertIn("#### base/specs/Sums.antt", self.made)
-        self.assertIn("idle : ", self.made)
-        self.assertNotIn("it_works", self.made)
-        self.assertNotIn("it_idles", page.page(self.names, plan(), reach(self.names, plan(), [])))
+        self.assertIn("## Laws: Rest", self.laws)
+        self.assertIn("### `it_idles`\n`top/src/law.rt`. Here `lazy` is `idle` of `base/Sums`.\n", self.laws)
+        self.assertIn("#### base/specs/Sums.antt", self.laws)
+        self.assertIn("idle : ", self.laws)
+        self.assertNotIn("it_works", self.laws)
+        self.assertNotIn("it_idles", pages_of(self.sources)[1])
 
     def test_other_names(self):
         self.assertIn("Here `twice` is `double` of `base/Sums`.", self.made)
         wanted = "Here `twice` is `double` of `base/Sums`, `sums.` stands before names of `base/Sums`."
-        sources = small(top=TOP.replace("Holds (twice 1)", "Holds (sums.idle (twice 1))"))
-        names = Names(sources)
-        self.assertIn(wanted, page.page(names, plan(), reach(names, plan(), [])))
-        self.assertEqual([here for _, _, here in aliases.renamed(sources, self.reached)], ["twice"])
+        made, _ = pages_of(small(top=TOP.replace("Holds (twice 1)", "Holds (sums.idle (twice 1))")))
+        self.assertIn(wanted, made)
+        self.assertEqual([here for _, _, here in aliases.renamed(self.sources, self.reached)], ["twice"])
 
     def test_words_of_the_library(self):
         self.assertIn("| `◌+◌` | The sum. |", self.made)
@@ -254,12 +303,17 @@ class Page(unittest.TestCase):
                 "on %d.")
         document, wanted = form % (1, 3, 4, 5), form % (5, 13, 21, 21)
         self.assertEqual(faults.with_numbers(document, self.reached), wanted)
-        self.assertEqual(faults.stale(self.reached, self.made, self.made, wanted), [])
-        self.assertEqual(len(faults.stale(self.reached, self.made, "", document)), 3)
-        self.assertEqual(len(faults.stale(self.reached, self.made, self.made, "")), 2)
+        self.assertEqual(faults.other_numbers(self.reached, wanted), [])
+        self.assertEqual(len(faults.other_numbers(self.reached, document)), 2)
+        self.assertEqual(len(faults.other_numbers(self.reached, "")), 2)
+
+    def test_pages_that_are_kept(self):
+        self.assertEqual(faults.stale({"a.md": (self.made, self.made)}), [])
+        self.assertEqual(faults.stale({"a.md": (self.made, self.made), "b.md": (self.laws, "")}),
+                         ["docs/b.md is not what the sources give: run tools/headline"])
 
     def test_numbers_of_all_guarantees(self):
-        reached = reach(self.names, plan(GUARANTEES=[("top/law.rt", "it_idles")]), [])
+        reached = reach(Names(self.sources), plan(GUARANTEES=[("top/law.rt", "it_idles")]), [])
         self.assertEqual(reached.lines_of_guarantees(), [5, 15, 5, 0])
 
 
@@ -309,6 +363,12 @@ class Faults(unittest.TestCase):
         self.assertEqual(faults_of(small(self.sound()), PARTS=["`Promises`, field `left`, by `Gone`"]),
                          ["tools/believed/sections.py: Gone is nowhere on the page"])
 
+    def test_pictures_of_what_is_nowhere(self):
+        wrong = "tools/believed/sections.py: %s is nowhere on the page"
+        self.assertEqual(faults_of(small(self.sound()), PICTURE="State -> Gone -> gone_too"),
+                         [wrong % "Gone", wrong % "gone_too"])
+        self.assertEqual(faults_of(small(self.sound()), ARROWS=[("->", "`gone`", "1")]), [wrong % "gone"])
+
     def test_no_section(self):
         found = faults_of(small(self.sound()), SECTIONS=[("First", ["top", "gone/File"])])
         self.assertEqual(found, ["base/Sums is in no section of tools/believed/sections.py",
@@ -316,6 +376,15 @@ class Faults(unittest.TestCase):
 
     def test_too_long(self):
         self.assertEqual(len(faults_of(small(self.sound()), LIMIT=10)), 1)
+
+    def test_too_many_lines(self):
+        made, _ = pages_of(small())
+        self.assertEqual(faults.too_many_lines(plan(), made), [])
+        self.assertEqual(len(faults.too_many_lines(plan(LINES=10), made)), 1)
+
+    def test_nothing_that_stands_apart(self):
+        self.assertEqual(faults_of(small(self.sound()), APART=["base/Sums:gone"]),
+                         ["tools/believed/sections.py: nothing is reached of base/Sums:gone"])
 
     def test_functions_that_are_gone(self):
         with self.assertRaisesRegex(Unread, "no public function lose"):
