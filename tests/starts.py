@@ -71,6 +71,7 @@ TOOLS = {
     "tools/debug": Tool([(LOST + ["--", "-nx", "-batch", "-ex", "slots"], r"^slot 0 lost running turns 0 restarts 0$")],
                         (LOOK, COMPILER, DEBUGGER), BAD_RUNS,
                         [(RUN, 1, "there is no gdb-multiarch: on Debian, apt-get install gdb-multiarch")]),
+    "tools/evaluate": TESTED,
     "tools/headline": TESTED,
     "tools/live": Tool([(RUN + ["--plain"], r"^slot 0 lost running turns 0 restarts 0$")], (LOOK,),
                        NOTHING + [["none", "script"]]),

@@ -1,0 +1,70 @@
+"""What the program answers by the definitions, which are evaluated; and which cases of them an example uses."""
+
+import os
+import re
+
+from compiling import Compiler
+
+# An example of more steps is not evaluated.
+MOST_STEPS = 2000
+COMMANDS, TASKS, REFUSALS = "tool_words/Words", "tool_tasks/Comes", "tool_words/Refusals"
+NONE = ("None",)
+
+
+def steps_of(case):
+    """How many steps an example has at most."""
+    found = re.search(r"^ *end \w+ steps (\d+)", case.text, re.M)
+    is_run = case.status == 0 and "--turns" in case.words
+    return int(found[1]) if found else int(case.words[-1]) if is_run else 0
+
+
+def is_evaluated(case):
+    """Whether an example has few steps, all of its numbers, and words that are texts."""
+    return not case.is_open and steps_of(case) <= MOST_STEPS and all(isinstance(word, str) for word in case.words)
+
+
+def files_of(case, top):
+    """What the files of an example hold, by name: no bytes for one that cannot be read."""
+    found = {b"flash": case.flash, b"script": case.script}
+    for word in case.words:
+        path = os.path.join(top, word)
+        if word not in ("flash", "script") and os.path.isfile(path):
+            with open(path, "rb") as file:
+                found[word.encode()] = file.read()
+    return found
+
+
+class Answers:
+    """The answers by the definitions of some sources."""
+
+    def __init__(self, names):
+        self.compiler, self.names = Compiler(names), names
+
+    def function(self, place, name):
+        """The function of a definition."""
+        return self.compiler.function(self.names.sources.specs[tuple(place.split("/"))].definitions[name])
+
+    def refusal(self, refusal):
+        """The answer, and the line, of a refusal."""
+        return self.function(REFUSALS, "status_of")(refusal), bytes(self.function(REFUSALS, "refusal_line")(refusal))
+
+    def to_command(self, command, files):
+        """The answer to a command: the first file for which it is refused decides, as by `DecidedBy`."""
+        before = []
+        for named in self.function(TASKS, "files_of")(command):
+            text = files.get(bytes(named["name"]))
+            if not isinstance(text, bytes):
+                return self.refusal(("Fault", named["file"]))
+            refused = self.function(TASKS, "refused_at")(command, before, named["file"], list(text))
+            if refused != NONE:
+                return self.refusal(refused[1])
+            before.append(list(text))
+        task = self.function(TASKS, "comes_to")(command, before)[1][1]
+        return 0, bytes(self.function(TASKS, "task_text")(task))
+
+    def to(self, case, top):
+        """The answer to an example, and which cases of definitions it uses."""
+        self.compiler.used.clear()
+        command = self.function(COMMANDS, "command_of")([list(word.encode()) for word in ["tock", *case.words]])
+        answer = self.refusal(("Usage",)) if command == NONE else self.to_command(command[1], files_of(case, top))
+        return answer, set(self.compiler.used)
