@@ -140,7 +140,9 @@ ASSUMPTIONS = [
      "examples"),
     ("*The kit's library*: its functions keep their contracts, and its words mean what [their "
      "sentences](#the-words-of-the-library) say.",
-     "a function that does another thing; a sentence that is wrong", "worked examples; reading its sources in the kit"),
+     "a function that does another thing; a sentence that is wrong",
+     "worked examples; `tools/evaluate`, whose evaluator has the words by these sentences, and [comes to the same "
+     "texts](worked.md); reading its sources in the kit"),
     ("*The ported crates*: the contracts of what is called of %s hold of their code. The kit has them in "
      "`rattle/NAME/src`, and quotes the chief ones in `rattle/NAME/CALLING.md`."
      % ", ".join("`%s` (%s)" % ported for ported in PORTED.items()),
@@ -165,9 +167,11 @@ ASSUMPTIONS = [
      "a status of 128 or more: what was written is a front of the text. A reader of the output that goes is no "
      "signal, but 6"),
     ("*Tables read from manuals*: instructions, system calls, error codes and formats stand here as in [the "
-     "standards](#standards), against which they were read. The decoders were compared once with LLVM's, on all "
-     "65,536 parcels and a sample of words; that comparison is not kept.",
-     "a row that was read wrongly", "comparing it with its section; programs of GNU's compiler, as in `examples/`"),
+     "standards](#standards), against which they were read.",
+     "a row that was read wrongly",
+     "`tests/run`, where GNU's assembler and QEMU are there: by the assembler which of all parcels, and of words of 32 "
+     "bits with each opcode and function but fences and the system's, are instructions; by QEMU's processor in user "
+     "mode what these do, and what a process may access. Comparing a row with its section"),
     ("*Editions* of the standards: sections are cited by title, and no date was recorded. By what they have they are "
      "RV32I 2.1 (without `fence.i` and CSRs), M 2.0 and C 2.0; TRD 104 with yield-wait-for and the userspace-readable "
      "allow; version 2 of the Tock Binary Format.",
