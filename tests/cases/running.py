@@ -1,7 +1,7 @@
 """How an application exits, what it is denied, what its instructions do, and memop."""
 
 from flash_images import *
-from .case import boot
+from .case import boot, tells
 from .programs import EXIT_7, RUN_OF_EXIT_7
 
 RUNS = [
@@ -76,7 +76,45 @@ DENIALS = [
     """),
 ]
 
+LEAST, MOST = 0x80000000, 0xFFFFFFFF
+# Operations of two registers by the unprivileged manual: what each is shown by, the numbers, and what it gives.
+OPERATIONS = [
+    (slt, "slt", "-1 is below 1", MOST, 1, 1), (sltu, "sltu", "without signs it is not", MOST, 1, 0),
+    (xor, "xor", "bits that one of both has", 0b1100, 0b1010, 0b0110),
+    (or_, "or", "bits that either has", 0b1100, 0b1010, 0b1110),
+    (and_, "and", "bits that both have", 0b1100, 0b1010, 0b1000),
+    (sll, "sll", "of the amount the low 5 bits count", 1, 33, 2), (srl, "srl", "zeros come in", LEAST, 31, 1),
+    (sra, "sra", "the sign comes in", LEAST, 4, 0xF8000000),
+    (sub, "sub", "below 0 it goes on from 2^32", 0, 1, MOST),
+    (mul, "mul", "the low half of a product", 0x10001, 0x10001, 0x20001),
+    (mulh, "mulh", "the high half of -2^31 times 2", LEAST, 2, MOST),
+    (mulhsu, "mulhsu", "the high half of -1 times 2^32 - 1", MOST, MOST, MOST),
+    (mulhu, "mulhu", "the high half of 2^32 - 1 times itself", MOST, MOST, MOST - 1),
+    (div, "div", "rounded towards 0", MOST - 6, 2, MOST - 2), (divu, "divu", "rounded down", MOST, 2, LEAST - 1),
+    (rem, "rem", "it has the sign of the dividend", MOST - 6, 2, MOST), (remu, "remu", "without signs", MOST, 16, 15),
+]
+# Loads of the half word 0x8081, and what each gives.
+LOADS = [(lb, "lb", "a byte with its sign", 0xFFFFFF81), (lbu, "lbu", "a byte without one", 0x81),
+         (lh, "lh", "a half word with its sign", 0xFFFF8081), (lhu, "lhu", "a half word without one", 0x8081)]
+
 INSTRUCTIONS = [
+    *[tells("operation-" + name, "%s: %s" % (name, shows), result, li(A1, left), li(A2, right), make(A1, A1, A2))
+      for make, name, shows, left, right, result in OPERATIONS],
+    *[tells("load-" + name, "%s: %s" % (name, shows), result, mv(S1, A1), li(A2, 0x8081), sw(A2, S1), make(A1, S1))
+      for make, name, shows, result in LOADS],
+    tells("fence", "a fence changes nothing but pc", 5, li(A1, 5), word(0x0FF0000F)),
+    boot("compressed-lui", "c.lui a1, 0xfffff sets the upper bits", app(parcel(0x75FD), exits()), """
+        ==
+        slot 0 - terminated 4294963200 turns 4 restarts 0
+        leds 0000
+        end done steps 4 time 4
+    """),
+    boot("compressed-shift", "c.srli a1, 9 shifts zeros in", app(li(A1, LEAST), parcel(0x81A5), exits()), """
+        ==
+        slot 0 - terminated 4194304 turns 5 restarts 0
+        leds 0000
+        end done steps 5 time 5
+    """),
     boot("division-by-zero", "the quotient by zero has all bits set",
          app(li(A1, 7), div(A1, A1, ZERO), exits()), """
         ==
@@ -146,7 +184,13 @@ INSTRUCTIONS = [
 ]
 
 # Memop 0 sets the break, 3 asks for the block's end, and 9 for the end of a region in flash.
+# The header of an application that names two flash regions it may write, each by its offset in the object and its size.
+REGIONS = [writeable_flash_regions_tlv((64, 32), (96, 16))]
+
 CALLS = [
+    tells("region-count", "memop 7 tells how many flash regions the header names", 2, memop(7), elements=REGIONS),
+    tells("region-start", "memop 8 tells where the second begins", FLASH + 96, memop(8, 1), elements=REGIONS),
+    tells("region-end", "and memop 9 where it ends", FLASH + 112, memop(9, 1), elements=REGIONS),
     boot("region-that-is-not-there", "memop 9 is refused where the header names no region",
          app(memop(9, 0), exits()), """
         ==

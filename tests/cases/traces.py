@@ -22,6 +22,23 @@ TRACES = [
         leds 0000
         end done steps 15 time 15
     """),
+    trace("trace-of-refused-commands", "each refusal of a command or a memop has its error code and its rule",
+          app(command(NO_DRIVER, 1), command(LED, 9), memop(12), command(ALARM, 3), command(CONSOLE, 2, 0),
+              command(CONSOLE, 2, 4), command(CONSOLE, 2, 4), memop(8, 3), exits()), """
+        @5 0 call 2 00000004 00000001 00000000 00000000 = 00000000 0000000b 00000000 00000000 no-driver
+        @11 0 call 2 00000002 00000009 00000000 00000000 = 00000000 0000000a 00000000 00000000 no-command
+        @14 0 call 5 0000000c 0000000a 00000000 00000000 = 00000000 0000000a 00000000 00000000 no-operation
+        @20 0 call 2 00000000 00000003 00000000 00000000 = 00000000 00000003 00000000 00000000 nothing
+        @26 0 call 2 00000001 00000002 00000000 00000000 = 00000000 00000007 00000000 00000000 empty
+        @32 0 call 2 00000001 00000002 00000004 00000000 = 00000080 00000002 00000004 00000000
+        @38 0 call 2 00000001 00000002 00000004 00000000 = 00000000 00000002 00000004 00000000 busy
+        @42 0 call 5 00000008 00000003 00000004 00000000 = 00000000 00000001 00000004 00000000 index
+        @45 0 call 6 00000000 00000001 00000004 00000000
+        ==
+        slot 0 - terminated 1 turns 46 restarts 0
+        leds 0000
+        end done steps 46 time 46
+    """),
     trace("trace-of-former-buffers", "each allow gives the buffer before it, and the break stays above the last",
           app(mv(S0, A1), li(A4, READ_WRITE),
               li(A0, CONSOLE), li(A1, 1), mv(A2, S0), li(A3, 16), ecall,

@@ -19,6 +19,14 @@ YIELDS = [
           addi(A1, A3, -1), li(T0, 5), sb(T0, A1), yields(0), lbu(A1, A1)),
     tells("flag-above-the-break", "elsewhere no flag is written", 7, mv(A1, A3), yields(0), li(A1, 7)),
     tells("flag-in-flash", "nor in flash", 5, mv(S0, A0), li(T0, 5), mv(A1, A0), yields(0), mv(A1, T0)),
+    boot("yield-without-a-wait-delivers", "where an upcall waits the flag is 1, and its function runs",
+         app(mv(S0, A0), mv(S1, A1), *hands(SUBSCRIBE, ALARM, 0, "fired"), command(ALARM, 5, 1), mv(A1, S1), yields(0),
+             li(A1, 9), exits(), "fired", lbu(A1, S1), exits()), """
+        ==
+        slot 0 - terminated 1 turns 22 restarts 0
+        leds 0000
+        end done steps 23 time 22
+    """),
     tells("yield-of-another-number", "any other number changes nothing", 5, li(A1, 5), yields(3)),
 ]
 

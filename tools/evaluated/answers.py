@@ -5,8 +5,8 @@ import re
 
 from compiling import Compiler
 
-# An example of more steps is not evaluated.
-MOST_STEPS = 2000
+# An example of more steps is not evaluated; one of more than these is not asked for each process by itself.
+MOST_STEPS, MOST_ALONE = 2000, 300
 COMMANDS, TASKS, REFUSALS = "tool_words/Words", "tool_tasks/Comes", "tool_words/Refusals"
 NONE = ("None",)
 
@@ -48,8 +48,24 @@ class Answers:
         """The answer, and the line, of a refusal."""
         return self.function(REFUSALS, "status_of")(refusal), bytes(self.function(REFUSALS, "refusal_line")(refusal))
 
-    def to_command(self, command, files):
-        """The answer to a command: the first file for which it is refused decides, as by `DecidedBy`."""
+    def not_alone(self, task):
+        """The slots of a run in which the record at its end is not that of the process by itself, as by the field
+        `alone` of `IsAccountedRun`."""
+        _, _, steps, world = task
+        last = self.function("kernel_model/Run", "round")(steps, world)["world"]["records"]
+        choices = self.function("kernel_model/Replay", "chosen")(steps, world)
+        wrong = []
+        for slot, record in enumerate(world["records"]):
+            events = self.function("kernel_model/Replay", "history")(slot, world, choices)
+            own = self.function("board_opening/Alone", "alone")(
+                world["settings"], record["object"], record["process"]["object"]["address"],
+                record["own"]["layout"]["start"], events)
+            wrong += [slot] if own != ("Some", last[slot]) else []
+        return wrong
+
+    def to_command(self, command, files, is_short):
+        """The answer to a command: the first file for which it is refused decides, as by `DecidedBy`. In a short run
+        each process is what it is by itself."""
         before = []
         for named in self.function(TASKS, "files_of")(command):
             text = files.get(bytes(named["name"]))
@@ -60,11 +76,14 @@ class Answers:
                 return self.refusal(refused[1])
             before.append(list(text))
         task = self.function(TASKS, "comes_to")(command, before)[1][1]
-        return 0, bytes(self.function(TASKS, "task_text")(task))
+        wrong = self.not_alone(task) if is_short and task[0] == "Running" else []
+        return 0, b"slots %a are not alone" % wrong if wrong else bytes(self.function(TASKS, "task_text")(task))
 
     def to(self, case, top):
         """The answer to an example, and which cases of definitions it uses."""
         self.compiler.used.clear()
         command = self.function(COMMANDS, "command_of")([list(word.encode()) for word in ["tock", *case.words]])
-        answer = self.refusal(("Usage",)) if command == NONE else self.to_command(command[1], files_of(case, top))
+        if command == NONE:
+            return self.refusal(("Usage",)), set(self.compiler.used)
+        answer = self.to_command(command[1], files_of(case, top), steps_of(case) <= MOST_ALONE)
         return answer, set(self.compiler.used)

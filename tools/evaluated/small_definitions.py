@@ -153,12 +153,10 @@ class Table(unittest.TestCase):
     def setUp(self):
         self.found = read_spec("low", "Shapes", LOW).definitions
 
-    def row(self, name, used=(), **worked):
+    def row(self, name, used=(), has=(), refuses=()):
         """The row of a definition."""
-        sides = {side: [SimpleNamespace(place="low/Shapes", name=of) for of in worked.get(side, ())]
-                 for side in ("has", "refuses")}
         return table.row_of(self.found[name], {("low/Shapes", name, number): [] for number in used},
-                            [SimpleNamespace(**sides)])
+                            lambda found: (has, refuses))
 
     def test_kinds(self):
         kinds = {name: table.kind_of(found) for name, found in self.found.items()}
@@ -172,8 +170,8 @@ class Table(unittest.TestCase):
 
     def test_statements(self):
         name = "IsBefore"
-        rows = [self.row(name, has=[name], refuses=[name]), self.row(name, has=[name]), self.row(name, refuses=[name]),
-                self.row(name)]
+        rows = [self.row(name, has=["case"], refuses=["case"]), self.row(name, has=["case"]),
+                self.row(name, refuses=["case"]), self.row(name)]
         self.assertEqual([row.is_whole for row in rows], [True, False, False, False])
         self.assertEqual([table.said_of(row) for row in rows[1:]], [" (refused by none)", " (had by none)", ""])
 

@@ -3,6 +3,7 @@
 import re
 from dataclasses import dataclass, field
 
+from answers import MOST_ALONE
 from blocks import by_file
 from layout import counted
 from parsing import cases_of
@@ -40,13 +41,13 @@ def kind_of(definition):
 
 
 def row_of(definition, used, worked):
-    """What is to be said of a definition, by the cases that examples use and by the worked cases of laws."""
+    """What is to be said of a definition, by the cases that examples use, and by what gives the worked cases that a
+    statement has and refuses."""
     kind, key = kind_of(definition), (definition.place, definition.name)
     if kind == FUNCTION:
         return Row(definition, kind, len(cases_of(definition)), {number for *of, number in used if tuple(of) == key})
-    names = [{(found.place, found.name) for case in worked for found in getattr(case, side)}
-             for side in ("has", "refuses")]
-    return Row(definition, kind, has=key in names[0], refuses=key in names[1])
+    has, refuses = worked(definition) if kind == STATEMENT else ([], [])
+    return Row(definition, kind, has=bool(has), refuses=bool(refuses))
 
 
 def said_of(row):
@@ -85,14 +86,15 @@ HEAD = """\
 `tools/evaluate` makes this page; do not edit it. It evaluates the definitions under the contract of `serve`, as [the \
 page of the headline](headline.md) prints them, on %s of `tests/cases`, and what they come to is the text that is \
 written there. The evaluator is not the kit's: `tools/evaluated` has the words of the library by [their \
-sentences](headline.md#the-words-of-the-library). %d more examples have too many steps, numbers that a compiler \
+sentences](headline.md#the-words-of-the-library). In runs of up to %d steps it also finds each record at the end to \
+be that of its process alone, as `IsAccountedRun` says. %d more examples have too many steps, numbers that a compiler \
 decides, or words that are no texts, and are not evaluated.
 
 | Of the definitions under `serve` | |
 |---|---|"""
 STATEMENTS = """
-A function is evaluated; a statement is not, but cases of it are proved, in files `Worked.antt` of proofs \
-(`tools/cases`).
+A function is evaluated; a statement is not, but cases of it, or of its parts, are proved, in files `Worked.antt` of \
+proofs (`tools/cases`).
 """
 FUNCTIONS = """\
 ## Functions of which examples use not all
@@ -105,6 +107,7 @@ def page(rows, evaluated, left):
     """The page, of so many examples that are evaluated and others that are not."""
     functions = [row for row in rows if row.kind == FUNCTION and not row.is_whole]
     statements = [row for row in rows if row.kind == STATEMENT and not row.is_whole]
-    lines = [HEAD % (counted(evaluated, "worked example"), left)] + ["| %s | %s |" % row for row in counts(rows)]
-    lines += [STATEMENTS, FUNCTIONS] + listed(functions) + ["", "## Statements without both cases", ""]
+    lines = [HEAD % (counted(evaluated, "worked example"), MOST_ALONE, left)]
+    lines += ["| %s | %s |" % row for row in counts(rows)] + [STATEMENTS, FUNCTIONS] + listed(functions)
+    lines += ["", "## Statements without both cases", ""]
     return "\n".join(lines + listed(statements)) + "\n"
