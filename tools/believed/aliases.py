@@ -7,14 +7,20 @@ from closure import TEXT, WORD
 from sources import INSIDE
 
 
+# Where a word of the library stands.
+OF_LIBRARY = "the words of the library"
+
+
 def ambiguous(reached):
-    """The names that several definitions or types of the page have, each with the places of these."""
+    """The names that several definitions, types or words of the library have, each with the places of these."""
     places = defaultdict(set)
     for part in reached.parts:
         for found in part.definitions:
             places[found.name].add("%s/specs/%s.antt" % (found.crate, found.file))
         for found in part.types:
             places[found.name].add("%s/src/%s" % (found.crate, found.file))
+    for name in reached.library & set(places):
+        places[name].add(OF_LIBRARY)
     return {name: sorted(found) for name, found in sorted(places.items()) if len(found) > 1}
 
 

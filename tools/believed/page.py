@@ -1,5 +1,6 @@
 """Makes the page of the headline: the sentence, what it is about, the contract, and the definitions under it."""
 
+from aliases import OF_LIBRARY
 from blocks import HEADLINE, LAWS, anchor
 from laws_page import apart_title
 from layout import contents_text, counted, fenced, size_text, types_text
@@ -92,7 +93,7 @@ def last_text(layout):
     """The types of the program, the names that mean several things, and the standards."""
     lines = ["## The types of the program that they name", ""] + types_text(layout.reached.under.types, False)
     lines += ["## Names that mean several things", "", "| Name | Where |", "|---|---|"]
-    lines += ["| `%s` | %s |" % (name, ", ".join("`%s`" % place for place in places))
+    lines += ["| `%s` | %s |" % (name, ", ".join(place if place == OF_LIBRARY else "`%s`" % place for place in places))
               for name, places in layout.several.items()]
     return lines + ["", "## Standards", "", "| Named as | Is |", "|---|---|"] + [
         "| %s | %s |" % row for row in STANDARDS.items()]

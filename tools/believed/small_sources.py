@@ -293,6 +293,10 @@ class Page(unittest.TestCase):
         self.assertIn(wanted, made)
         self.assertEqual([here for _, _, here in aliases.renamed(self.sources, self.reached)], ["twice"])
 
+    def test_names_that_the_library_has_too(self):
+        reached = SimpleNamespace(parts=self.reached.parts, library={"double", "ℕ"})
+        self.assertEqual(aliases.ambiguous(reached), {"double": ["base/specs/Sums.antt", aliases.OF_LIBRARY]})
+
     def test_words_of_the_library(self):
         self.assertIn("| `◌+◌` | The sum. |", self.made)
         self.assertNotIn("| `min` |", self.made)
