@@ -35,8 +35,8 @@ ARROWS = [
                    "holds, up to each time that both runs have reached: `IsPartitionedRun`", "3"),
     ("(3) `stepped`", "`IsAccountedFor`: each access of a turn was permitted, and each denial was due, is shown and "
                       "recorded (`accesses`, `denials`, `shown`, `recorded`); each byte that changes has its cause "
-                      "(`causes`); a refused call changes nothing but its reply, `pc`, counts, clocks and the recorded "
-                      "refusal (`refused`)", "1, 2, 4"),
+                      "(`causes`); a refused call changes of its process the reply, `pc`, the count of turns and the "
+                      "recorded refusal, and of the board the clock and whose turn it was (`refused`)", "1, 2, 4"),
     ("(4) `apply`", "a record is changed by the events that are told of its process, each read by itself, and by "
                     "nothing else: `IsAccountedRun`, field `alone`", "3"),
     ("(5) `run_text`", "the text is a function of mode, number of steps and opening world: `task_text`", "5"),
