@@ -63,6 +63,8 @@ SECTIONS
         . = ALIGN(4);
     } :ram
     _bss_end = .;
+    _data_size = _data_end - _variables;
+    _variables_size = _bss_end - _variables;
     _heap_end = _bss_end + (DEFINED(heap_size) ? heap_size : 0);
 
     /* How many bytes the process needs at first. */

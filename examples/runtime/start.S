@@ -1,6 +1,18 @@
 # Where a process begins. The kernel gives it in a0 where its code lies, in a1 where its RAM begins, in a2 how long its
 # block is, and in a3 its break, which is the end of the RAM that it may use.
 
+# Puts into t2 where variables end: so many bytes behind gp, where the place is not known.
+        .macro to_end end, size
+#ifdef ONE_PLACE
+        lla     t2, \end
+#else
+        .option push
+        .option norelax                 # else the linker may take x0 for gp
+        addi    t2, gp, %lo(\size)
+        .option pop
+#endif
+        .endm
+
         .section .start, "ax"
         .globl _start
 _start:
@@ -15,14 +27,14 @@ _start:
         andi    sp, t1, -16
         mv      gp, t1                  # __global_pointer$, by application.ld
         lla     t0, _initial_values
-        lla     t2, _data_end
+        to_end  _data_end, _data_size
         j       2f
 1:      lw      t3, 0(t0)               # initialised variables get their values,
         sw      t3, 0(t1)
         addi    t0, t0, 4
         addi    t1, t1, 4
 2:      bltu    t1, t2, 1b
-        lla     t2, _bss_end
+        to_end  _bss_end, _variables_size
         j       4f
 3:      sw      zero, 0(t1)             # and the others are cleared
         addi    t1, t1, 4
