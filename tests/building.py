@@ -80,7 +80,7 @@ int times_seven(int number)
 
 def make(folder, *words):
     """Builds the application of a folder."""
-    return run(["make", "-C", EXAMPLES, "APP=" + os.path.join(folder, "own"), *words])
+    return run(["make", "-C", EXAMPLES, "APP=" + os.path.join(folder, "own"), *words], timeout=600)
 
 
 def ran(program, *images, script=EMPTY):
@@ -215,27 +215,6 @@ def fixed_application(program):
                 return "%s: %r" % (words, text)
         text = ran(program, image)
     return None if "slot" not in text and "own" not in text else "at another place: %r" % text
-
-
-# What docs/applications.md says of a trace, and the lines that do so.
-CALLS = {"the clock read": "call 2 00000000 00000002", "the alarm armed": "call 2 00000000 00000006",
-         "the wait": "call 0 00000001", "the LED toggled": "call 2 00000002 00000003", "the line go out": "out"}
-
-
-def first_application(program):
-    """The application that docs/applications.md begins with is built, and its trace has what is told there, in that
-    order, three times."""
-    page = contents(os.path.join(REPOSITORY, "docs", "applications.md")).decode()
-    block = re.search(r"with `main.c`:\n\n((?:    .*\n|\n)+)", page)[1]
-    told = re.findall("|".join(CALLS), re.search("The trace shows three times (.*?);", page)[1])
-    with tempfile.TemporaryDirectory() as folder:
-        write(folder, "own/main.c", re.sub("^    ", "", block, flags=re.M))
-        end = make(folder)
-        words = ["trace", os.path.join(folder, "own", "own.bin"), EMPTY, "--turns", "10000"]
-        text = end.stderr if end.returncode else run([program, *words]).stdout
-    done = re.findall(r"^@\d+ 0 (%s)\b" % "|".join(CALLS.values()), text, re.M)
-    is_lit = "leds 1000\nend done" in text
-    return None if len(told) > 4 and done == [CALLS[one] for one in told] * 3 and is_lit else "it does %r" % text
 
 
 def behind_another(program):
@@ -513,8 +492,7 @@ def checks(program, has_compiler, has_picolibc):
         found += [("own-application", lambda: own_application(program)), ("placed-program", placed_program),
                   ("alarms-in-alarms", lambda: alarms(program)), ("milliseconds", lambda: milliseconds(program)),
                   ("elf2tab", lambda: elf2tab(program, has_picolibc)),
-                  ("other-folders", lambda: other_folders(program)),
-                  ("first-application", lambda: first_application(program))]
+                  ("other-folders", lambda: other_folders(program))]
     if has_picolibc:
         found += [("fixed-application", lambda: fixed_application(program)),
                   ("behind-another", lambda: behind_another(program))]

@@ -223,6 +223,17 @@ def application(program):
     return None if end.returncode and said in end.stderr else "both languages: " + end.stderr
 
 
+def documented(program):
+    """The application that docs/rust.md shows changes the LED three times, and tells each."""
+    page = contents(os.path.join(REPOSITORY, "docs", "rust.md")).decode()
+    shown = re.search(r"^    #!\[no_main\]\n(?:\n|    .*\n)+", page, re.M)[0]
+    with tempfile.TemporaryDirectory() as folder:
+        write(folder, "own/main.rs", re.sub("^    ", "", shown, flags=re.M))
+        text = make(folder).stderr or ran(program, os.path.join(folder, "own", "own.bin"))
+    told = r"change 1\nchange 2\nchange 3\n==\nslot 0 own terminated 0 .*\nleds 1000\n"
+    return None if re.match(told, text) else repr(text)
+
+
 def anywhere(program):
     """With FIXED= an application may lie anywhere, at the first place and behind another; one with tables of addresses
     is refused."""
@@ -278,8 +289,8 @@ def milliseconds(program):
 
 def checks(program, has_compiler):
     """Each check with its name."""
-    with_compiler = [("rust-application", application), ("rust-anywhere", anywhere), ("rust-scopes", scopes),
-                     ("rust-alarms-in-alarms", alarms), ("rust-milliseconds", milliseconds)]
+    with_compiler = [("rust-application", application), ("rust-documented", documented), ("rust-anywhere", anywhere),
+                     ("rust-scopes", scopes), ("rust-alarms-in-alarms", alarms), ("rust-milliseconds", milliseconds)]
     found = [("rust-missing-tools", missing_tools)]
     if has_compiler and version():
         return found + [(name, lambda check=check: check(program)) for name, check in with_compiler]
