@@ -48,13 +48,13 @@ pub fn squares(count: u32) -> alloc::vec::Vec<u32> {
 }
 """
 
-# One that may lie anywhere, with static variables of both kinds; and what makes it depend on its place.
+# One that may lie anywhere, with static variables of both kinds, and with the tables of addresses that formatting
+# wants; and one that has more static variables than that allows.
 ANYWHERE = """\
 #![no_main]
 #![no_std]
 
 use core::sync::atomic::{AtomicU32, Ordering};
-use libtock::console::Console;
 use libtock::runtime::{set_main, stack_size};
 
 set_main! {main}
@@ -65,11 +65,15 @@ static SECOND: AtomicU32 = AtomicU32::new(0);
 
 fn main() -> u32 {
     SECOND.store(FIRST.load(Ordering::Relaxed) * 2, Ordering::Relaxed);
-    let _ = Console::write(b"anywhere\\n");
+    let _ = libtock::console::Console::write(b"anywhere\\n");
     SECOND.load(Ordering::Relaxed)
 }
 """
-FORMATTED = ANYWHERE.replace("    let _", '    libtock::println!("{}", FIRST.load(Ordering::Relaxed));\n    let _')
+WRITE = 'let _ = libtock::console::Console::write(b"anywhere\\n");'
+FORMATTED = ANYWHERE.replace(WRITE, 'libtock::println!("any{:?}", "where");')
+LARGE = ANYWHERE.replace(WRITE, "core::hint::black_box(&MORE);") + """
+static MORE: [AtomicU32; 600] = [const { AtomicU32::new(0) }; 600];
+"""
 
 
 # An alarm every 100 ms that prints a line each time, and how many ms it is since the first was set; then a delay.
@@ -235,20 +239,20 @@ def documented(program):
 
 
 def anywhere(program):
-    """With FIXED= an application may lie anywhere, at the first place and behind another; one with tables of addresses
-    is refused."""
+    """With FIXED= an application may lie anywhere, at the first place and behind another; one with too many static
+    variables is refused."""
     with tempfile.TemporaryDirectory() as folder:
-        write(folder, "own/main.rs", ANYWHERE)
         image = os.path.join(folder, "own", "own.bin")
+        for source, said in ((ANYWHERE, "anywhere"), (FORMATTED, 'any"where"')):
+            write(folder, "own/main.rs", source)
+            end = make(folder, "FIXED=", "STACK=1024")
+            text = end.stderr or ran(program, image, image)
+            if not re.match(r"(%s\n){2}==\n(slot [01] own terminated 6 .*\n){2}leds" % said, text):
+                return repr(text)
+        write(folder, "own/main.rs", LARGE)
         end = make(folder, "FIXED=")
-        if end.returncode:
-            return end.stderr
-        text = ran(program, image, image)
-        if not re.match(r"(anywhere\n){2}==\n(slot [01] own terminated 6 .*\n){2}leds", text):
-            return repr(text)
-        write(folder, "own/main.rs", FORMATTED)
-        end = make(folder, "FIXED=")
-    return None if end.returncode and "nothing relocates it" in end.stderr else "not refused: " + end.stderr
+    said = "static variables may have 2,000 bytes in all"
+    return None if end.returncode and said in end.stderr else "not refused: " + end.stderr
 
 
 def scopes(program):

@@ -48,9 +48,9 @@ TOOLS = {
                                          ["{program}", "0"], ["{program}", "500000001"], ["{program}", "1", "1"]],
                       misses=[(["{program}", "1"], 1, "there is no rustc"),
                               (["--count", "{program}"], 1, "there is no valgrind")]),
-    "examples/addresses": Tool([(["lost", "object", TOOLCHAIN], r"^lost: its bytes depend on where it lies; FIXED=1 ")],
-                               (COMPILER,), NOTHING + [["lost", "none", TOOLCHAIN], ["lost", "script", TOOLCHAIN]],
-                               [(["lost", "object", "none-"], 1, "none-objdump: No such file or directory")]),
+    "examples/addresses": Tool([(["tables", "object", TOOLCHAIN], r"^$"), (["words", "elf"], r"^$")], (COMPILER,),
+                               NOTHING + [["tables", "none", TOOLCHAIN], ["words", "script"], ["words", "cut"]],
+                               [(["tables", "table", "none-"], 1, "none-objcopy: No such file or directory")]),
     "examples/pack": Tool([(["own", "256", "program", "made"], r"^$"), (["--header", "own"], r"^40$")],
                           refuses=NOTHING + [["--header"], ["own", "256", "none", "made"]]),
     "examples/tour": Tool(refuses=[["none"], ["script"], ["--nonsense"], ["{program}", "more"]]),
@@ -110,13 +110,17 @@ def listed():
 
 @functools.cache
 def compiled():
-    """The files of a program that a compiler makes, by their names: linked, cut off, and not linked yet."""
+    """The files of a program that a compiler makes, by their names: linked, cut off, and not linked yet; and one with a
+    table of texts."""
     if not shutil.which(COMPILER):
         return {}
     with tempfile.TemporaryDirectory() as folder:
         linked, object_file = (os.path.join(folder, "lost" + end) for end in (".elf", ".o"))
         run(["make", "-s", "-C", EXAMPLES, "OUT=" + folder, linked])
-        return {"elf": contents(linked), "cut": contents(linked)[:1000], "object": contents(object_file)}
+        write(folder, "table.c", 'const char *const names[] = {"a", "b"};\n')
+        run([COMPILER, "-march=rv32imc", "-mabi=ilp32", "-c", "table.c"], cwd=folder)
+        return {"elf": contents(linked), "cut": contents(linked)[:1000], "object": contents(object_file),
+                "table": contents(os.path.join(folder, "table.o"))}
 
 
 def write_files(program, folder):

@@ -39,6 +39,27 @@ _start:
 3:      sw      zero, 0(t1)             # and the others are cleared
         addi    t1, t1, 4
 4:      bltu    t1, t2, 3b
+#ifdef ADDRESSES
+# An address of flash that stands in a variable counts from 0x80000000, and one of RAM from 0x10000: here it is made
+# what it is.
+        lla     t0, addresses
+        lla     t1, addresses_end
+        lla     t2, _start
+        lui     t3, 0x80000
+        sub     t2, t2, t3              # what is added to an address of flash,
+        lui     t3, 0x10
+        sub     t3, a1, t3              # and to one of RAM
+5:      lhu     t4, 0(t0)
+        add     t4, t4, gp
+        lw      t5, 0(t4)
+        bltz    t5, 6f
+        add     t5, t5, t3
+        j       7f
+6:      add     t5, t5, t2
+7:      sw      t5, 0(t4)
+        addi    t0, t0, 2
+        bltu    t0, t1, 5b
+#endif
 #endif
 #ifdef PICOLIBC
         lla     tp, _thread_variables
@@ -50,4 +71,12 @@ _start:
         li      a0, 0
         li      a4, 6
         ecall
+#endif
+
+#ifdef ADDRESSES
+        .section .rodata
+        .balign 4
+addresses:
+        .half   ADDRESSES               # where from gp on a word holds an address
+addresses_end:
 #endif

@@ -67,3 +67,4 @@ $(OUT)/%.o: $$(wildcard $$(call folder,$$*)/*.rs $$(call folder,$$*)/*/*.rs) $(L
 	    --extern libtock=$(LIBTOCK)/liblibtock.rlib -o $(abspath $(OUT))/$*.a $*/main.rs \
 	    $(subst $@,$(abspath $@),$(quietly))
 	$(compiler)$(TOOLCHAIN)ld -m elf32lriscv -r -u main $(OUT)/$*.a -o $@
+	$(tables)
