@@ -167,7 +167,7 @@ def own_application(program):
             if end.returncode or not ran(program, image).startswith(said):
                 return "%s: %r, %r" % (words, end.stderr, ran(program, image))
         write(folder, "own/seven.c", TABLES)
-        for words in ([], ["STACK=2048"]):
+        for words in ([], ["OPT=-O0"], ["OPT=-O2", "STACK=1024"]):
             end = make(folder, *words)
             text = end.stderr or ran(program, image, image)
             if not re.match(r"(same\n){2}==\n(slot [01] own terminated 626 .*\n){2}leds", text):

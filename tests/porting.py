@@ -1,4 +1,5 @@
-"""Checks of what docs/applications.md shows. `checks` gives each with its name, for tests/run."""
+"""Checks of what docs/applications.md shows, and of words after make that programs and libraries from
+elsewhere want. `checks` gives each with its name, for tests/run."""
 
 import os
 import re
@@ -7,7 +8,107 @@ import tempfile
 import rust
 from building import make, ran
 from cases.case import REPOSITORY
-from common import EXAMPLES, contents, run, write
+from common import EXAMPLES, SCRIPTS, contents, run, write
+
+# An application whose stack, heap and compiler are asked for by the words after make.
+WORDS = r"""
+#include <stdio.h>
+#include <stdlib.h>
+
+#ifndef NUMBER
+#define NUMBER 0
+#endif
+
+int main(void)
+{
+    volatile char much[MUCH];
+    much[0] = much[sizeof much - 1] = 1;
+#ifdef __PICOLIBC__
+    printf("%d ", malloc(MALLOC) != NULL);
+#endif
+    printf("%d %d\n", NUMBER, much[0]);
+    return 0;
+}
+"""
+# Words, and what it writes; None where the stack is too small for it.
+ANSWERS = [
+    (["CFLAGS=-DMUCH=1500"], "0 1\n"),
+    (["CFLAGS=-DMUCH=3000"], None),
+    (["CFLAGS=-DMUCH=3000 -DNUMBER=7", "STACK_SIZE=4096"], "7 1\n"),
+    (["CFLAGS=-DMUCH=100", "OPT=-Og"], "0 1\n"),
+    (["CFLAGS=-DMUCH=100", "OPT=-O0"], "0 1\n"),
+]
+ANSWERS_FIXED = [
+    (["CFLAGS=-DMUCH=100 -DMALLOC=5000"], "0 0 1\n"),
+    (["CFLAGS=-DMUCH=100 -DMALLOC=5000", "APP_HEAP_SIZE=6000"], "1 0 1\n"),
+]
+
+# What says that FIXED=1 helps, and what does not.
+HINT = "own: C's whole library is there with picolibc: FIXED=1 after make"
+HINTED = [("#include <math.h>\nint main(void) { return 0; }\n", True),
+          ("#include <stdlib.h>\nvoid *malloc(size_t);\nint main(void) { return malloc(1) == 0; }\n", True),
+          ("int main(void) { return none; }\n", False)]
+
+
+def text_of(program, folder, *words, script="empty.script"):
+    """What the application of a folder writes as it is built so; what the build says where it fails."""
+    end = make(folder, *words)
+    image = os.path.join(folder, "own", "own.bin")
+    return end.stderr if end.returncode else ran(program, image, script=os.path.join(SCRIPTS, script))
+
+
+def words(program, has_picolibc):
+    """The words after make for stack, heap and compiler, by libtock-c's names too."""
+    with tempfile.TemporaryDirectory() as folder:
+        write(folder, "own/main.c", WORDS)
+        fixed = [(["FIXED=1"] + given, answer) for given, answer in ANSWERS_FIXED if has_picolibc]
+        for given, answer in ANSWERS + fixed:
+            text = text_of(program, folder, *given)
+            end = "==\nslot 0 own faulted store " if answer is None else answer + "==\nslot 0 own terminated 0 "
+            if not text.startswith(end):
+                return "%s: %r" % (given, text)
+    return None
+
+
+def hints(program):
+    """Where the whole library is missing the build says how to have it, and says no such thing otherwise."""
+    with tempfile.TemporaryDirectory() as folder:
+        for source, is_hinted in HINTED:
+            write(folder, "own/main.c", source)
+            end = make(folder)
+            if not end.returncode or (HINT in end.stderr) != is_hinted:
+                return "%r: %s" % (source, end.stderr)
+    return None
+
+
+ADDS = """
+#include <add.h>
+#include <times.h>
+int main(void) { return times(add(1), 7); }
+"""
+
+
+def with_files(program):
+    """WITH takes files and folders of C from elsewhere, with their headers; what is not there is told."""
+    with tempfile.TemporaryDirectory() as folder:
+        write(folder, "own/main.c", ADDS)
+        write(folder, "adds/add.h", "int add(int);\n")
+        write(folder, "adds/main.c", "int add(int number) { int unused; return number + 1; }\n")
+        write(folder, "times/times.h", "int times(int, int);\n")
+        write(folder, "times/times.c", "int times(int one, int other) { return one * other; }\n")
+        write(folder, "times/main.c", "int main(void) { return 1; }\n")
+        write(folder, "empty/read.me", "")
+        adds, times = os.path.join(folder, "adds"), os.path.join(folder, "times", "times.c")
+        end = make(folder, "WITH=%s %s" % (adds, times))
+        text = end.stderr or ran(program, os.path.join(folder, "own", "own.bin"))
+        if not text.startswith("==\nslot 0 own terminated 14 "):
+            return text
+        for path, said in (("none", "there is no such file or folder"), ("empty", "there are no C files")):
+            end = make(folder, "WITH=" + os.path.join(folder, path))
+            if not end.returncode or said not in end.stderr:
+                return "%s: %s" % (path, end.stderr)
+    return None
+
 
 # What the programs of docs/applications.md write that one has from an empty folder by a few lines, in their order, each
 # with what it wants besides the compiler for RISC-V: picolibc, or Rust's compiler.
@@ -43,6 +144,9 @@ def documented(program, there):
 def checks(program, has_compiler, has_picolibc):
     """Each check with its name."""
     found = []
+    if has_compiler:
+        found += [("words-after-make", lambda: words(program, has_picolibc)), ("hints", lambda: hints(program)),
+                  ("with-files", lambda: with_files(program))]
     there = ["", "picolibc"][:1 + has_picolibc] + ["rust"] * (rust.version() != "")
     found += [("documented", lambda: documented(program, there))] * has_compiler
     return found
