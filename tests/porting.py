@@ -1,5 +1,5 @@
-"""Checks of what docs/applications.md shows, and of words after make that programs and libraries from
-elsewhere want. `checks` gives each with its name, for tests/run."""
+"""Checks of what docs/applications.md shows, and of what programs and libraries from elsewhere want of
+examples/Makefile: libtock-c's names and words, and further files. `checks` gives each with its name, for tests/run."""
 
 import os
 import re
@@ -49,6 +49,52 @@ HINTED = [("#include <math.h>\nint main(void) { return 0; }\n", True),
           ("#include <stdlib.h>\nvoid *malloc(size_t);\nint main(void) { return malloc(1) == 0; }\n", True),
           ("int main(void) { return none; }\n", False)]
 
+# Names of libtock-c's; the last expectation does not hold. The clock goes past its 2^32 ticks meanwhile.
+SOON = "start 4294966000\n"
+NAMES = r"""
+#include <stdio.h>
+#include <sys/time.h>
+#include <libtock/tock.h>
+#include <libtock/services/alarm.h>
+#include <libtock-sync/peripherals/rng.h>
+#include <libtock-sync/services/alarm.h>
+#include <libtock-sync/storage/nonvolatile_storage.h>
+
+static void come(uint32_t now, uint32_t scheduled, void *opaque)
+{
+    *(uint32_t *)opaque = scheduled;
+    TOCK_EXPECT(true, now - scheduled < 100);
+}
+
+static long tenths(const struct timeval *from, const struct timeval *to)
+{
+    return (to->tv_sec - from->tv_sec) * 10 + (to->tv_usec - from->tv_usec) / 100000;
+}
+
+int main(void)
+{
+    libtock_alarm_ticks_t alarm;
+    uint32_t start, scheduled = 0;
+    struct timeval first, last, before, after;
+    TOCK_EXPECT(0, gettimeofday(&first, NULL));
+    TOCK_EXPECT(true, libtock_nonvolatile_storage_exists() && libtocksync_nonvolatile_storage_exists());
+    TOCK_EXPECT(true, libtocksync_rng_exists());
+    libtock_alarm_command_read(&start);
+    TOCK_EXPECT(RETURNCODE_SUCCESS, libtock_alarm_at(start, 2000, come, &scheduled, &alarm));
+    while (scheduled == 0) {
+        yield();
+    }
+    TOCK_EXPECT(2000, (int)(scheduled - start));
+    TOCK_EXPECT(RETURNCODE_SUCCESS, libtock_alarm_gettimeasticks(&before, NULL));
+    libtocksync_alarm_delay_ms(3500);
+    TOCK_EXPECT(RETURNCODE_SUCCESS, libtock_alarm_gettimeasticks(&after, NULL));
+    TOCK_EXPECT(0, gettimeofday(&last, NULL));
+    printf("%ld %ld\n", tenths(&before, &after), tenths(&first, &last));
+    TOCK_EXPECT(3, 4);
+    return 0;
+}
+"""
+
 
 def text_of(program, folder, *words, script="empty.script"):
     """What the application of a folder writes as it is built so; what the build says where it fails."""
@@ -79,6 +125,16 @@ def hints(program):
             if not end.returncode or (HINT in end.stderr) != is_hinted:
                 return "%r: %s" % (source, end.stderr)
     return None
+
+
+def names(program):
+    """libtock-c's names that ask for more than the drivers' own calls."""
+    with tempfile.TemporaryDirectory() as folder:
+        write(folder, "own/main.c", NAMES)
+        write(folder, "soon.script", SOON)
+        text = text_of(program, folder, script=os.path.join(folder, "soon.script"))
+    told = r"3[56] (5[5-9]|6[0-5])\n\S*/own/main.c:\d+: expected 3, got 4\n==\nslot 0 own terminated 1 "
+    return None if re.match(told, text) else repr(text)
 
 
 ADDS = """
@@ -146,7 +202,7 @@ def checks(program, has_compiler, has_picolibc):
     found = []
     if has_compiler:
         found += [("words-after-make", lambda: words(program, has_picolibc)), ("hints", lambda: hints(program)),
-                  ("with-files", lambda: with_files(program))]
+                  ("names", lambda: names(program)), ("with-files", lambda: with_files(program))]
     there = ["", "picolibc"][:1 + has_picolibc] + ["rust"] * (rust.version() != "")
     found += [("documented", lambda: documented(program, there))] * has_compiler
     return found

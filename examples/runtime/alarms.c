@@ -93,6 +93,14 @@ int libtock_alarm_in_ms(uint32_t milliseconds, libtock_alarm_callback callback, 
     return set(alarm, NULL, libtock_alarm_ms_to_ticks(milliseconds));
 }
 
+int libtock_alarm_at(uint32_t reference, uint32_t ticks, libtock_alarm_callback callback, void *opaque,
+                     libtock_alarm_ticks_t *alarm)
+{
+    alarm->callback = callback;
+    alarm->opaque = opaque;
+    return set(alarm, &reference, ticks);
+}
+
 void libtock_alarm_cancel(libtock_alarm_t *alarm)
 {
     take_out(alarm);

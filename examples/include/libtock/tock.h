@@ -362,6 +362,10 @@ static inline _Noreturn void tock_restart(uint32_t completion_code)
     __builtin_unreachable();
 }
 
+// Ends the application with a line that says where, and the code 1, where a call did not return what was expected.
+void tock_expect(int expected, int actual, const char *file, unsigned line);
+#define TOCK_EXPECT(expected, actual) tock_expect((expected), (actual), __FILE__, __LINE__)
+
 // What a code means, in a word of TRD 104.
 const char *tock_strerr(statuscode_t status);
 const char *tock_strrcode(returncode_t code);

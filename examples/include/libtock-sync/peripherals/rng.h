@@ -6,6 +6,11 @@
 #include <libtock/peripherals/rng.h>
 #include <libtock-sync/await.h>
 
+static inline bool libtocksync_rng_exists(void)
+{
+    return libtock_rng_driver_exists();
+}
+
 // Waits for that many bytes, which the buffer must have room for, and tells how many came: fewer, with
 // RETURNCODE_FAIL, where the source has no more.
 static inline returncode_t libtocksync_rng_get_random_bytes(uint8_t *buffer, uint32_t length, uint32_t count,

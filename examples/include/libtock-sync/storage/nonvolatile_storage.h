@@ -6,6 +6,11 @@
 #include <libtock/storage/nonvolatile_storage.h>
 #include <libtock-sync/await.h>
 
+static inline bool libtocksync_nonvolatile_storage_exists(void)
+{
+    return libtock_nonvolatile_storage_driver_exists();
+}
+
 // What came of a request, and how many bytes it moved: the upcall has that number and then the status.
 static inline returncode_t tock_storage_end(returncode_t code, const struct tock_completion *completion, int *moved)
 {

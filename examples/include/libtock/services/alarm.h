@@ -17,6 +17,8 @@ typedef struct libtock_alarm {
     struct libtock_alarm *next;
 } libtock_alarm_t;
 
+typedef libtock_alarm_t libtock_alarm_ticks_t;
+
 // One that comes again and again.
 typedef struct {
     uint32_t interval;
@@ -39,6 +41,10 @@ static inline uint32_t libtock_alarm_ticks_to_ms(uint32_t ticks)
 // Has an alarm come once, so many milliseconds from now on.
 int libtock_alarm_in_ms(uint32_t milliseconds, libtock_alarm_callback callback, void *opaque, libtock_alarm_t *alarm);
 
+// The same by ticks, counted from one that has been.
+int libtock_alarm_at(uint32_t reference, uint32_t ticks, libtock_alarm_callback callback, void *opaque,
+                     libtock_alarm_ticks_t *alarm);
+
 // Has one come at each multiple of so many milliseconds from now on, at least one; where the application was busy for
 // longer, those that it missed come one after another.
 void libtock_alarm_repeat_every_ms(uint32_t milliseconds, libtock_alarm_callback callback, void *opaque,
@@ -47,5 +53,12 @@ void libtock_alarm_repeat_every_ms(uint32_t milliseconds, libtock_alarm_callback
 // It does not come any more, where it was still to come.
 void libtock_alarm_cancel(libtock_alarm_t *alarm);
 void libtock_alarm_repeating_cancel(libtock_alarm_repeating_t *alarm);
+
+// The clock's tick in seconds and microseconds, by <sys/time.h>. The second argument means nothing.
+struct timeval;
+int libtock_alarm_gettimeasticks(struct timeval *time, void *zone);
+
+// The clock in milliseconds. It goes on past 2^32 ticks where it is asked once in so many. This project's own.
+uint64_t libtock_alarm_milliseconds(void);
 
 #endif

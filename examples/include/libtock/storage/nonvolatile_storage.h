@@ -10,6 +10,11 @@
 typedef void (*libtock_nonvolatile_storage_callback_read)(returncode_t, int);
 typedef void (*libtock_nonvolatile_storage_callback_write)(returncode_t, int);
 
+static inline bool libtock_nonvolatile_storage_exists(void)
+{
+    return libtock_nonvolatile_storage_driver_exists();
+}
+
 static inline returncode_t libtock_nonvolatile_storage_get_number_bytes(uint32_t *count)
 {
     return libtock_nonvolatile_storage_command_get_number_bytes(count);
