@@ -1,6 +1,8 @@
 """Checks of what docs/applications.md shows, and of what programs and libraries from elsewhere want of
-examples/Makefile: libtock-c's names and words, and further files. `checks` gives each with its name, for tests/run."""
+examples/Makefile: libtock-c's names and words, POSIX functions, further files, and libraries of Debian's sources.
+`checks` gives each with its name, for tests/run."""
 
+import glob
 import os
 import re
 import tempfile
@@ -95,6 +97,73 @@ int main(void)
 }
 """
 
+# Functions of POSIX, one of them the application's own.
+POSIX = r"""
+#include <errno.h>
+#include <fcntl.h>
+#include <stdio.h>
+#include <stdlib.h>
+#include <string.h>
+#include <sys/stat.h>
+#include <sys/times.h>
+#include <time.h>
+#include <unistd.h>
+
+int unlink(const char *path)
+{
+    return path[0] == 'o' ? 0 : -1;
+}
+
+static void tell(const char *what, long came)
+{
+    printf("%s %ld %s\n", what, came, came < 0 ? strerror(errno) : "");
+    errno = 0;
+}
+
+int main(int count, char **words)
+{
+    struct stat status;
+    struct tms spent;
+    char line[20];
+    printf("%d '%s' %d\n", count, words[0], words[1] == NULL);
+    tell("open", open("none", O_RDONLY));
+    tell("fopen", fopen("none", "r") == NULL);
+    tell("close", close(1) + close(7));
+    tell("lseek", lseek(1, 0, SEEK_SET));
+    tell("isatty", isatty(0) + isatty(3));
+    tell("fstat", fstat(2, &status) == 0 && S_ISCHR(status.st_mode));
+    tell("stat", stat("none", &status));
+    tell("rename", rename("one", "other"));
+    tell("remove", remove("own"));
+    tell("getenv", getenv("HOME") != NULL);
+    tell("write", write(1, "text\n", 5));
+    tell("read", read(0, line, sizeof line));
+    write(2, line, 5);
+    tell("read", read(0, line, 2));
+    tell("time", time(NULL) >= 5 && clock() > CLOCKS_PER_SEC * 5 && times(&spent) > CLOCKS_PER_SEC * 5);
+    return 0;
+}
+"""
+POSIX_WRITES = """\
+1 '' 1
+open -1 No such file or directory
+fopen 1 
+close -1 Bad file number
+lseek -1 Illegal seek
+isatty 1 
+fstat 1 
+stat -1 No such file or directory
+rename -1 No such file or directory
+remove 0 
+getenv 0 
+text
+write 5 
+read 5 
+pear
+read 2 
+time 1 
+"""
+
 
 def text_of(program, folder, *words, script="empty.script"):
     """What the application of a folder writes as it is built so; what the build says where it fails."""
@@ -137,6 +206,14 @@ def names(program):
     return None if re.match(told, text) else repr(text)
 
 
+def posix(program):
+    """Functions of POSIX know the console and the clock, and no files; an application's own are taken."""
+    with tempfile.TemporaryDirectory() as folder:
+        write(folder, "own/main.c", POSIX)
+        text = text_of(program, folder, "FIXED=1", script="lines.script")
+    return None if text.startswith(POSIX_WRITES + "==\nslot 0 own terminated 0 ") else repr(text)
+
+
 ADDS = """
 #include <add.h>
 #include <times.h>
@@ -164,6 +241,64 @@ def with_files(program):
             if not end.returncode or said not in end.stderr:
                 return "%s: %s" % (path, end.stderr)
     return None
+
+
+# Libraries of Debian's sources: where their C files lie, words after make, and an application that has them pack a text
+# and unpack it again. zlib's gz functions want files, of which there are none.
+LZ4 = r"""
+#include <stdio.h>
+#include <string.h>
+#include <lz4.h>
+
+int main(void)
+{
+    static char text[2000], packed[2100], unpacked[2000];
+    for (int i = 0; i < 2000; i++) {
+        text[i] = "pack and unpack "[i % 16];
+    }
+    int size = LZ4_compress_default(text, packed, sizeof text, sizeof packed);
+    int whole = LZ4_decompress_safe(packed, unpacked, size, sizeof unpacked);
+    printf("%d %d %d\n", size > 0 && size < 200, whole, memcmp(text, unpacked, sizeof text));
+    return 0;
+}
+"""
+ZLIB = r"""
+#include <stdio.h>
+#include <string.h>
+#include <zlib.h>
+
+int main(void)
+{
+    static char text[2000], packed[2100], unpacked[2000];
+    for (int i = 0; i < 2000; i++) {
+        text[i] = "pack and unpack "[i % 16];
+    }
+    z_stream stream = {.next_in = (void *)text, .avail_in = 2000, .next_out = (void *)packed, .avail_out = 2100};
+    int code = deflateInit2(&stream, 9, Z_DEFLATED, 9, 1, Z_DEFAULT_STRATEGY) | (deflate(&stream, Z_FINISH) - 1);
+    int size = stream.total_out;
+    deflateEnd(&stream);
+    stream = (z_stream){.next_in = (void *)packed, .avail_in = size, .next_out = (void *)unpacked, .avail_out = 2000};
+    code |= inflateInit2(&stream, 9) | (inflate(&stream, Z_FINISH) - 1);
+    printf("%d %d %d\n", size > 0 && size < 200, code ? code : (int)stream.total_out, memcmp(text, unpacked, 2000));
+    printf("%d\n", gzopen("none", "rb") == NULL);
+    return 0;
+}
+"""
+LIBRARIES = [("lz4", "lib", ["STACK=24576"], LZ4, "1 2000 0\n"), ("zlib", "", ["HEAP=32768"], ZLIB, "1 2000 0\n1\n")]
+
+
+def sources_of(name):
+    """Where a package's sources were unpacked; nothing where they are not there."""
+    places = [os.path.join(EXAMPLES, "out", name + "-[0-9]*", ""), os.path.join("/usr/src", name + "-[0-9]*", "")]
+    return next((found for place in places for found in sorted(glob.glob(place))), "")
+
+
+def library(program, name, below, given, source, answer):
+    """A library of Debian's sources links without a line of one's own, and works."""
+    with tempfile.TemporaryDirectory() as folder:
+        write(folder, "own/main.c", source)
+        text = text_of(program, folder, "FIXED=1", "WITH=" + os.path.join(sources_of(name), below), *given)
+    return None if text.startswith(answer + "==\nslot 0 own terminated 0 ") else repr(text)
 
 
 # What the programs of docs/applications.md write that one has from an empty folder by a few lines, in their order, each
@@ -199,10 +334,16 @@ def documented(program, there):
 
 def checks(program, has_compiler, has_picolibc):
     """Each check with its name."""
-    found = []
+    found, missing = [], []
     if has_compiler:
         found += [("words-after-make", lambda: words(program, has_picolibc)), ("hints", lambda: hints(program)),
                   ("names", lambda: names(program)), ("with-files", lambda: with_files(program))]
     there = ["", "picolibc"][:1 + has_picolibc] + ["rust"] * (rust.version() != "")
     found += [("documented", lambda: documented(program, there))] * has_compiler
+    found += [("posix", lambda: posix(program))] * has_picolibc
+    for name, check in [(row[0], lambda row=row: library(program, *row)) for row in LIBRARIES]:
+        is_there = has_picolibc and sources_of(name)
+        (found if is_there else missing).append((name + "-from-debian", check))
+    if missing:
+        print("%s: not tried without picolibc and Debian's sources in examples/out" % ", ".join(dict(missing)))
     return found

@@ -63,6 +63,8 @@ _start:
 #endif
 #ifdef PICOLIBC
         lla     tp, _thread_variables
+        li      a0, 1                   # main's words: a program's name that is empty, and a null behind it
+        lla     a1, words
         call    main
         call    exit                    # with what main returned
 #else
@@ -71,6 +73,12 @@ _start:
         li      a0, 0
         li      a4, 6
         ecall
+#endif
+
+#ifdef PICOLIBC
+        .section .rodata
+        .balign 4
+words:  .word   words + 4, 0
 #endif
 
 #ifdef ADDRESSES
