@@ -286,6 +286,21 @@ int main(void)
 """
 LIBRARIES = [("lz4", "lib", ["STACK=24576"], LZ4, "1 2000 0\n"), ("zlib", "", ["HEAP=32768"], ZLIB, "1 2000 0\n1\n")]
 
+# What Lua writes for examples/scripts/lua.script.
+LUA_WRITES = """\
+Lua 5.4.%s
+> Lua 5.4	42	1.4142135623731
+> > >> > > fox,quick,the	6
+> >> > 55
+> nil	none: No such file or directory	2
+> stdin:1: no
+stack traceback:
+	[C]: in function 'error'
+	stdin:1: in main chunk
+	[C]: in ?
+> ==
+slot 0 lua terminated 3 """
+
 
 def sources_of(name):
     """Where a package's sources were unpacked; nothing where they are not there."""
@@ -299,6 +314,26 @@ def library(program, name, below, given, source, answer):
         write(folder, "own/main.c", source)
         text = text_of(program, folder, "FIXED=1", "WITH=" + os.path.join(sources_of(name), below), *given)
     return None if text.startswith(answer + "==\nslot 0 own terminated 0 ") else repr(text)
+
+
+def lua(program):
+    """Lua's prompt is built of Debian's sources, and answers what a person types."""
+    with tempfile.TemporaryDirectory() as folder:
+        end = run(["make", "-C", EXAMPLES, "lua", "OUT=" + folder, "LUA=" + os.path.join(sources_of("lua5.4"), "src")],
+                  timeout=600)
+        if end.returncode:
+            return end.stderr
+        words = [program, "boot", os.path.join(folder, "lua.bin"), os.path.join(SCRIPTS, "lua.script")]
+        text = run(words + ["--turns", "3000000"]).stdout
+    pattern = re.escape(LUA_WRITES).replace("%s", ".*")
+    return None if re.match(pattern, text) else repr(text)
+
+
+def no_lua():
+    """Without Lua's sources the Makefile says how to come by them."""
+    end = run(["make", "-C", EXAMPLES, "lua", "LUA=/none"])
+    said = "there are no sources of Lua: on Debian, apt-get source lua5.4;"
+    return None if end.returncode and said in end.stderr else end.stderr
 
 
 # What the programs of docs/applications.md write that one has from an empty folder by a few lines, in their order, each
@@ -334,14 +369,15 @@ def documented(program, there):
 
 def checks(program, has_compiler, has_picolibc):
     """Each check with its name."""
-    found, missing = [], []
+    found, missing = [("lua-missing", no_lua)], []
     if has_compiler:
         found += [("words-after-make", lambda: words(program, has_picolibc)), ("hints", lambda: hints(program)),
                   ("names", lambda: names(program)), ("with-files", lambda: with_files(program))]
     there = ["", "picolibc"][:1 + has_picolibc] + ["rust"] * (rust.version() != "")
     found += [("documented", lambda: documented(program, there))] * has_compiler
     found += [("posix", lambda: posix(program))] * has_picolibc
-    for name, check in [(row[0], lambda row=row: library(program, *row)) for row in LIBRARIES]:
+    for name, check in [("lua5.4", lambda: lua(program))] + [
+            (row[0], lambda row=row: library(program, *row)) for row in LIBRARIES]:
         is_there = has_picolibc and sources_of(name)
         (found if is_there else missing).append((name + "-from-debian", check))
     if missing:
