@@ -3,11 +3,16 @@ tests/run."""
 
 import os
 import re
+import shutil
 import tempfile
 
 from building import every_100_ms, ran
+from cases.applications import APPLICATIONS
 from cases.case import REPOSITORY
 from common import EXAMPLES, SCRIPTS, contents, run, write
+from flash_images import permissions_tlv
+
+TARGET = "riscv32imc-unknown-none-elf"
 
 # An application of two files: formatted lines, a static variable, an alarm, the heap, its places in memory, and a call
 # that is refused.
@@ -291,13 +296,95 @@ def milliseconds(program):
     return None if text.startswith(every_100_ms(40) + "5 s\n==\nslot 0 own terminated 0 ") else repr(text)
 
 
+def cargo(folder, program, *words, **more):
+    """What cargo makes of a project, without a network, as it runs by the program."""
+    return run(["cargo", *words], cwd=folder, timeout=600, env={**os.environ, "TOCK_PROGRAM": program, **more})
+
+
+def by_cargo(program):
+    """The project in examples/rust has cargo build what make does."""
+    cases = {name: case for name, case in ((case.name, case) for case in APPLICATIONS) if name.startswith("rust-")}
+    with tempfile.TemporaryDirectory() as folder:
+        end = cargo(os.path.join(EXAMPLES, "rust"), program, "build", "--release", "--target-dir", folder)
+        if end.returncode:
+            return end.stderr
+        for name, case in cases.items():
+            image, script = (os.path.join(EXAMPLES, "..", word) for word in case.words[1:3])
+            built = os.path.join(folder, TARGET, "release", os.path.basename(image))
+            text = run([program, "boot", built, script, "--turns", "100000"]).stdout.replace("at ../apps/", "at ")
+            if not case.is_met_by(0, text.encode()):
+                return "%s: %r" % (name, text)
+    return None
+
+
+def project(program):
+    """`make cargo` writes a project for an application of one's own: cargo builds it, runs it, and answers what
+    rust-analyzer asks; words after make are variables there."""
+    with tempfile.TemporaryDirectory() as folder:
+        own = os.path.join(folder, "own")
+        write(folder, "own/main.rs", EVERY_100_MS)
+        write(folder, "own/permissions", "0:1 0:2 0:3 0:5 0:6 1:1\n")
+        end = make(folder, "cargo")
+        if end.returncode:
+            return end.stderr
+        end = cargo(own, program, "run", TICKS_PER_MS="1000")
+        if not end.stdout.startswith(every_100_ms(40) + "5 s\n==\nslot 0 own terminated 0 "):
+            return "cargo run: %s%s" % (end.stdout, end.stderr)
+        end = cargo(own, program, "run", TICKS_PER_MS="1000", STACK="64")
+        if "slot 0 own faulted store 7ffff" not in end.stdout:
+            return "with a small stack: %s%s" % (end.stdout, end.stderr)
+        image = os.path.join(own, "out", TARGET, "debug", "own.bin")
+        if permissions_tlv((0, 0, 0b1101110), (1, 0, 2)) not in contents(image):
+            return "the image has no permissions"
+        for words in (["metadata", "--format-version", "1"],
+                      ["check", "--workspace", "--all-targets", "--message-format=json"]):
+            end = cargo(own, program, *words)
+            if end.returncode or '"own' not in end.stdout or '"level":"' in end.stdout:
+                return "%s: %s%s" % (words, end.stdout, end.stderr)
+        end = make(folder, "cargo")
+        if not end.returncode or "own/Cargo.toml: it is there already" not in end.stderr:
+            return end.stderr
+    end = run(["make", "-C", EXAMPLES, "cargo"])
+    said = "cargo: APP=path names the folder of an application in Rust"
+    return None if end.returncode and said in end.stderr else end.stderr
+
+
+def analyzer():
+    """The first rust-analyzer on PATH that starts: rustup has one that does not, without its component."""
+    paths = [shutil.which("rust-analyzer", path=folder) for folder in os.get_exec_path()]
+    return next((path for path in paths if path and run([path, "--version"]).returncode == 0), None)
+
+
+def analyzed(_program):
+    """rust-analyzer knows the names and types of a project, where the compiler that has sources is the first on PATH:
+    it tells what is wrong, and of names and types nothing else."""
+    compiler = run(["make", "-s", "-C", EXAMPLES, "rust-places", "RUST=1"]).stdout.split()[0]
+    environment = dict(os.environ, PATH=os.path.dirname(compiler) + os.pathsep + os.environ["PATH"])
+    with tempfile.TemporaryDirectory() as folder:
+        write(folder, "own/main.rs", EVERY_100_MS)
+        make(folder, "cargo")
+        for line, expected in (("", []), ("let _: &str = libtock::leds::Leds::count();", ["E0308"])):
+            write(folder, "own/main.rs", EVERY_100_MS.replace("ErrorCode> {\n", "ErrorCode> {\n" + line, 1))
+            words = [analyzer(), "diagnostics", os.path.join(folder, "own")]
+            told = run(words, timeout=600, env=environment).stdout
+            if re.findall(r'Error RustcHardError\("(\w+)"', told) != expected or "scan complete" not in told:
+                return "%r: %s" % (line, told)
+    return None
+
+
 def checks(program, has_compiler):
     """Each check with its name."""
     with_compiler = [("rust-application", application), ("rust-documented", documented), ("rust-anywhere", anywhere),
                      ("rust-scopes", scopes), ("rust-alarms-in-alarms", alarms), ("rust-milliseconds", milliseconds)]
+    with_cargo = [("rust-by-cargo", by_cargo), ("rust-project", project)]
+    is_there = has_compiler and version() != ""
+    has_cargo = is_there and shutil.which("cargo") is not None
+    kinds = [(is_there, with_compiler), (has_cargo, with_cargo),
+             (has_cargo and analyzer() is not None, [("rust-analyzed", analyzed)])]
+    missing = [name for is_tried, listed in kinds if not is_tried for name, _ in listed]
+    if missing:
+        print("%s: not tried without rustc and its sources, cargo, rust-analyzer, and the compiler for RISC-V"
+              % ", ".join(missing))
     found = [("rust-missing-tools", missing_tools)]
-    if has_compiler and version():
-        return found + [(name, lambda check=check: check(program)) for name, check in with_compiler]
-    names = ", ".join(name for name, _ in with_compiler)
-    print("%s: not tried without rustc, its sources, and the compiler for RISC-V" % names)
-    return found
+    tried = [one for is_tried, listed in kinds if is_tried for one in listed]
+    return found + [(name, lambda check=check: check(program)) for name, check in tried]

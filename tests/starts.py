@@ -42,7 +42,8 @@ BAD_RUNS = NOTHING + [["script", "script"], ["image", "none"], ["none", "script"
                       RUN + ["--slot", "0", "none"], RUN + ["--slot", "0", "script"], RUN + ["--slot", "0", "cut"],
                       RUN + ["--slot", "5", "elf"]]
 
-# Each tool. What examples/tour does is looked at in around.py. Without words tools/prove proves for minutes.
+# Each tool. What examples/tour does is looked at in around.py, and what cargo calls in rust.py. Without words
+# tools/prove proves for minutes.
 TOOLS = {
     "bench/run": Tool(refuses=NOTHING + [["script"], ["--count"], ["--count", "none"], ["{program}", "none"],
                                          ["{program}", "0"], ["{program}", "500000001"], ["{program}", "1", "1"]],
@@ -53,6 +54,9 @@ TOOLS = {
                                [(["tables", "table", "none-"], 1, "none-objcopy: No such file or directory")]),
     "examples/pack": Tool([(["own", "256", "program", "made"], r"^$"), (["--header", "own"], r"^40$")],
                           refuses=NOTHING + [["--header"], ["own", "256", "none", "made"]]),
+    "examples/rust/link": Tool(refuses=NOTHING),
+    "examples/rust/run": Tool(refuses=NOTHING + [["none", "script", "1", "1"]]),
+    "examples/rust/rustc": Tool(),
     "examples/tour": Tool(refuses=[["none"], ["script"], ["--nonsense"], ["{program}", "more"]]),
     "tests/memory": Tool([(["{program}"], r"^\d passed, \d failed$")], ("cc",),
                          NOTHING + [["script"], ["{program}", "more"]], [(["{program}"], 1, "there is no cc")]),

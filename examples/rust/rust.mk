@@ -53,14 +53,34 @@ $(LIBTOCK)/liblibtock.rlib: $(wildcard rust/libtock/*.rs) $(CORE)/liballoc.rlib
 	cd rust && TICKS_PER_MS=$(TICKS_PER_MS) $(RUSTC) --crate-type rlib --crate-name libtock $(CHECKED) \
 	    --out-dir $(@D) libtock/lib.rs $(quietly)
 
-# Which compiler there is, where it has all that it needs.
+# Which compiler there is, where it has all that it needs; where it is and where the library is; and the library alone.
 rust-version:
 	@$(rust)$(RUSTC) --version
+rust-places:
+	@$(rust)echo $$(which $(RUSTC)) $(CORE)
+rust-library: $(CORE)/liballoc.rlib
+
+# A project of cargo's for an application in a folder of its own: what rust/ has for those of apps/.
+PROJECT = $(FOLDER)/Cargo.toml
+cargo:
+	$(if $(APP),,$(of_no_project))$(if $(wildcard $(PROJECT)),$(error $(PROJECT): it is there already))
+	mkdir -p $(FOLDER)/.cargo
+	sed 's|"\./|"$(CURDIR)/rust/|' rust/.cargo/config.toml > $(FOLDER)/.cargo/config.toml
+	sed -e '/^\[\[bin/,$$d' -e '1,2d' -e 's|"applications"|"$(NAME)"|; s|"libtock"|"$(CURDIR)/rust/libtock"|' \
+	    rust/Cargo.toml > $(PROJECT)
+	printf '[[bin]]\nname = "$(NAME)"\npath = "main.rs"\ntest = false\nbench = false\n' >> $(PROJECT)
+	@echo "$(PROJECT) is there: cargo build, cargo run"
 
 $(CORE)/.compiler: FORCE
 	@$(rust)mkdir -p $(@D)
 	@{ $(RUSTC) -vV; echo "$(RUSTFLAGS)"; } > $@.now; cmp -s $@.now $@ || cp $@.now $@
 
+ifneq ($(OBJECTS),)
+# Cargo has compiled it.
+$(OUT)/%.o: FORCE | $(OUT)
+	$(compiler)$(TOOLCHAIN)ld -m elf32lriscv -r -u main --start-group $(OBJECTS) --end-group -o $@
+	$(tables)
+else
 # All of it is put into one archive, of which the application's part and what that needs of compiler_builtins remain.
 $(OUT)/%.o: $$(wildcard $$(call folder,$$*)/*.rs $$(call folder,$$*)/*/*.rs) $(LIBTOCK)/liblibtock.rlib $(OUT)/.library
 	cd $(call folder,$*)/.. && $(RUSTC) --crate-type staticlib --crate-name $(subst -,_,$*) $(CHECKED) -C lto=fat \
@@ -68,3 +88,4 @@ $(OUT)/%.o: $$(wildcard $$(call folder,$$*)/*.rs $$(call folder,$$*)/*/*.rs) $(L
 	    $(subst $@,$(abspath $@),$(quietly))
 	$(compiler)$(TOOLCHAIN)ld -m elf32lriscv -r -u main $(OUT)/$*.a -o $@
 	$(tables)
+endif

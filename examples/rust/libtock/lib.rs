@@ -3,6 +3,9 @@
 
 #![no_std]
 
+/// What the linker for cargo reads of the environment: cargo links anew where one of these changes.
+const _: [Option<&str>; 4] = [option_env!("FLASH"), option_env!("RAM"), option_env!("HEAP"), option_env!("STACK")];
+
 pub mod alarm;
 pub mod buttons;
 pub mod console;
