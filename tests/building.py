@@ -384,9 +384,15 @@ int main(void)
 
 
 def milliseconds(program):
-    """With TICKS_PER_MS=1000 an alarm every 100 ms keeps its time though it prints; a number that is none is
-    refused."""
+    """With TICKS_PER_MS=1000 an alarm every 100 ms keeps its time though it prints, and so do those of alarms, to the
+    tenth second; a number that is none is refused."""
     with tempfile.TemporaryDirectory() as folder:
+        shutil.copytree(os.path.join(EXAMPLES, "apps", "alarms"), os.path.join(folder, "own"))
+        end = make(folder, "TICKS_PER_MS=1000")
+        text = end.stderr or ran(program, os.path.join(folder, "own", "own.bin"))
+        time = re.match(r"(\w+ \w+\n){5}fast is over\nslow 2\n==\n.*\n.*\nend done steps \d+ time (\d+)\n$", text)
+        if not time or not 10000000 <= int(time[2]) < 10005000:
+            return repr(text)
         write(folder, "own/main.c", EVERY_100_MS)
         end = make(folder, "TICKS_PER_MS=1000")
         text = end.stderr or ran(program, os.path.join(folder, "own", "own.bin"))
