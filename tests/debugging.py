@@ -101,10 +101,10 @@ def shown():
     return re.findall(r"^\(gdb\) (.*)", text, re.M), text
 
 
-def built(program, folder):
+def built(program, folder, *settings):
     """The image and the program of lost, in a folder; or what went wrong."""
     image = os.path.join(folder, "lost.bin")
-    end = run(["make", "-s", "-C", EXAMPLES, "IMAGES=" + folder, "OUT=" + folder, "TOCK=" + program, image])
+    end = run(["make", "-s", "-C", EXAMPLES, "IMAGES=" + folder, "OUT=" + folder, "TOCK=" + program, *settings, image])
     return end.stdout if end.returncode else None
 
 
@@ -381,6 +381,19 @@ def sought(program):
     return None if is_there and not missing and "at once" not in said else "%s is missing: %s" % (missing, said)
 
 
+def locals_there(program):
+    """Built with OPT=-Og an application has its locals: a condition on one holds where it should, on the way on and
+    back."""
+    with tempfile.TemporaryDirectory() as folder:
+        wrong = built(program, folder, "OPT=-Og")
+        if wrong:
+            return wrong
+        said = gdb_says(folder, ["break main.c:37 if i == 3 && length == 12", "continue", "print i", "stepi",
+                                 "reverse-continue", "print bank.note[i]"])
+    stops = re.findall(r"^Breakpoint 1, clear_note \(length=12\)", said, re.M)
+    return None if len(stops) == 2 and "\n$1 = 3\n" in said and "\n$2 = 0 '\\000'" in said else "GDB: " + said
+
+
 def no_reads(program):
     """`rwatch` and `awatch` are refused, and the run goes on behind them; so it does where another way to ask for them
     was taken, once that is deleted, which is said."""
@@ -448,8 +461,9 @@ def checks(program, has_compiler):
     if has_compiler and shutil.which(GDB):
         found += [("debugging-session", lambda: session(program)), ("mistyped-places", lambda: mistyped(program)),
                   ("judged-conditions", lambda: judged(program)), ("seek-output", lambda: sought(program)),
+                  ("locals", lambda: locals_there(program)),
                   ("no-reads", lambda: no_reads(program))]
     else:
-        print("debugging-session, mistyped-places, judged-conditions, seek-output, no-reads: not tried without the "
-              "compiler and %s" % GDB)
+        print("debugging-session, mistyped-places, judged-conditions, seek-output, locals, no-reads: not tried without "
+              "the compiler and %s" % GDB)
     return found
