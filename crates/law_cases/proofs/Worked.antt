@@ -1,7 +1,8 @@
 -- Worked cases of laws, computed from the definitions alone: of each relation an instance that it has, and one of a
--- wrong kernel that it refuses. Words were put together by hand from the unprivileged RISC-V manual, TRD 104 and the Tock
--- Binary Format.
-use Rattle.std.proofs.Common.{◌≡◌, inl, inr, ◌<◌, ◌≤◌, ℕ, zero, suc, ◌+◌, ◌-◌, ◌^◌, List, [], ◌∷◌, length, None, Option}
+-- wrong kernel that it refuses. Words were put together by hand from the unprivileged RISC-V manual, TRD 104 and the
+-- Tock Binary Format.
+use Rattle.std.proofs.Common.{◌≤◌}
+use Rattle.std.proofs.Common.{◌≡◌, ◌⊎◌, inl, inr, ◌<◌, ℕ, zero, suc, ◌+◌, ◌-◌, ◌^◌, List, [], ◌∷◌, length, None, Option}
 use Rattle.std.proofs.Common.{Some, Ok, Err, replicate, slice_index, true, false, sym, ap, subst}
 use Rattle.std.proofs.Common.{refl, arith}
 use Rattle.std.proofs.lemmas.Bool.{true≢false}
@@ -12,7 +13,7 @@ use Rattle.tk_base.specs.declared.access.TheConstants.{FLASH_START, RAM_START}
 use Rattle.tk_base.specs.declared.access.Width.TheVariants.{Word}
 use Rattle.tk_base.specs.declared.call.CallRule.TheVariants.{Break}
 use Rattle.tk_base.specs.declared.kinds.PairKind.TheVariants.{ReadOnly}
-use Rattle.tk_base.specs.declared.process.Choice.TheVariants.{Run}
+use Rattle.tk_base.specs.declared.process.Choice.TheVariants.{Run, Pass}
 use Rattle.tk_base.specs.declared.process.Dev.{Dev}
 use Rattle.tk_base.specs.declared.process.Dev.TheVariants as dev
 use Rattle.tk_base.specs.declared.upcall.Upcall.{Upcall as Scheduled}
@@ -47,6 +48,7 @@ use Rattle.driver_model.specs.Requests.{with_request}
 use Rattle.driver_model.specs.Steps.{silently}
 use Rattle.kernel_model.specs.Accesses.{DenialIsDue, IsPermitted}
 use Rattle.kernel_model.specs.Calls.{by_form, memop, memops, served}
+use Rattle.kernel_model.specs.Causes.{IsCause, IsDoneByAnswer, IsDoneByTurn}
 use Rattle.kernel_model.specs.Filter.{IsFiltered}
 use Rattle.kernel_model.specs.Histories.{HandedNothing}
 use Rattle.kernel_model.specs.Laws.{ComesTo, IsSilent, KeepsLines, quiet}
@@ -54,10 +56,11 @@ use Rattle.kernel_model.specs.Lives.{AreApart, HasOrder, HasPendingWithinLimit, 
 use Rattle.kernel_model.specs.Prints.{AreOfItsBuffer, CouldLoad}
 use Rattle.kernel_model.specs.Record.{Record, byte_at}
 use Rattle.kernel_model.specs.Refused.{LeavesRefused}
-use Rattle.kernel_model.specs.Turn.{Edge, TurnTrace, turned, untraced}
-use Rattle.kernel_model.specs.World.{Label, Stepped, World, after, carried_out, may_be_made, stepped}
+use Rattle.kernel_model.specs.Turn.{Edge, Turn, TurnTrace, turned, untraced}
+use Rattle.kernel_model.specs.World.{Label, Stepped, World, after, carried_out, may_be_made, stepped, turn_label}
 use Rattle.kernel_model.specs.Worked.{asks, board, standing, turn_of, worked_settings}
 use Rattle.kernel_model.proofs.Classes.{memop_in}
+use Rattle.board_opening.specs.Certified.{CountsAre}
 
 -- An application with the header of one, that stands at an `ecall`; its block has the byte 9 throughout.
 abbrev object : List ℕ
@@ -78,7 +81,8 @@ with_own change = record application { own = change application.own }
 -- Its write of two bytes, which waits, of a read-only buffer of two at the block's start.
 abbrev asks_to_write : Own → Own
 asks_to_write own =
-    with_request console_writes (Some (record { length = 2; taken = 0 })) (handing ReadOnly console 1 (RAM_START, 2) own)
+    with_request console_writes (Some (record { length = 2; taken = 0 }))
+    (handing ReadOnly console 1 (RAM_START, 2) own)
 
 -- An edge of a button is told; a kernel that prints beside it.
 abbrev tells_edge : List ℕ → Label
@@ -230,7 +234,8 @@ none_denies_a_call (inl (inr due)) = by_call due.0 due.1.word due.1.fetch due.1.
     by_call instr word fetch means due =
         let ecall : 0x73 ≡ word = cc in
         let same : Some Ecall ≡ instr = subst (λ w. instr_of w ≡ instr) (sym ecall) means in
-        subst (IsDueOf (denied (asks 2 0).own.layout) (asks 2 0).process.regs (denied_at Load 0 NoRegion)) (sym same) due
+        subst (IsDueOf (denied (asks 2 0).own.layout) (asks 2 0).process.regs (denied_at Load 0 NoRegion)) (sym same)
+        due
 none_denies_a_call (inr unknown) = let class = unknown.class in omega (arith, class)
 
 -- A command is told that a process without a list of its own made; under a filter that is strict such a one is refused.
@@ -434,3 +439,27 @@ none_of_another made = let other = made.0 in omega (arith, other)
 -- What comes in is ready at its time; a kernel that still waits for it then.
 none_waits_still : AreAhead (record idle { event_at = Some 5 }) → ⊥
 none_waits_still ahead = let late : 5 < 5 = ahead dev.Event refl 5 refl in omega (arith, late)
+
+-- A command to the console: it is no cause of another byte; a kernel in which one writes to memory.
+none_by_a_command : IsCause 0 application application RAM_START (turn_label 0 0 commanded) → ⊥
+none_by_a_command cause = by_way cause.1
+  where
+    by_way : IsDoneByTurn application application commanded RAM_START
+        ⊎ IsDoneByAnswer (Turn 0) application application RAM_START
+        → ⊥
+    by_way (inl (inl stores)) = true≢false (sym stores)
+    by_way (inl (inr (inl flag))) = let told = flag.flag in cc
+    by_way (inl (inr (inr (inl ends)))) = true≢false (sym ends.0)
+    by_way (inl (inr (inr (inr shown)))) = true≢false (sym shown.0)
+    by_way (inr (inl inside)) = omega (arith, inside)
+    by_way (inr (inr again)) = let act = again.0 in cc
+
+-- Ticks that pass, and turns, add up to the time; a kernel in which one of two turns takes two ticks.
+abbrev counted : ℕ → ℕ → World
+counted time steps = record stopped { clock = record { time = time; steps = steps } }
+
+counts_so : CountsAre (Pass 3 ∷ []) (counted 3 1)
+counts_so = record { time = refl; steps = refl; turns = refl }
+
+none_takes_two : CountsAre (Run 0 ∷ Run 0 ∷ []) (counted 3 2) → ⊥
+none_takes_two counts = let time = counts.time in omega (arith, time)
