@@ -71,6 +71,8 @@ def session_by_chance(program, chance, sitting):
         made.append(chance_command(chance, sitting))
         try:
             sitting.do(made[-1])
+            if sitting.present.time > sitting.present.now:
+                return "after %r: it is at %d, past the present" % (made, sitting.present.time)
             # As on a screen at a great pace.
             sitting.present.go_to(sitting.present.now + chance.choice((0, 0, 400)), 400)
         except Refused:

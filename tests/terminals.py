@@ -42,6 +42,15 @@ class Terminal:
         fcntl.ioctl(0, termios.TIOCSCTTY, 0)
         signal.signal(signal.SIGINT, signal.SIG_DFL)
 
+    def __enter__(self):
+        return self
+
+    def __exit__(self, *ended):
+        self.process.kill()
+        self.process.wait()
+        os.close(self.parent)
+        os.close(self.child)
+
     def resize(self, rows, columns):
         fcntl.ioctl(self.child, termios.TIOCSWINSZ, struct.pack("HHHH", rows, columns, 0, 0))
 
@@ -75,14 +84,10 @@ class Terminal:
             b"\x1b[?1049h")
 
     def ended(self):
-        """Its answer, and whether the terminal is as it was."""
+        """Its answer, None where it does not end, and whether the terminal is as it was."""
         self.comes(lambda: self.process.poll() is not None)
         self.read(0.2)
-        self.process.kill()
-        is_as_before = self.is_as_before()
-        os.close(self.parent)
-        os.close(self.child)
-        return self.process.wait(), is_as_before
+        return self.process.poll(), self.is_as_before()
 
 
 def events_in(path):
@@ -113,6 +118,24 @@ def differs(program, saved, terminal, how):
     return None
 
 
+def ends_well(program, saved, terminal, how, status):
+    """Whether a session of some keys is saved at each, and its terminal left as it was; what is wrong."""
+    if not terminal.comes(lambda: b"buttons.bin" in terminal.text):
+        return "shows %r" % terminal.text
+    for keys in (b"0", b"\rtyped \xc3\xa9\r\x1b", b"0"):
+        terminal.keys(keys)
+    terminal.resize(3, 10)
+    terminal.process.send_signal(signal.SIGWINCH)
+    terminal.keys(b"l")
+    if not terminal.comes(lambda: events_in(saved) == DONE):
+        return "saved %s" % events_in(saved)
+    end_so(terminal, how)
+    answer, is_as_before = terminal.ended()
+    if (answer, is_as_before, events_in(saved)) != (status, how != signal.SIGKILL, DONE):
+        return "%s: %s, %s, %s, %r" % (how, answer, is_as_before, events_in(saved), terminal.text[-300:])
+    return differs(program, saved, terminal, how)
+
+
 def on_terminal(program):
     """Keys do what they do on a terminal, of whatever size; however it ends, the script is saved and gives the session,
     and the terminal is as it was, but where nothing can be done any more."""
@@ -121,40 +144,30 @@ def on_terminal(program):
             # Where no file is named a new one is made; another one of that name stays.
             saved = os.path.join(folder, "saved" if how == "key" else "buttons-2.live.script")
             open(os.path.join(folder, "buttons.live.script"), "w").close()
-            terminal = Terminal([TOOL, IMAGE % "buttons"] + ["--out", saved] * (how == "key"), folder)
-            if not terminal.comes(lambda: b"buttons.bin" in terminal.text):
-                return "shows %r" % terminal.text
-            for keys in (b"0", b"\rtyped \xc3\xa9\r\x1b", b"0"):
-                terminal.keys(keys)
-            terminal.resize(3, 10)
-            terminal.process.send_signal(signal.SIGWINCH)
-            terminal.keys(b"l")
-            if not terminal.comes(lambda: events_in(saved) == DONE):
-                return "saved %s" % events_in(saved)
-            end_so(terminal, how)
-            answer, is_as_before = terminal.ended()
-            if (answer, is_as_before, events_in(saved)) != (status, how != signal.SIGKILL, DONE):
-                return "%s: %d, %s, %s, %r" % (how, answer, is_as_before, events_in(saved), terminal.text[-300:])
-            wrong = differs(program, saved, terminal, how)
+            with Terminal([TOOL, IMAGE % "buttons"] + ["--out", saved] * (how == "key"), folder) as terminal:
+                wrong = ends_well(program, saved, terminal, how, status)
             if wrong or contents(os.path.join(folder, "buttons.live.script")):
                 return wrong or "wrote over a file"
     return None
 
 
+def stops(terminal):
+    """Whether Ctrl-Z stops it; a busy machine may lose a key."""
+    for _ in range(3):
+        terminal.keys(b"\x1a")
+        if terminal.comes(lambda: b"Stopped" in terminal.text, MOST_WAIT / 3):
+            break
+    return terminal.shows(b"Stopped")
+
+
 def suspended(program):
-    """Ctrl-Z leaves the terminal to the shell as it was, `fg` goes on with the session, and ticks do not run meanwhile;
-    a session that is quit without an event leaves no file."""
-    with tempfile.TemporaryDirectory() as folder:
-        terminal = Terminal(["bash", "--norc", "--noediting", "-i"], folder)
+    """Ctrl-Z leaves the terminal to the shell as it was, and `fg` goes on with the session; one that is quit without an
+    event leaves no file."""
+    with tempfile.TemporaryDirectory() as folder, Terminal(["bash", "--norc", "--noediting", "-i"], folder) as terminal:
         terminal.keys(b"%s %s\n" % (TOOL.encode(), (IMAGE % "press").encode()))
         if not terminal.shows(b"LEDs"):
             return "shows %r" % terminal.text
-        # A busy machine may lose a key.
-        for _ in range(3):
-            terminal.keys(b"\x1a")
-            if terminal.comes(lambda: b"Stopped" in terminal.text, MOST_WAIT / 3):
-                break
-        if not terminal.shows(b"Stopped"):
+        if not stops(terminal):
             return "is not stopped: %r" % terminal.text
         is_as_before = terminal.comes(terminal.is_as_before)
         terminal.keys(b"fg\n")
@@ -164,16 +177,15 @@ def suspended(program):
         if not terminal.shows(b"end "):
             return "does not end: %r" % terminal.text
         terminal.keys(b"exit\n")
-        answer, is_as_before = terminal.ended()
-        return None if (answer, is_as_before, os.listdir(folder)) == (0, True, []) else "%d, %s, %s" % (
-            answer, is_as_before, os.listdir(folder))
+        ended = terminal.ended() + (os.listdir(folder),)
+        return None if ended == (0, True, []) else "%s, %s, %s" % ended
 
 
 def read_aloud(program):
     """With --plain on a terminal the board goes on by itself between lines, and what changes is written once, without
     anything that moves a cursor."""
-    with tempfile.TemporaryDirectory() as folder:
-        terminal = Terminal([TOOL, IMAGE % "echo", "--plain", "--pace", "4"], folder)
+    with tempfile.TemporaryDirectory() as folder, \
+            Terminal([TOOL, IMAGE % "echo", "--plain", "--pace", "4"], folder) as terminal:
         written = b""
         for typed, told in ((b"go\n", b"slot 0 echo yielded"), (b"type hi\n", b"prints 'hi\\n'"),
                             (b"pause\n", b"now "), (b"quit\n", b"slot 0 echo yielded")):
@@ -182,30 +194,41 @@ def read_aloud(program):
             if not terminal.shows(told):
                 return "after %s: %r" % (typed, terminal.text)
             written += before + told
-        answer, is_as_before = terminal.ended()
-        if (answer, is_as_before) != (0, True) or b"\x1b" in written:
-            return "%d, %s, %r" % (answer, is_as_before, written)
-    return None
+        ended = terminal.ended()
+        return None if ended == (0, True) and b"\x1b" not in written else "%s, %r" % (ended, written)
+
+
+def debugs(terminal):
+    """Whether the debugger is started on slot 1, at a time."""
+    if not terminal.shows(b"together.bin"):
+        return False
+    for keys in (b" ", b":to 60\r", b"\x1bOB", b"d"):
+        terminal.keys(keys)
+    return terminal.shows(b"step 62, time 60: slot 1 is faulted")
 
 
 def debugged(program):
     """The debugger is at the step of the session, on the slot that is marked; afterwards the session goes on, and
-    Ctrl-C was the debugger's."""
-    with tempfile.TemporaryDirectory() as folder:
-        terminal = Terminal([TOOL, IMAGE % "together"], folder)
-        if not terminal.shows(b"together.bin"):
-            return "shows %r" % terminal.text
-        for keys in (b" ", b":to 60\r", b"\x1b[B\x1bOB", b"d"):
-            terminal.keys(keys)
-        if not terminal.shows(b"step 62, time 60: slot 1 is faulted"):
+    Ctrl-C was the debugger's. Where the terminal goes meanwhile the session ends."""
+    words = [TOOL, IMAGE % "together"]
+    with tempfile.TemporaryDirectory() as folder, Terminal(words, folder) as terminal:
+        if not debugs(terminal):
             return "is not there: %r" % terminal.text
         terminal.keys(b"\x03")
         terminal.keys(b"kill\ny\nquit\n")
         if not terminal.shows(b"paused"):
             return "does not come back: %r" % terminal.text
         terminal.keys(b"q")
-        answer, is_as_before = terminal.ended()
-        return None if (answer, is_as_before) == (0, True) else "%d, %s, %r" % (answer, is_as_before, terminal.text)
+        ended = terminal.ended()
+        if ended != (0, True):
+            return "%s, %s, %r" % (ended + (terminal.text,))
+    with tempfile.TemporaryDirectory() as folder, Terminal(words, folder) as terminal:
+        if not debugs(terminal):
+            return "is not there: %r" % terminal.text
+        os.close(terminal.parent)
+        terminal.parent = os.open(os.devnull, os.O_RDWR)
+        answer = terminal.process.wait(MOST_WAIT)
+        return None if answer == 129 else "answers %d where the terminal has gone" % answer
 
 
 CHECKS = (on_terminal, suspended, read_aloud) + ((debugged,) if shutil.which(GDB) else ())

@@ -145,13 +145,16 @@ class Present:
         return self.steps - before
 
     def step(self, count):
-        """Makes so many steps, whatever the time is then."""
-        count = min(count, MOST_STEPS - self.steps)
+        """Makes so many steps, or as many as are left, whatever the time is then."""
+        self.scout.seek(0, self.steps)
+        self.scout.moved(self.scout.ask("steps", 0, min(count, MOST_STEPS - self.steps)))
+        count = self.scout.steps - self.steps
         if count > 1:
             self.make(count - 1)
         began = self.time
         self.ahead = []
-        if count and self.make(1):
+        if count:
+            self.make(1)
             self.come(max(began + 1, self.time))
 
     def state(self):

@@ -1,7 +1,10 @@
 """A session on a screen: the board in real time, and keys."""
 
+import contextlib
 import curses
 import locale
+import os
+import signal
 import sys
 import time
 
@@ -49,6 +52,9 @@ class Screen:
             curses.set_escdelay(25)
             curses.wrapper(self.loop)
         except curses.error as error:
+            if isinstance(error.__context__, SystemExit):
+                # Where the terminal has gone it cannot be left either.
+                raise error.__context__ from None
             raise Refused("the terminal cannot show it: %s; --plain needs none" % error) from None
 
     def loop(self, window):
@@ -62,14 +68,22 @@ class Screen:
         last = time.monotonic()
         while not self.sitting.is_over:
             self.paint()
-            try:
-                self.key(window.get_wch())
-            except curses.error:
-                pass
+            key = self.read()
+            if key is not None:
+                self.key(key)
             now = time.monotonic()
             if self.is_on:
                 self.go_on(min(now - last, MOST_BEHIND))
             last = now
+
+    def read(self):
+        """A key, or None where none comes in time; where the terminal has gone the session ends."""
+        try:
+            return self.window.get_wch()
+        except curses.error:
+            if not os.isatty(sys.stdin.fileno()):
+                raise SystemExit(128 + signal.SIGHUP) from None
+            return None
 
     def go_on(self, seconds):
         """Goes on as far as real time did, or as the board can."""
@@ -258,6 +272,8 @@ class Screen:
                 print("live: enter goes back to the board", file=sys.stderr, flush=True)
                 sys.stdin.readline()
         finally:
-            curses.reset_prog_mode()
-            self.window.clear()
+            # Where the terminal has gone there is nothing to be set again, and what ends the session goes on to.
+            with contextlib.suppress(curses.error):
+                curses.reset_prog_mode()
+                self.window.clear()
         return ["debugged slot %d at step %d; paused" % (number, self.present.steps)]
