@@ -5,3 +5,5 @@ mod Turning
 mod Seeking
 mod Watching
 mod Granted
+mod Timing
+mod Agreeing

@@ -7,3 +7,5 @@ pub mod Parts
 pub mod Goals
 pub mod Searches
 pub mod StopLines
+pub mod Times
+pub mod Agreeing

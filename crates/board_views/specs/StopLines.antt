@@ -3,7 +3,7 @@ use Rattle.std.specs.Prelude.{ℕ, List, [], ◌∷◌, ◌++◌, codes, decimal
 use Rattle.tk_base.specs.Access.{cause_of}
 use Rattle.board_views.specs.Lines.{line_text, words_text}
 use Rattle.board_views.specs.declared.going.Stop.{Stop}
-use Rattle.board_views.specs.declared.going.Stop.TheVariants.{Done, Most, Turns, Address, Range, Changed}
+use Rattle.board_views.specs.declared.going.Stop.TheVariants.{Done, Most, Time, Turns, Address, Range, Changed}
 use Rattle.board_views.specs.declared.going.Stop.TheVariants.{Denied, Exit, Act}
 use Rattle.board_views.specs.declared.searches.Found.{Found}
 
@@ -16,6 +16,7 @@ line_of_stop why words = codes "stop " ++ line_text why (words_text words)
 abbrev pub stop_text : Stop → List ℕ
 stop_text Done = line_of_stop (codes "done") []
 stop_text Most = line_of_stop (codes "most") []
+stop_text Time = line_of_stop (codes "time") []
 stop_text Turns = line_of_stop (codes "turns") []
 stop_text (Address slot) = line_of_stop (codes "address") (slot ∷ [])
 stop_text Range = line_of_stop (codes "range") []

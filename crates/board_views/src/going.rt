@@ -20,6 +20,8 @@ pub enum Stop {
     Done,
     /// As many steps were made as might be, and something is left to do.
     Most,
+    /// The next step begins at the time or later, or ends past it.
+    Time,
     /// The process of the slot had as many turns as were asked for, or more.
     Turns,
     /// The next step is a turn of the process in a slot at one of the addresses.
@@ -81,7 +83,7 @@ pub fn go_steps(board: &mut Board, most: u32) -> Stop
 }
 
 /// How many steps may still be made, at most so many.
-fn steps_left(board: &Board, most: u32) -> u32
+pub(crate) fn steps_left(board: &Board, most: u32) -> u32
     ensures left { result ≡ within board.now most }
     ensures fits { 0 < result → board.now.clock.steps + result ≤ STEP_LIMIT }
 {

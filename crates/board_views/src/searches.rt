@@ -23,7 +23,7 @@ pub struct Found {
 }
 
 /// The round robin's next choice, where one more step may be made.
-fn choice_in(board: &Board) -> Option<Choice>
+pub(crate) fn choice_in(board: &Board) -> Option<Choice>
     ensures next { result ≡ choice_in board.now }
     ensures ready { IfSome result (λ choice. IsTrue (is_ready board.now choice)) }
 {

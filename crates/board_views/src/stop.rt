@@ -45,6 +45,7 @@ pub fn write_stop<K: Sink>(stop: Stop, out: &mut K) -> Result<(), Failed>
     match stop {
         Stop::Done => write_told(out, b"done", &[]),
         Stop::Most => write_told(out, b"most", &[]),
+        Stop::Time => write_told(out, b"time", &[]),
         Stop::Turns => write_told(out, b"turns", &[]),
         Stop::Address { slot } => write_told(out, b"address", &[slot_word(slot)]),
         Stop::Range => write_told(out, b"range", &[]),

@@ -12,8 +12,8 @@ use Rattle.tool_answers.specs.declared.outcome.ServeOutcome.{ServeOutcome}
 use Rattle.tool_answers.specs.declared.outcome.ServeOutcome.TheVariants.{Done, Refused, SinkFailed}
 use Rattle.tool_answers.specs.Parts.{RefusalIs, sink_account}
 use Rattle.tock_look.specs.declared.asks.Ask.{Ask}
-use Rattle.tock_look.specs.declared.asks.Ask.TheVariants.{Boot, State, At, Steps, Trace, Memory, Storage, Turns, Until}
-use Rattle.tock_look.specs.declared.asks.Ask.TheVariants.{Last, Unknown}
+use Rattle.tock_look.specs.declared.asks.Ask.TheVariants.{Boot, State, At, Steps, Trace, Memory, Storage, To, Turns}
+use Rattle.tock_look.specs.declared.asks.Ask.TheVariants.{Until, Last, Unknown}
 use Rattle.tock_look.specs.Answers.{IsAfter, answer_text, answers_text, world_after}
 use Rattle.tock_look.specs.Looks.{AnswersAll}
 
@@ -38,6 +38,7 @@ after_is files opening w (Steps slot most) new o e = e
 after_is files opening w (Trace slot most) new o e = e
 after_is files opening w (Memory slot at count) new o e = e
 after_is files opening w (Storage slot at count) new o e = e
+after_is files opening w (To slot reach) new o e = e
 after_is files opening w (Turns slot turns most) new o e = e
 after_is files opening w (Until most goal) new o e = e
 after_is files opening w (Last most goal) new o e = e

@@ -5,18 +5,20 @@ use Rattle.kernel_model.specs.Run.{round}
 use Rattle.run_text.specs.RunText.{trace_lines}
 use Rattle.board_views.specs.declared.goal.Goal.{Goal}
 use Rattle.board_views.specs.declared.going.Stop.{Stop}
+use Rattle.board_views.specs.declared.times.Reach.{Reach}
 use Rattle.board_views.specs.Memories.{memory_text, storage_text}
 use Rattle.board_views.specs.Places.{at_text}
 use Rattle.board_views.specs.Searches.{last_before, until_goal}
 use Rattle.board_views.specs.States.{board_state_text}
 use Rattle.board_views.specs.StopLines.{found_text, stop_text}
 use Rattle.board_views.specs.Stops.{stop_at, turns_stop, until_turns, within}
+use Rattle.board_views.specs.Times.{time_stop, told_reaching, world_reached}
 use Rattle.tool_tasks.specs.declared.prepare.RunFiles.{RunFiles}
 use Rattle.tool_tasks.specs.RunFiles.{opening_of_files}
 use Rattle.tool_answers.specs.Served.{SinkAccount, All, Part}
 use Rattle.tock_look.specs.declared.asks.Ask.{Ask}
-use Rattle.tock_look.specs.declared.asks.Ask.TheVariants.{Boot, State, At, Steps, Trace, Memory, Storage, Turns, Until}
-use Rattle.tock_look.specs.declared.asks.Ask.TheVariants.{Last, Unknown}
+use Rattle.tock_look.specs.declared.asks.Ask.TheVariants.{Boot, State, At, Steps, Trace, Memory, Storage, To, Turns}
+use Rattle.tock_look.specs.declared.asks.Ask.TheVariants.{Until, Last, Unknown}
 use Rattle.tock_look.specs.declared.answers.Answered.{Answered}
 use Rattle.tock_look.specs.declared.answers.Answered.TheVariants.{Whole, SinkFailed, NoMemory}
 use Rattle.tock_look.specs.declared.views.View.{View}
@@ -55,6 +57,12 @@ went_text w slot = view_text w (shows.Stopped slot (stop_at w))
 abbrev pub traced_text : World → ℕ → ℕ → List ℕ
 traced_text w slot most = let n = within w most in trace_lines n w ++ went_text (round n w).world slot
 
+-- and that of one that went on to a time
+abbrev pub reached_text : World → ℕ → Reach → List ℕ
+reached_text w slot reach =
+    let later = world_reached reach w in
+    told_reaching reach w ++ view_text later (shows.Stopped slot (time_stop reach.time later))
+
 -- and that of one that was to come to so many turns
 abbrev pub turned_text : World → ℕ → ℕ → List ℕ
 turned_text w slot turns = view_text w (shows.Stopped slot (turns_stop w slot turns))
@@ -77,6 +85,7 @@ world_after opening w (Steps slot most) = (round most w).world
 world_after opening w (Trace slot most) = (round (within w most) w).world
 world_after opening w (Memory slot at count) = w
 world_after opening w (Storage slot at count) = w
+world_after opening w (To slot reach) = world_reached reach w
 world_after opening w (Turns slot turns most) = until_turns most slot turns w
 world_after opening w (Until most goal) = (until_goal most goal w).world
 world_after opening w (Last most goal) = (last_before most goal w).world
@@ -91,6 +100,7 @@ answer_text w (Steps slot most) = went_text (round most w).world slot
 answer_text w (Trace slot most) = traced_text w slot most
 answer_text w (Memory slot at count) = view_text w (shows.Memory slot at count)
 answer_text w (Storage slot at count) = view_text w (shows.Storage slot at count)
+answer_text w (To slot reach) = reached_text w slot reach
 answer_text w (Turns slot turns most) = turned_text (until_turns most slot turns w) slot turns
 answer_text w (Until most goal) = until_text most goal w
 answer_text w (Last most goal) = last_text most goal w
@@ -110,6 +120,7 @@ IsAfter files w (Steps slot most) new = new ≡ (round most w).world
 IsAfter files w (Trace slot most) new = new ≡ (round (within w most) w).world
 IsAfter files w (Memory slot at count) new = new ≡ w
 IsAfter files w (Storage slot at count) new = new ≡ w
+IsAfter files w (To slot reach) new = new ≡ world_reached reach w
 IsAfter files w (Turns slot turns most) new = new ≡ until_turns most slot turns w
 IsAfter files w (Until most goal) new = new ≡ (until_goal most goal w).world
 IsAfter files w (Last most goal) new = new ≡ (last_before most goal w).world

@@ -9,9 +9,10 @@ use Rattle.decimal_number.specs.Number.{number_up_to}
 use Rattle.tock_look.specs.declared.asks.Ask.{Ask}
 use Rattle.board_views.specs.declared.goal.Goal.{Goal}
 use Rattle.board_views.specs.declared.goal.Watched.{Watched}
+use Rattle.board_views.specs.declared.times.Reach.{Reach}
 use Rattle.board_views.specs.declared.goal.TheConstants.{GOAL_ADDRESSES, GOAL_PLACES}
-use Rattle.tock_look.specs.declared.asks.Ask.TheVariants.{Boot, State, At, Steps, Trace, Memory, Storage, Turns, Until}
-use Rattle.tock_look.specs.declared.asks.Ask.TheVariants.{Last, Unknown}
+use Rattle.tock_look.specs.declared.asks.Ask.TheVariants.{Boot, State, At, Steps, Trace, Memory, Storage, To, Turns}
+use Rattle.tock_look.specs.declared.asks.Ask.TheVariants.{Until, Last, Unknown}
 use Rattle.tock_look.specs.declared.asks.Limits.{Limits}
 use Rattle.tock_look.specs.declared.asks.Numbers.{Numbers}
 use Rattle.tock_look.specs.declared.asks.Numbers.TheVariants as numbers
@@ -55,14 +56,22 @@ abbrev pub numbers_for : List ℕ → Option Numbers
 numbers_for name =
     if bytes_eq name (codes "memory") then Some numbers.Memory
     else (if bytes_eq name (codes "storage") then Some numbers.Storage
-    else (if bytes_eq name (codes "turns") then Some numbers.Turns else None))
+    else (if bytes_eq name (codes "to") then Some numbers.To
+    else (if bytes_eq name (codes "told") then Some numbers.Told
+    else (if bytes_eq name (codes "turns") then Some numbers.Turns else None))))
+
+-- the command that goes on to a time
+abbrev pub reaching : ℕ → ℕ → ℕ → Bool → Ask
+reaching slot time most told = To slot (record { time = time; most = most; told = told })
 
 abbrev pub with_two : Numbers → ℕ → ℕ → ℕ → Ask
 with_two numbers.Memory slot first second = Memory slot first second
 with_two numbers.Storage slot first second = Storage slot first second
+with_two numbers.To slot first second = reaching slot first second false
+with_two numbers.Told slot first second = reaching slot first second true
 with_two numbers.Turns slot first second = Turns slot first second
 
--- `memory S AT COUNT`, `storage S AT COUNT`, `turns S K MOST`
+-- `memory S AT COUNT`, `storage S AT COUNT`, `to S T MOST`, `told S T MOST`, `turns S K MOST`
 unfoldable pub two_numbers_ask : List ℕ → List ℕ → List ℕ → List ℕ → Option Ask
 two_numbers_ask name slot first second =
     option_and_then (λ two. option_and_then (λ s. option_and_then (λ a. option_map (with_two two s a)

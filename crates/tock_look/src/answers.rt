@@ -4,10 +4,11 @@ ghost use Rattle.tk_outside.specs.Writes.{Writes};
 ghost use Rattle.kernel_model.specs.Run.{round};
 ghost use Rattle.board_views.specs.Searches.{last_before, until_goal};
 ghost use Rattle.board_views.specs.Stops.{within};
+ghost use Rattle.board_views.specs.Times.{world_reached};
 ghost use Rattle.tool_tasks.specs.RunFiles.{AreWithinLimits, opening_of_files};
 ghost use Rattle.tool_answers.specs.Parts.{sink_account};
-ghost use Rattle.tock_look.specs.Answers.{Answers, AnswersWith, last_text, traced_text, until_text};
-ghost use Rattle.tock_look.specs.Answers.{view_text, words_line};
+ghost use Rattle.tock_look.specs.Answers.{Answers, AnswersWith, last_text, reached_text, traced_text};
+ghost use Rattle.tock_look.specs.Answers.{until_text, view_text, words_line};
 ghost use Rattle.tock_look.specs.Asks.{line_ask};
 ghost use Rattle.tock_look.specs.declared.answers.Answered.TheVariants.{Whole};
 ghost use Rattle.tock_look.specs.declared.asks.Ask.TheVariants.{Boot};
@@ -15,7 +16,7 @@ ghost use Rattle.tock_look.specs.declared.asks.Ask.TheVariants.{Boot};
 use crate::asks::{Ask, line_ask};
 use crate::views::{View, write_view};
 use board_core::Board;
-use board_views::{Goal, find_last, go_steps, go_traced, go_turns, go_until};
+use board_views::{Goal, Reach, find_last, go_steps, go_to, go_traced, go_turns, go_until};
 use std::alloc::Global;
 use tk_base::{NoMemory, Slot};
 use tk_outside::{Failed, Sink, put_all, writes_compose};
@@ -49,6 +50,21 @@ fn trace<K: Sink>(board: &mut Board, slot: Slot, most: u32, out: &mut K) -> Resu
 {
     writes_compose::<K>();
     let stop = go_traced(board, most, out)?;
+    write_view(board, View::Stopped { slot, stop }, out)
+}
+
+/// Goes on to a time, writes what is told of the steps, and then why and where the board stopped.
+fn reach_time<K: Sink>(
+    board: &mut Board,
+    slot: Slot,
+    reach: Reach,
+    out: &mut K,
+) -> Result<(), Failed>
+    ensures text { Writes K.tells out.old out.new (reached_text board.old slot reach) result }
+    ensures led { OnOk result (board.new ≡ world_reached reach board.old) }
+{
+    writes_compose::<K>();
+    let stop = go_to(board, reach, out)?;
     write_view(board, View::Stopped { slot, stop }, out)
 }
 
@@ -149,6 +165,10 @@ pub fn answer<K: Sink>(
             show(board, View::Stopped { slot: *slot, stop }, out)
         }
         Ask::Trace { slot, most } => match trace(board, *slot, *most, out) {
+            Ok(()) => Answered::Whole,
+            Err(_) => Answered::SinkFailed,
+        },
+        Ask::To { slot, reach } => match reach_time(board, *slot, *reach, out) {
             Ok(()) => Answered::Whole,
             Err(_) => Answered::SinkFailed,
         },

@@ -4,12 +4,12 @@ ghost use Rattle.std.specs.List.{slice_split};
 ghost use Rattle.std.specs.Option.{option_map};
 ghost use Rattle.tock_look.specs.Asks.{ask_of, asked, asks_of, is_last, is_traced, limits_in, limits_of};
 ghost use Rattle.tock_look.specs.Asks.{line_ask, looking_shown, most_of, numbered_ask, numbers_after};
-ghost use Rattle.tock_look.specs.Asks.{numbers_for, numbers_between, places_of, plain_ask, search_ask, searching};
-ghost use Rattle.tock_look.specs.Asks.{slot_ask, slot_of, stepping, two_numbers_ask, watched_after};
+ghost use Rattle.tock_look.specs.Asks.{numbers_for, numbers_between, places_of, plain_ask, reaching, search_ask};
+ghost use Rattle.tock_look.specs.Asks.{searching, slot_ask, slot_of, stepping, two_numbers_ask, watched_after};
 ghost use Rattle.tock_look.specs.Asks.{watched_of, with_two};
 
 use arrayvec::ArrayVec;
-use board_views::{GOAL_ADDRESSES, GOAL_PLACES, Goal, Watched};
+use board_views::{GOAL_ADDRESSES, GOAL_PLACES, Goal, Reach, Watched};
 use decimal_number::number_up_to;
 use std::alloc::{AllocError, Global};
 use tk_base::{NoMemory, Slot};
@@ -37,6 +37,9 @@ pub enum Ask {
     Memory { slot: Slot, at: u32, count: u32 },
     /// `storage S AT COUNT`: so many bytes of the storage of a slot, from one on.
     Storage { slot: Slot, at: u32, count: u32 },
+    /// `to S T MOST`: the steps that begin before a time and end at it or before, at most so many;
+    /// `told S T MOST`: the same, with the lines of the trace but for those of calls.
+    To { slot: Slot, reach: Reach },
     /// `turns S K MOST`: steps until the process of a slot had so many turns, at most so many steps.
     Turns { slot: Slot, turns: u32, most: u32 },
     /// `until S MOST WATCHED ADDRESSES`, or with an area `until S MOST,LOW,HIGH WATCHED ADDRESSES`:
@@ -124,6 +127,8 @@ fn stepping(is_traced: bool, slot: Slot, most: u32) -> Ask
 pub enum Numbers {
     Memory,
     Storage,
+    To,
+    Told,
     Turns,
 }
 
@@ -134,9 +139,19 @@ fn numbers_for(name: &str) -> Option<Numbers>
     match name {
         "memory" => Some(Numbers::Memory),
         "storage" => Some(Numbers::Storage),
+        "to" => Some(Numbers::To),
+        "told" => Some(Numbers::Told),
         "turns" => Some(Numbers::Turns),
         _ => None,
     }
+}
+
+/// The command that goes on to a time.
+fn reaching(slot: Slot, time: u32, most: u32, told: bool) -> Ask
+    ensures { result ≡ reaching slot time most told }
+{
+    let reach = Reach { time, most, told };
+    Ask::To { slot, reach }
 }
 
 /// The command of two numbers.
@@ -154,6 +169,8 @@ fn with_two(numbers: Numbers, slot: Slot, first: u32, second: u32) -> Ask
             at: first,
             count: second,
         },
+        Numbers::To => reaching(slot, first, second, false),
+        Numbers::Told => reaching(slot, first, second, true),
         Numbers::Turns => Ask::Turns {
             slot,
             turns: first,

@@ -1,0 +1,52 @@
+-- Scripts that agree up to a time make the same steps up to it: an event that comes in then changes none of the steps
+-- that begin before that time and end at it or before. It is this board's own rule.
+use Rattle.std.specs.Prelude.{◌≡◌, ◌≤◌, ◌<◌, ℕ, nat_le, true, if◌then◌else◌, List, [], ◌∷◌, is_some}
+use Rattle.script_text.specs.Settings.{ScriptEvent as Arrival, ScriptSettings as Script}
+use Rattle.kernel_model.specs.World.{World}
+use Rattle.kernel_model.specs.Run.{Ran, round}
+use Rattle.board_opening.specs.Opening.{opening}
+use Rattle.board_views.specs.Times.{choice_within, to_time}
+
+-- an event among others: behind those of its time, and before later ones
+abbrev pub inserted : Arrival → List Arrival → List Arrival
+inserted e [] = e ∷ []
+inserted e (x ∷ xs) = if nat_le x.time e.time then x ∷ inserted e xs else e ∷ x ∷ xs
+
+-- a script that says an event besides
+abbrev pub with_event : Arrival → Script → Script
+with_event e script = record script { events = inserted e script.events }
+
+-- a world in which an event is still to come in besides
+abbrev pub expecting : Arrival → World → World
+expecting e w = record w { devices = record w.devices { arrivals = inserted e w.devices.arrivals } }
+
+-- the same run, in which it did not come in yet
+abbrev pub expects : Arrival → Ran → Ran
+expects e r = record r { world = expecting e r.world }
+
+-- each of the first n steps is made, begins before a time, and ends at it or before
+abbrev pub AreWithin : ℕ → ℕ → World → Type 0
+AreWithin time n w = (i : ℕ) → i < n → is_some (choice_within time (round i w).world) ≡ true
+
+-- So many steps are the same under a script that says an event besides, and the event is still to come in.
+abbrev pub ScriptsAgree : Type 0
+ScriptsAgree =
+    (script : Script) (flash : List ℕ) (event : Arrival) (n : ℕ) →
+    AreWithin event.time n (opening script flash) →
+    round n (opening (with_event event script) flash) ≡ expects event (round n (opening script flash))
+
+-- and so on from any world
+abbrev pub WorldsAgree : Type 0
+WorldsAgree =
+    (event : Arrival) (n : ℕ) (w : World) → AreWithin event.time n w →
+    round n (expecting event w) ≡ expects event (round n w)
+
+-- how a board came to a world that goes on to a time: by so many steps of the round robin, each within that time
+pub record ComesWithin (most time : ℕ) (from world : World) : Type 0 where
+  pub made : ℕ
+  pub few : made ≤ most
+  pub reached : world ≡ (round made from).world
+  pub within : AreWithin time made from
+
+abbrev pub ToTimeIsWithin : Type 0
+ToTimeIsWithin = (most time : ℕ) (w : World) → ComesWithin most time w (to_time most time w)
