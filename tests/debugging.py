@@ -34,11 +34,12 @@ WINDOWS = [(past.WINDOWS, search.LEAST), ((10, 50), 20)]
 COMMANDS = ["until 0 1000 - -", "until 0 1000 - -", "until 0 1000 - 536870972", "boot", "until 0 1000 2,2147485904,3 -",
             "until 0 3,4294967295,4294967295 - -", "until 2 1000,1,1 - -", "until 0 1000 2,2147485904,3 -", "boot",
             "last 0 200 - 536870972", "until 0 1000 - -", "until 0 1000 - -", "until 0 1000 - -", "state", "boot",
-            "last 0 200 2,2147485904,3 -", "last 0 10 - -", "memory 2 2147485904 3", "storage 1 0 2"]
+            "last 0 200 2,2147485904,3 -", "last 0 10 - -", "memory 2 2147485904 3", "storage 1 0 2", "boot",
+            "told 0 60 1000", "to 0 300 10", "to 0 300 1000", "told 2 4294967295 1000"]
 STOPS = ["stop denied 00000001 00000007 80000800", "stop exit 00000000 00000000 00000000 00000000 800000e0",
          "stop act 00000002", "stop denied 00000001 00000007 80000800", "stop most", "stop range",
          "stop changed 800008d0", "last 152", "stop address 00000000", "stop act 00000002", "stop act 00000002",
-         "stop done", "last 85", "stop changed 800008d0", "none"]
+         "stop done", "last 85", "stop changed 800008d0", "none", "stop time", "stop most", "stop time", "stop done"]
 
 
 # What answer keeps after so many steps for each of its two drivers, the one entered last first: an upcall of the alarm,
@@ -211,6 +212,22 @@ def anywhere(gone, draws):
     return None
 
 
+def at_times(gone, draws):
+    """It goes to the first step after which it is a time, from anywhere, or to the last one."""
+    gone.past.seek(0)
+    told = [gone.past.place(gone.slot)]
+    while len(told) <= TURNS:
+        gone.past.seek(len(told))
+        if gone.past.steps < len(told):
+            break
+        told.append(gone.past.place(gone.slot))
+    for time in draws.sample(range(told[-1].time + 1), min(PLACES, told[-1].time + 1)):
+        gone.past.seek_time(time)
+        if gone.past.steps != next(place.steps for place in told if place.time >= time):
+            return "at step %d for time %d" % (gone.past.steps, time)
+    return None
+
+
 def addresses_before(gone, draws):
     """The last place at an address is that of the last turn that began there, also where a condition holds always."""
     for turns in draws.sample(range(1, len(gone.seen)), min(PLACES, len(gone.seen) - 1)):
@@ -251,7 +268,7 @@ def back_and_on(look):
     for image, script, slot in RUNS:
         draws = random.Random(image)
         gone = Gone(look, image, script, slot)
-        for wrong in (turn_by_turn(gone), anywhere(gone, draws), last_before(gone, draws)):
+        for wrong in (turn_by_turn(gone), anywhere(gone, draws), at_times(gone, draws), last_before(gone, draws)):
             if wrong:
                 return "%s, slot %d: %s" % (image, slot, wrong)
     return None

@@ -15,7 +15,6 @@ from common import EXAMPLES, contents, run, write
 
 sys.path.insert(0, os.path.join(REPOSITORY, "tools"))
 from debugger.board import Board, Refused, find_look
-from session import present
 from session.cells import Cells, cut, parts_of, picture_of, width_of
 from session.console import Console
 from session.plain import Plain
@@ -73,8 +72,8 @@ def session_by_chance(program, chance, sitting):
             sitting.do(made[-1])
             if sitting.present.time > sitting.present.now:
                 return "after %r: it is at %d, past the present" % (made, sitting.present.time)
-            # As on a screen at a great pace.
-            sitting.present.go_to(sitting.present.now + chance.choice((0, 0, 400)), 400)
+            # As on a screen.
+            sitting.present.go_to(sitting.present.now + chance.choice((0, 0, 400)))
         except Refused:
             made.pop()
         wrong = differs(program, sitting) if chance.random() < 0.3 else None
@@ -120,17 +119,14 @@ def misplaced(sitting, times):
 
 
 def places(program):
-    """At each time exactly those steps are made that begin before it and end at it or before, in whatever parts it
-    looks ahead."""
-    usual = present.AT_ONCE
+    """At each time exactly those steps are made that begin before it and end at it or before."""
     for image, script in SESSIONS:
-        for present.AT_ONCE in (3, 2, usual):
-            with tempfile.TemporaryDirectory() as folder:
-                sitting = sitting_at(folder, image, script)
-                wrong = misplaced(sitting, times_of(image, os.path.join(folder, "given")))
-                sitting.close()
-            if wrong:
-                return "%s %s" % (image, wrong)
+        with tempfile.TemporaryDirectory() as folder:
+            sitting = sitting_at(folder, image, script)
+            wrong = misplaced(sitting, times_of(image, os.path.join(folder, "given")))
+            sitting.close()
+        if wrong:
+            return "%s %s" % (image, wrong)
     return None
 
 
@@ -147,8 +143,7 @@ def changed_by_event(folder, sitting):
 
 
 def events_at_each_step(program):
-    """An event in the present changes none of the steps that were made, after each step and after each part of a way
-    at a great pace."""
+    """An event in the present changes none of the steps that were made, after each step and after some ticks."""
     for image, script in SESSIONS[:6]:
         with tempfile.TemporaryDirectory() as folder:
             sitting, wrong = sitting_at(folder, image, script), None
@@ -156,7 +151,7 @@ def events_at_each_step(program):
                 if at % 4 < 3:
                     sitting.present.step(1)
                 else:
-                    sitting.present.go_to(sitting.present.now + 5, 60)
+                    sitting.present.go_to(sitting.present.now + 5)
                 if changed_by_event(folder, sitting):
                     wrong = "%s after %d steps, at %d" % (image, sitting.present.steps, sitting.present.now)
                     break

@@ -78,16 +78,13 @@ class Past:
 
     def seek_time(self, time):
         """Goes to the first step after which it is a time, or to the last one."""
-        low, high = 0, 1
-        while self.time_after(high) < time and self.board.steps == high:
-            low, high = high, 2 * high
-        while low < high:
-            middle = (low + high) // 2
-            if self.time_after(middle) < time and self.board.steps == middle:
-                low = middle + 1
-            else:
-                high = middle
-        return self.seek(low)
+        if self.time_after(self.steps) >= time:
+            self.board.boot()
+        answer = self.board.moved(self.board.ask("to", 0, time, MOST))
+        if self.board.told and self.board.told.time < time:
+            # The next step ends later.
+            answer = self.board.moved(self.board.ask("steps", 0, 1))
+        return self.moved(answer)
 
     def until(self, slot, most, area, watched, addresses):
         """Goes on to an address, a change, a denial, an exit or an act, or, with an area, to a turn that leaves it."""

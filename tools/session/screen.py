@@ -92,8 +92,7 @@ class Screen:
         if ticks:
             self.owed -= ticks
             began = time.monotonic()
-            # A pass that ends within what real time goes on anyway need not be cut.
-            self.present.go_to(self.present.now + ticks, 0 if ticks <= SECOND else ticks)
+            self.present.go_to(self.present.now + ticks)
             took = time.monotonic() - began
             if took > 2 * FRAME:
                 self.most = max(SECOND // 10, self.most / 2)
