@@ -1,13 +1,14 @@
 -- Scripts that agree up to a time.
-use Rattle.std.proofs.Common.{◌≡◌, ℕ, zero, suc, ◌+◌, ◌-◌, ◌*◌, ◌/◌, ◌<◌, ◌≤◌, nat_lt, nat_le, ◌&&◌, ◌||◌, min, Bool, true, false}
-use Rattle.std.proofs.Common.{cond, List, [], ◌∷◌, ◌++◌, map, find, slice_get, Option, None, Some, is_some, IsTrue}
-use Rattle.std.proofs.Common.{refl, sym, ap, ap₂, subst, ◌∙◌, arith}
+use Rattle.std.proofs.Common.{◌≡◌, ℕ, zero, suc, ◌+◌, ◌-◌, ◌*◌, ◌/◌, ◌<◌, ◌≤◌, nat_lt, nat_le, ◌&&◌, ◌||◌, min, Bool}
+use Rattle.std.proofs.Common.{true, false}
+use Rattle.std.proofs.Common.{cond, List, [], ◌∷◌, map, find, slice_get, Option, None, Some, is_some}
+use Rattle.std.proofs.Common.{refl, sym, ap, subst, ◌∙◌, arith}
 use Rattle.std.specs.Prelude.{unwrap_or}
 use Rattle.std.specs.List.{range_with_len}
 use Rattle.std.specs.Option.{option_map, option_or}
 use Rattle.std.proofs.lemmas.Bool.{false≢true, and_parts}
 use Rattle.std.proofs.lemmas.Bool.Decides.{nat_tests}
-use Rattle.tk_base.specs.declared.limits.TheConstants.{SLOT_COUNT, STEP_LIMIT}
+use Rattle.tk_base.specs.declared.limits.TheConstants.{STEP_LIMIT}
 use Rattle.tk_base.specs.declared.process.Choice.{Choice}
 use Rattle.tk_base.specs.declared.process.Choice.TheVariants.{Run, Device, Pass}
 use Rattle.tk_base.specs.declared.process.Dev.{Dev}
@@ -17,28 +18,28 @@ use Rattle.script_text.specs.Settings.{EventKind, ScriptEvent as Arrival, Script
 use Rattle.script_text.specs.Settings as script
 use Rattle.process_record.specs.Lines.{slot_named}
 use Rattle.process_record.specs.Operator.{ends_by}
-use Rattle.turn_scheduler.specs.RoundRobin.{choice, device_order, next_slot, ready_device}
-use Rattle.turn_scheduler.specs.Situation.{Situation}
+use Rattle.turn_scheduler.specs.RoundRobin.{choice, next_slot, ready_device}
 use Rattle.board_devices.specs.Arriving.{first_arrival_time, is_time}
 use Rattle.driver_model.specs.Alarm.{due_for, left_for, nearer}
-use Rattle.driver_model.specs.Commands.{BoardRequest, Waits, Leaves, Lights, Writes, Reads, Randoms, Stores, leaving_all}
+use Rattle.driver_model.specs.Commands.{BoardRequest, Waits, Leaves, Lights, Writes, Reads, Randoms, Stores}
+use Rattle.driver_model.specs.Commands.{leaving_all}
 use Rattle.kernel_model.specs.Record.{Record, slot_line_of}
-use Rattle.kernel_model.specs.Turn.{Alarmed, may_turn, turned}
+use Rattle.kernel_model.specs.Turn.{Alarmed, turned}
 use Rattle.kernel_model.specs.World.{DeviceAnswer, DeviceStep, Devices, Stepped, World, acted, after, after_turn_of}
 use Rattle.kernel_model.specs.World.{answering, arrived, carried_out, coming_in, device_step_of, done, is_ready}
-use Rattle.kernel_model.specs.World.{labels, lane_in, listed, may_be_made, may_serve, now_in, only_in, operating, owns_in}
-use Rattle.kernel_model.specs.World.{ran, random_step, receive_step, routed, sending_time, serving, stepped, storing, telling}
+use Rattle.kernel_model.specs.World.{labels, lane_in, may_be_made, may_serve, now_in, only_in, operating, owns_in}
+use Rattle.kernel_model.specs.World.{ran, random_step, receive_step, routed, sending_time, serving, stepped, storing}
+use Rattle.kernel_model.specs.World.{telling}
 use Rattle.kernel_model.specs.World.{telling_nobody, transmitting, turn_label, unmade, work_in}
 use Rattle.kernel_model.specs.Laws.{NextIsReady}
 use Rattle.kernel_model.specs.Named.{can_run}
-use Rattle.kernel_model.specs.Parts.{on_choice, told_first}
-use Rattle.kernel_model.specs.Run.{Ran, is_left, is_left_for, next, next_time, passes_to, ready_devices, ready_slots}
-use Rattle.kernel_model.specs.Run.{round, situation_of, stays}
-use Rattle.tock_cli.proofs.Runs.{round-more, round-step, round-zero}
+use Rattle.kernel_model.specs.Parts.{told_first}
+use Rattle.kernel_model.specs.Run.{is_left, is_left_for, next, next_time, passes_to, ready_devices, ready_slots}
+use Rattle.kernel_model.specs.Run.{round}
+use Rattle.tock_cli.proofs.Runs.{round-step, round-zero}
 use Rattle.board_opening.specs.Opening.{opening}
 use Rattle.board_views.specs.Agreeing.{AreWithin, ComesWithin, ScriptsAgree, ToTimeIsWithin, WorldsAgree, expecting}
 use Rattle.board_views.specs.Agreeing.{expects, inserted, with_event}
-use Rattle.board_views.specs.Searches.{choice_in}
 use Rattle.board_views.specs.Times.{choice_within, is_within, only_within, to_time}
 use Rattle.board_views.proofs.Stretches.{lead-step, lead-zero}
 use Rattle.board_views.proofs.Timing.{pass_ends, to_time-none, to_time-step}
@@ -83,7 +84,8 @@ some_nearer None n = refl
 some_nearer (Some a) n = refl
 
 -- the first of a range is found
-first_found : (p : ℕ → Bool) (from count : ℕ) → p from ≡ true → is_some (find p (range_with_len from (suc count))) ≡ true
+first_found : (p : ℕ → Bool) (from count : ℕ) → p from ≡ true
+    → is_some (find p (range_with_len from (suc count))) ≡ true
 first_found p from count h =
     ap (λ (b : Bool). is_some (cond b (Some from) (find p (range_with_len (from + 1) count)))) h
 
@@ -360,7 +362,8 @@ module _ (e : Arrival) where
 
     -- the same is chosen, where that ends in time
     devices_besides : ready_devices (expecting e w) ≡ ready_devices w
-    devices_besides = ap (λ (b : Bool). b ∷ map (work_in w (only_in w)).ready others) (device_ready (only_in w) dev.Event)
+    devices_besides =
+        ap (λ (b : Bool). b ∷ map (work_in w (only_in w)).ready others) (device_ready (only_in w) dev.Event)
       where
         others : List Dev
         others = dev.Alarm ∷ dev.Uart ∷ dev.Receive ∷ dev.Random ∷ dev.Store ∷ []

@@ -1,6 +1,7 @@
 -- A board that goes on to a time.
 use Rattle.std.proofs.Common.{◌≡◌, ℕ, zero, suc, ◌+◌, ◌-◌, ◌<◌, ◌≤◌, nat_lt, nat_le, ◌==◌, ◌&&◌, ◌||◌, not, min, Bool}
-use Rattle.std.proofs.Common.{true, false, cond, List, [], ◌∷◌, ◌++◌, length, slice_get, Option, None, Some, is_some, All, codes}
+use Rattle.std.proofs.Common.{true, false, cond, List, [], ◌∷◌, ◌++◌, length, slice_get, Option, None, Some, is_some}
+use Rattle.std.proofs.Common.{All, codes}
 use Rattle.std.proofs.Common.{refl, sym, ap, ap₂, subst, ◌∙◌, arith, append_assoc, append-nil}
 use Rattle.std.specs.List.{flat_map}
 use Rattle.std.proofs.lemmas.Bool.{false≢true}
@@ -23,7 +24,7 @@ use Rattle.kernel_model.specs.Record.{Record}
 use Rattle.kernel_model.specs.Turn.{Act, Alarmed, Edge, Event, Input, NoWord, Stored, Taken, Turn, Word, WriteDone}
 use Rattle.kernel_model.specs.Turn.{is_act, is_turn}
 use Rattle.kernel_model.specs.World.{DeviceStep, Label, Stepped, World, after, carried_out, device_step_of, done}
-use Rattle.kernel_model.specs.World.{is_ready, labels, ran, stepped, unmade}
+use Rattle.kernel_model.specs.World.{is_ready, labels, ran}
 use Rattle.kernel_model.specs.Named.{can_run}
 use Rattle.kernel_model.specs.Run.{Ran, next, printed, round}
 use Rattle.kernel_model.specs.Parts.{on_choice}
@@ -33,7 +34,6 @@ use Rattle.kernel_model.proofs.Labels.{shown_by-printed}
 use Rattle.kernel_model.proofs.Places.{may_where_ready, of_stepped, stepped_ready}
 use Rattle.tock_cli.proofs.Runs.{round-step}
 use Rattle.board_views.specs.declared.times.Reach.{Reach}
-use Rattle.board_views.specs.Searches.{choice_in}
 use Rattle.board_views.specs.Stops.{within}
 use Rattle.board_views.specs.Times.{choice_within, is_within, only_within, to_time, told_if, told_reaching, told_text}
 use Rattle.board_views.specs.Times.{told_to, uncalled_text, world_reached}

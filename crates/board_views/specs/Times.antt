@@ -1,6 +1,7 @@
 -- A board that goes on to a time, so that something may still come in at that time: no step that was made begins at it
 -- or later, or ends past it. The rules are this tool's own.
-use Rattle.std.specs.Prelude.{ℕ, zero, suc, nat_lt, nat_le, Bool, ◌&&◌, if◌then◌else◌, List, [], ◌++◌, Option, None, Some}
+use Rattle.std.specs.Prelude.{ℕ, zero, suc, nat_lt, nat_le, Bool, ◌&&◌, if◌then◌else◌, List, [], ◌++◌, Option, None}
+use Rattle.std.specs.Prelude.{Some}
 use Rattle.std.specs.Option.{option_and_then}
 use Rattle.tk_base.specs.declared.process.Choice.{Choice}
 use Rattle.process_record.specs.declared.emit.Emit.{Emit}
@@ -41,7 +42,8 @@ told_text w choice = uncalled_text w.clock.time (shown_by (labels w choice))
 -- what is told of these steps, one after another
 unfoldable pub told_to : ℕ → ℕ → World → List ℕ
 told_to zero time w = []
-told_to (suc n) time w = on_choice [] (λ choice. told_text w choice ++ told_to n time (after w choice)) (choice_within time w)
+told_to (suc n) time w =
+    on_choice [] (λ choice. told_text w choice ++ told_to n time (after w choice)) (choice_within time w)
 
 -- what is told where that is asked for
 abbrev pub told_if : Bool → List ℕ → List ℕ
