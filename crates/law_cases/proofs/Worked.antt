@@ -16,7 +16,6 @@ use Rattle.tk_base.specs.declared.kinds.PairKind.TheVariants.{ReadOnly}
 use Rattle.tk_base.specs.declared.process.Choice.TheVariants.{Run, Pass}
 use Rattle.tk_base.specs.declared.process.Dev.{Dev}
 use Rattle.tk_base.specs.declared.process.Dev.TheVariants as dev
-use Rattle.tk_base.specs.declared.upcall.Upcall.{Upcall as Scheduled}
 use Rattle.grant_values.specs.Drivers.{counts_of, drivers}
 use Rattle.grant_values.specs.declared.console.WaitingWrite.{WaitingWrite}
 use Rattle.grant_model.specs.Grants.{shape_of}
@@ -33,7 +32,6 @@ use Rattle.process_model.specs.Handed.{handing, own_entering}
 use Rattle.process_model.specs.Instruction.{ram_after}
 use Rattle.process_model.specs.Permission.{denied}
 use Rattle.process_record.specs.Parts.{cleared}
-use Rattle.process_record.specs.declared.process.State.TheVariants.{Faulted}
 use Rattle.partition_turns.specs.LanesView.{LanesView}
 use Rattle.partition_turns.specs.Laws.{AllIsDone, CanBeMadeIn, EndsInTime}
 use Rattle.partition_turns.specs.Windows.{AreAhead, device_in_window, device_is_ready, ready_time}
@@ -51,14 +49,14 @@ use Rattle.kernel_model.specs.Calls.{by_form, memop, memops, served}
 use Rattle.kernel_model.specs.Causes.{IsCause, IsDoneByAnswer, IsDoneByTurn}
 use Rattle.kernel_model.specs.Filter.{IsFiltered}
 use Rattle.kernel_model.specs.Histories.{HandedNothing}
-use Rattle.kernel_model.specs.Laws.{ComesTo, IsSilent, KeepsLines, quiet}
-use Rattle.kernel_model.specs.Lives.{AreApart, HasOrder, HasPendingWithinLimit, IsAsAtFirst, LiesAs, LivesAsItRuns}
+use Rattle.kernel_model.specs.Laws.{ComesTo, KeepsLines, quiet}
+use Rattle.kernel_model.specs.Lives.{HasOrder}
 use Rattle.kernel_model.specs.Prints.{AreOfItsBuffer, CouldLoad}
 use Rattle.kernel_model.specs.Record.{Record, byte_at}
 use Rattle.kernel_model.specs.Refused.{LeavesRefused}
-use Rattle.kernel_model.specs.Turn.{Edge, Turn, TurnTrace, turned, untraced}
-use Rattle.kernel_model.specs.World.{Label, Stepped, World, after, carried_out, may_be_made, stepped, turn_label}
-use Rattle.kernel_model.specs.Worked.{asks, board, standing, turn_of, worked_settings}
+use Rattle.kernel_model.specs.Turn.{Turn, TurnTrace, turned, untraced}
+use Rattle.kernel_model.specs.World.{Stepped, World, after, carried_out, may_be_made, stepped, turn_label}
+use Rattle.kernel_model.specs.Worked.{asks, board, standing, worked_settings}
 use Rattle.kernel_model.proofs.Classes.{memop_in}
 use Rattle.board_opening.specs.Certified.{CountsAre}
 
@@ -83,16 +81,6 @@ abbrev asks_to_write : Own → Own
 asks_to_write own =
     with_request console_writes (Some (record { length = 2; taken = 0 }))
     (handing ReadOnly console 1 (RAM_START, 2) own)
-
--- An edge of a button is told; a kernel that prints beside it.
-abbrev tells_edge : List ℕ → Label
-tells_edge printed = record { slot = 0; event = Edge 0 true; trace = untraced; printed = printed }
-
-silent_edge : IsSilent (tells_edge [])
-silent_edge = record { no_turn = refl; no_act = refl; prints = refl }
-
-none_prints_at_an_edge : IsSilent (tells_edge (66 ∷ [])) → ⊥
-none_prints_at_an_edge silent = let prints = silent.prints in cc
 
 -- A device that has nobody to tell; one that makes two steps at once.
 abbrev stopped : World
@@ -260,14 +248,6 @@ none_entered : HandedNothing (with_own (own_entering alarm_driver)) → ⊥
 unfolding counts_of drivers shape_of
 none_entered handed = let grants = ap length handed.grants in omega (arith, grants)
 
--- A process lives as it runs; a kernel in which one that has faulted lives on.
-lives_so : LivesAsItRuns application
-unfolding header_reading meaning_of tlv_places_from
-lives_so = record { lives = refl; life = refl; application = refl }
-
-none_lives_on : LivesAsItRuns (record application { process = record application.process { state = Faulted } }) → ⊥
-none_lives_on lives = true≢false lives.lives
-
 -- The order of a process's memory; a break that lies below the mark.
 has_order : HasOrder application
 unfolding header_reading meaning_of tlv_places_from
@@ -281,56 +261,6 @@ moved mark brk own = record own { layout = record own.layout { mark = mark; brk 
 
 none_below_mark : HasOrder (with_own (moved (RAM_START + 8) (RAM_START + 4))) → ⊥
 none_below_mark order = let brk = order.places.brk in omega (arith, brk)
-
--- Two blocks side by side; two processes in one.
-abbrev placed : ℕ → Record
-placed start = with_own (λ own. record own { layout = record own.layout { start = start; end = start + 256 } })
-
-apart : AreApart (placed RAM_START) (placed (RAM_START + 256))
-apart a from below from_other below_other = omega (arith, below, from_other)
-
-none_in_one : AreApart (placed RAM_START) (placed RAM_START) → ⊥
-none_in_one apart = apart RAM_START (omega arith) (omega arith) (omega arith) (omega arith)
-
--- As many upcalls wait as may; one more.
-abbrev upcall : Scheduled
-upcall = record { driver = 0; number = 0; function = 4; app = 9; args = 1 ∷ 2 ∷ 3 ∷ [] }
-
-abbrev pending : ℕ → Record
-pending n = with_own (λ own. record own { inbox = record own.inbox { pending = replicate n upcall } })
-
-waits_twenty : HasPendingWithinLimit (pending 20)
-waits_twenty = omega arith
-
-none_more : HasPendingWithinLimit (pending 21) → ⊥
-none_more few = omega (arith, few)
-
--- A process lies where it lay after its turn; a kernel that moves its block.
-lies_there : LiesAs (asks 2 0) (turn_of (asks 2 0)).after
-unfolding user_turn on_word executed fetched instr_of decoding instruction_table denied ram_after
-    call_of class_table header_reading served by_form memop memops turned
-lies_there = record {
-  bytes = refl;
-  object = refl;
-  own_object = refl;
-  flash_start = refl;
-  flash_end = refl;
-  start = refl;
-  end = refl;
-}
-
-none_moved : LiesAs (placed RAM_START) (placed (RAM_START + 256)) → ⊥
-none_moved lies = let start = lies.start in omega (arith, start)
-
--- A process that starts again is as it was opened; a kernel that leaves it a grant.
-abbrev opened : Record
-opened = standing object 256 (cleared FLASH_START)
-
-starts_as_first : IsAsAtFirst opened (record opened { process = record opened.process { turns = 7; restarts = 1 } })
-starts_as_first = refl
-
-none_with_a_grant : (now : Record) → length now.own.grants ≡ 1 → IsAsAtFirst opened now → ⊥
-none_with_a_grant now one same = let none = ap (λ (r : Record). length r.own.grants) same in omega (arith, one, none)
 
 -- What is printed is of the buffer, whose bytes are 9; a kernel that prints another byte.
 prints_nines : AreOfItsBuffer (9 ∷ 9 ∷ []) (with_own asks_to_write)
