@@ -10,7 +10,7 @@ use Rattle.process_layout.specs.LayoutView.{LayoutView, extents_at_start}
 use Rattle.app_placement.specs.Placement.{block_length}
 use Rattle.script_text.specs.Settings.{ScriptSettings as Script}
 use Rattle.kernel_model.specs.Record.{Record}
-use Rattle.kernel_model.specs.Replay.{after_all, chosen, history, replay}
+use Rattle.kernel_model.specs.Replay.{HaveSameRecord, IsReplayOf, after_all, chosen, history, replay}
 use Rattle.kernel_model.specs.Run.{round}
 use Rattle.kernel_model.specs.Turn.{Event}
 use Rattle.kernel_model.specs.World.{World}
@@ -20,8 +20,8 @@ use Rattle.board_opening.specs.Opening.{first_record, opening}
 -- after some choices the record of each process is the replay of its own turns, and of the answers to it: of devices,
 -- by an edge of a button, by an operator's act
 abbrev pub IsReplayed : World → World → List Choice → Type 0
-IsReplayed old new choices = (slot : ℕ) → slice_get new.records slot
-    ≡ option_map (replay old.settings (history slot old choices)) (slice_get old.records slot)
+IsReplayed old new choices = (slot : ℕ) →
+    IsReplayOf old.settings (history slot old choices) (slice_get old.records slot) (slice_get new.records slot)
 
 -- the memory of an application by its header, its object at an address and its block from a start on; so how long the
 -- block is follows from the header
@@ -69,12 +69,17 @@ SameViewSameRecord = (script other : Script) (flash image : List ℕ) (choices o
     let w = opening other image in
     v.settings ≡ w.settings → slice_get v.records slot ≡ Some r → slice_get w.records place ≡ Some s → AreAlike r s →
     history slot v choices ≡ history place w others →
-    slice_get (after_all v choices).records slot ≡ slice_get (after_all w others).records place
+    HaveSameRecord (slice_get (after_all v choices).records slot) (slice_get (after_all w others).records place)
+
+-- a record is what becomes alone of a first one, by events
+abbrev pub BecomesAlone : Settings → Record → List Event → Option Record → Type 0
+BecomesAlone settings first events now =
+    now ≡ alone settings first.object first.process.object.address first.own.layout.start events
 
 -- So it is in each world of the run by round robin from an opening world: the record of a process is what becomes of it
 -- alone by its turns and answers in that run, whatever others do.
 abbrev pub RunsAreAlone : Type 0
 RunsAreAlone = (script : Script) (flash : List ℕ) (n slot : ℕ) (r : Record) →
     let w = opening script flash in
-    slice_get w.records slot ≡ Some r → slice_get (round n w).world.records slot
-    ≡ alone w.settings r.object r.process.object.address r.own.layout.start (history slot w (chosen n w))
+    slice_get w.records slot ≡ Some r →
+    BecomesAlone w.settings r (history slot w (chosen n w)) (slice_get (round n w).world.records slot)

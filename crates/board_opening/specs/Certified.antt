@@ -2,18 +2,16 @@
 -- 4), of its calls, upcalls and buffers (TRD 104, "Yield", "Subscribe", "Read-Only Allow").
 use Rattle.std.specs.Prelude.{◌≡◌, ◌≢◌, ◌↔◌, ◌≤◌, ◌<◌, ℕ, ◌+◌, true, false, replicate, List, [], ◌∷◌, ◌++◌, length}
 use Rattle.std.specs.Prelude.{slice_get, All, Some, None, IfSome}
-use Rattle.std.specs.List.{list_any}
 use Rattle.tk_base.specs.declared.process.Choice.{Choice}
 use Rattle.tk_base.specs.declared.process.Choice.TheVariants.{Pass}
 use Rattle.tk_base.specs.declared.process.Verb.TheVariants.{Restart}
 use Rattle.script_text.specs.Settings.{ScriptSettings as Script}
 use Rattle.process_record.specs.Process.{is_alive}
-use Rattle.driver_model.specs.Alarm.{due_alarm, ticks_left_of}
 use Rattle.driver_model.specs.Commands.{QueueName, Writes}
 use Rattle.driver_model.specs.Lines.{RequestOf}
 use Rattle.kernel_model.specs.Record.{Record}
 use Rattle.kernel_model.specs.Turn.{Act, Stored}
-use Rattle.kernel_model.specs.World.{World, Label, after, is_let, labels, lane_count, now_in, only_in}
+use Rattle.kernel_model.specs.World.{World, Label, after, labels, lane_count}
 use Rattle.kernel_model.specs.Named.{words_in}
 use Rattle.kernel_model.specs.Run.{next, round}
 use Rattle.kernel_model.specs.Accounts.{IsAccountedFor}
@@ -21,19 +19,19 @@ use Rattle.kernel_model.specs.Edges.{arrivals_in}
 use Rattle.kernel_model.specs.Choices.{Throughout, are_ready, labels_of_all}
 use Rattle.kernel_model.specs.Replay.{after_all, chosen, history}
 use Rattle.kernel_model.specs.Causes.{AllHaveCauses}
-use Rattle.kernel_model.specs.Lives.{BlocksAreApart, IsAsAtFirst}
-use Rattle.kernel_laws.specs.Alarms.{takes_time}
+use Rattle.kernel_model.specs.Lives.{BlocksAreApart, IsAsAtFirst, StaysButPressed}
+use Rattle.kernel_laws.specs.Alarms.{StopsAtAlarm, WaitsForAlarm}
 use Rattle.kernel_laws.specs.Inputs.{HasRoom, KeepsInput, RingHasTheLast, bytes_arriving, inputs_told, ring_in}
 use Rattle.kernel_laws.specs.OneRun.{NothingIsLeft}
 use Rattle.kernel_laws.specs.Words.{of_lane, words_told}
 use Rattle.kernel_histories.specs.Drops.{drops_of}
 use Rattle.kernel_lives.specs.Lists.{ListsAreOfRequests, once_if}
-use Rattle.kernel_lives.specs.Requests.{AddUp, asks_in, begins_in, requests_begun, requests_completed, requests_withdrawn}
-use Rattle.kernel_lives.specs.Requests.{tells_asking}
+use Rattle.kernel_lives.specs.Requests.{AddUp, BeginsByCommand, asks_in, requests_begun, requests_completed}
+use Rattle.kernel_lives.specs.Requests.{requests_withdrawn}
 use Rattle.kernel_lives.specs.StoredBytes.{GaveStorage, all_written, writes_in}
 use Rattle.kernel_lives.specs.Counts.{ticks_passed, turns_made, turns_of_all}
 use Rattle.kernel_lives.specs.Writes.{StillWaits, WritesTruly, write_in}
-use Rattle.board_opening.specs.Alone.{alone}
+use Rattle.board_opening.specs.Alone.{BecomesAlone}
 use Rattle.board_opening.specs.Opening.{opening}
 
 -- so it is of each process after any choices from a boot
@@ -68,12 +66,16 @@ abbrev pub CountsFromBootAddUp : Type 0
 CountsFromBootAddUp = (script : Script) (flash : List ℕ) (choices : List Choice) →
     are_ready (opening script flash) choices ≡ true → CountsAre choices (after_all (opening script flash) choices)
 
+-- so many upcalls of a process were dropped
+abbrev pub HasDropped : ℕ → Record → Type 0
+HasDropped n r = r.own.inbox.dropped ≡ n
+
 -- after any choices from a boot the count of dropped upcalls of each process is the number of steps among these choices
 -- that scheduled an upcall for it which was dropped
 abbrev pub DropsFromBootAddUp : Type 0
 DropsFromBootAddUp = (script : Script) (flash : List ℕ) (choices : List Choice) (slot : ℕ) →
     let w = opening script flash in
-    IfSome (slice_get (after_all w choices).records slot) (λ r. r.own.inbox.dropped ≡ drops_of slot w choices)
+    IfSome (slice_get (after_all w choices).records slot) (HasDropped (drops_of slot w choices))
 
 -- the round robin is done exactly where nothing is left to do
 abbrev pub IsDoneFromBoot : Type 0
@@ -85,14 +87,18 @@ abbrev pub ListsFromBootAreOfRequests : Type 0
 ListsFromBootAreOfRequests = (script : Script) (flash : List ℕ) (choices : List Choice) →
     ListsAreOfRequests (after_all (opening script flash) choices)
 
+-- words are those that were told, in that order, and then those that are left
+abbrev pub AreToldAndLeft : List ℕ → List ℕ → List ℕ → Type 0
+AreToldAndLeft words told left = words ≡ told ++ left
+
 -- in each lane the random words that its processes were told, in that order, and then those that are left are the
 -- script's
 abbrev pub WordsFromBootAreTheScripts : Type 0
 WordsFromBootAreTheScripts = (script : Script) (flash : List ℕ) (choices : List Choice) (lane : ℕ) →
     let w = opening script flash in
-    lane < lane_count script.partition → script.words
-    ≡ words_told (of_lane script.partition lane (labels_of_all w choices))
-    ++ words_in lane (after_all w choices).devices
+    lane < lane_count script.partition →
+    AreToldAndLeft script.words (words_told (of_lane script.partition lane (labels_of_all w choices)))
+    (words_in lane (after_all w choices).devices)
 
 -- in each lane what its processes were told of input, in that order, and then what is left in the ring, is what remains
 -- of what came in by any choices from a boot, in its order; and all of that where the ring never overflowed
@@ -133,7 +139,11 @@ EndedFromBootStays = (script : Script) (flash : List ℕ) (choices more : List C
     let v = after_all (opening script flash) choices in
     slice_get v.records slot ≡ Some r → is_alive r.process.state ≡ false →
     All (λ event. event ≢ Act Restart) (history slot v more) →
-    (pressed : ℕ) × (slice_get (after_all v more).records slot ≡ Some (record r { pressed = pressed }))
+    StaysButPressed r (slice_get (after_all v more).records slot)
+
+-- a process's storage is so many erased bytes, 0xFF each, with some writes over them, one after another
+abbrev pub HasStored : ℕ → List (ℕ × List ℕ) → Record → Type 0
+HasStored size writes r = r.storage ≡ all_written writes (replicate size 0xFF)
 
 -- after any choices from a boot a process's storage is erased bytes, 0xFF each, with the process's own served writes
 -- over them, one after another, through each end and start of it
@@ -141,9 +151,8 @@ abbrev pub StorageFromBootIsMemory : Type 0
 StorageFromBootIsMemory = (script : Script) (flash : List ℕ) (choices : List Choice) (slot : ℕ) (first : Record) →
     let w = opening script flash in
     slice_get w.records slot ≡ Some first →
-    IfSome (slice_get (after_all w choices).records slot) (λ now.
-    now.storage
-    ≡ all_written (writes_in w.settings (history slot w choices) first) (replicate script.storage 0xFF))
+    IfSome (slice_get (after_all w choices).records slot)
+    (HasStored script.storage (writes_in w.settings (history slot w choices) first))
 
 -- a step after any choices from a boot that serves a read of the storage gives its process each byte that it asks for,
 -- and that its buffer has room for, as the storage has it
@@ -168,15 +177,13 @@ abbrev pub RequestsFromBootBeginByCommands : Type 0
 RequestsFromBootBeginByCommands =
     (script : Script) (flash : List ℕ) (choices : List Choice) (choice : Choice) (queue : QueueName) (slot : ℕ) →
     let v = after_all (opening script flash) choices in
-    begins_in queue slot v choice ≡ true → list_any (tells_asking queue slot) (labels v choice) ≡ true
+    BeginsByCommand queue slot v (after v choice) (labels v choice)
 
 -- In a world the next choice, of the round robin or of the windows, is no turn and no pass of time as long as the alarm
 -- of a process is due that may be served; and a pass ends when the next of these becomes due, if not before.
 pub record AlarmsAreExact (w : World) : Type 0 where
-  pub first : (choice : Choice) (slot : ℕ) (r : Record) → next w ≡ Some choice → takes_time choice ≡ true →
-      slice_get w.records slot ≡ Some r → is_let (only_in w) slot ≡ true → due_alarm (now_in w) r.own ≡ None
-  pub passes : (ticks slot : ℕ) (r : Record) → next w ≡ Some (Pass ticks) → slice_get w.records slot ≡ Some r →
-      is_let (only_in w) slot ≡ true → IfSome (ticks_left_of (now_in w) r.own) (λ left. ticks ≤ left)
+  pub first : (choice : Choice) (slot : ℕ) (r : Record) → next w ≡ Some choice → WaitsForAlarm w choice slot r
+  pub passes : (ticks slot : ℕ) (r : Record) → next w ≡ Some (Pass ticks) → StopsAtAlarm w ticks slot r
 
 -- so it is in the world after any choices from a boot
 abbrev pub AlarmsFromBootAreExact : Type 0
@@ -187,8 +194,8 @@ AlarmsFromBootAreExact = (script : Script) (flash : List ℕ) (choices : List Ch
 -- record of each process is what becomes of it alone, by its own turns and answers in that run, whatever others do.
 pub record IsAccountedRun (w : World) (n : ℕ) : Type 0 where
   pub steps : Throughout IsAccountedFor w (chosen n w)
-  pub alone : (slot : ℕ) (r : Record) → slice_get w.records slot ≡ Some r → slice_get (round n w).world.records slot
-      ≡ alone w.settings r.object r.process.object.address r.own.layout.start (history slot w (chosen n w))
+  pub alone : (slot : ℕ) (r : Record) → slice_get w.records slot ≡ Some r →
+      BecomesAlone w.settings r (history slot w (chosen n w)) (slice_get (round n w).world.records slot)
 
 -- so is each run from a boot
 abbrev pub RunsFromBootAreAccountedFor : Type 0

@@ -7,10 +7,10 @@ use Rattle.script_text.specs.Settings.{ScriptSettings as Script}
 use Rattle.kernel_model.specs.Record.{Record}
 use Rattle.kernel_model.specs.Run.{round}
 use Rattle.kernel_model.specs.World.{World}
-use Rattle.kernel_model.specs.Replay.{chosen}
+use Rattle.kernel_model.specs.Replay.{HaveSameRecord, chosen}
 use Rattle.kernel_partitions.specs.Alike.{IsNoAct}
-use Rattle.kernel_partitions.specs.Moments.{before, timed_history}
-use Rattle.kernel_partitions.specs.Partitions.{ReachesFirst, time_after}
+use Rattle.kernel_partitions.specs.Moments.{timed_history}
+use Rattle.kernel_partitions.specs.Partitions.{AreAlikeUpTo, ReachesFirst, time_after}
 use Rattle.board_opening.specs.Opening.{opening}
 
 -- a script with time partitions, in which no operator is to act
@@ -23,10 +23,14 @@ pub record HaveSameObject (r s : Record) : Type 0 where
   pub object : r.object ≡ s.object
   pub address : r.process.object.address ≡ s.process.object.address
 
+-- the block of a process starts where the share of a slot does, in RAM of so many bytes
+abbrev pub StartsAtItsShare : ℕ → ℕ → Record → Type 0
+StartsAtItsShare ram slot r = r.own.layout.start ≡ share_start ram slot
+
 -- Under such a script the block of each process starts where its slot's share of RAM does, whatever else flash holds.
 abbrev pub BlocksStartWithTheirShares : Type 0
 BlocksStartWithTheirShares = (script : Script) (flash : List ℕ) (slot : ℕ) → 1 ≤ script.partition →
-    IfSome (slice_get (opening script flash).records slot) (λ r. r.own.layout.start ≡ share_start script.ram slot)
+    IfSome (slice_get (opening script flash).records slot) (StartsAtItsShare script.ram slot)
 
 -- the processes that two flash images open in a slot under a script with time partitions have the same object in the
 -- same place
@@ -47,7 +51,7 @@ SameObjectSameTimes = (script : Script) (flash image : List ℕ) (slot : ℕ) �
     let v = opening script flash in
     let w = opening script image in
     time ≤ time_after n v → time ≤ time_after m w →
-    before time (timed_history slot v (chosen n v)) ≡ before time (timed_history slot w (chosen m w))
+    AreAlikeUpTo time (timed_history slot v (chosen n v)) (timed_history slot w (chosen m w))
 
 -- So it has the same record where the two runs first reach any time.
 abbrev pub SameObjectSameRecord : Type 0
@@ -56,7 +60,7 @@ SameObjectSameRecord = (script : Script) (flash image : List ℕ) (slot : ℕ) �
     let v = opening script flash in
     let w = opening script image in
     ReachesFirst time n v → ReachesFirst time m w →
-    slice_get (round n v).world.records slot ≡ slice_get (round m w).world.records slot
+    HaveSameRecord (slice_get (round n v).world.records slot) (slice_get (round m w).world.records slot)
 
 -- A world is the opening one of a flash image under a script that was read and divides time; and under the same script
 -- another image opens the same object in the same place of a slot.
@@ -79,11 +83,12 @@ pub record SharesObject (w : World) (script : Script) (image : List ℕ) (slot :
 pub record IsPartitionedRun (w : World) (n : ℕ) : Type 0 where
   pub told : (script : Script) (image : List ℕ) (slot : ℕ) → SharesObject w script image slot → (m time : ℕ)
       → time ≤ time_after n w → time ≤ time_after m (opening script image)
-      → before time (timed_history slot w (chosen n w))
-      ≡ before time (timed_history slot (opening script image) (chosen m (opening script image)))
+      → AreAlikeUpTo time (timed_history slot w (chosen n w))
+      (timed_history slot (opening script image) (chosen m (opening script image)))
   pub record_is : (script : Script) (image : List ℕ) (slot : ℕ) → SharesObject w script image slot → (m time : ℕ)
       → ReachesFirst time n w → ReachesFirst time m (opening script image)
-      → slice_get (round n w).world.records slot ≡ slice_get (round m (opening script image)).world.records slot
+      → HaveSameRecord (slice_get (round n w).world.records slot)
+      (slice_get (round m (opening script image)).world.records slot)
 
 -- so is every run
 abbrev pub RunsArePartitioned : Type 0

@@ -2,7 +2,7 @@
 -- driver 0x0 to driver 0x50001).
 use Rattle.std.specs.Prelude.{◌≡◌, ℕ, Bool, false, ◌&&◌, if◌then◌else◌, List, Option, Some, IfSome}
 use Rattle.process_model.specs.Own.{Own}
-use Rattle.driver_model.specs.Steps.{own_after}
+use Rattle.driver_model.specs.Steps.{DriverStep, own_after}
 use Rattle.driver_model.specs.Commands.{QueueName, Writes, Reads, Randoms, Stores, is_same}
 use Rattle.driver_model.specs.Alarm as alarm
 use Rattle.driver_model.specs.Buttons as buttons
@@ -44,14 +44,29 @@ pub record LinesFollowAnswers : Type 0 where
   pub edges : (button : ℕ) (state : Bool) (own : Own) →
       FollowsAnswer (λ line. false) own (own_after (buttons.edged button state own))
 
+-- a step for a write is what the process is told: that bytes were taken, or that it completed
+abbrev pub TellsWrite : Own → Bool → DriverStep → Type 0
+TellsWrite own completed step = step ≡ (if completed then console.write_done own else console.taken own)
+
+-- a step for a read is what the process is told: that these bytes came in
+abbrev pub TellsInput : Own → List ℕ → DriverStep → Type 0
+TellsInput own bytes step = step ≡ console.input bytes own
+
+-- a step for a request for random bytes is what the process is told: that this word was drawn, or none
+abbrev pub TellsWord : Own → Option ℕ → DriverStep → Type 0
+TellsWord own word step = step ≡ (random.answered word own).step
+
+-- a word that is drawn is the next one
+abbrev pub DrawsTheNext : Option ℕ → Option ℕ → Type 0
+DrawsTheNext word drawn = IfSome drawn (λ drawn. word ≡ Some drawn)
+
 -- What a process is told makes of it what the device's step did: a write had bytes taken, or completed; bytes came in
 -- for a read; a word was drawn for a request for random bytes, or none. The word that is drawn is the next one.
 pub record EventsTellSteps : Type 0 where
   pub writes : (flash : ℕ → ℕ) (own : Own) →
-      let s = console.sent flash own in
-      s.step ≡ (if s.completed then console.write_done own else console.taken own)
+      let s = console.sent flash own in TellsWrite own s.completed s.step
   pub reads : (ring : List ℕ) (own : Own) →
-      let r = console.received ring own in r.step ≡ console.input r.moved own
+      let r = console.received ring own in TellsInput own r.moved r.step
   pub randoms : (word : Option ℕ) (own : Own) →
-      let a = random.answered word own in a.step ≡ (random.answered a.moved own).step
-  pub drawn : (word : Option ℕ) (own : Own) → IfSome (random.answered word own).moved (λ drawn. word ≡ Some drawn)
+      let a = random.answered word own in TellsWord own a.moved a.step
+  pub drawn : (word : Option ℕ) (own : Own) → DrawsTheNext word (random.answered word own).moved

@@ -17,10 +17,22 @@ unfoldable pub words_of : List ℕ → List ℕ
 words_of (a ∷ b ∷ c ∷ d ∷ rest) = from_le_bytes w32 (a ∷ b ∷ c ∷ d ∷ []) ∷ words_of rest
 words_of other = []
 
+-- words are read back from bytes
+abbrev pub AreReadBack : List ℕ → List ℕ → Type 0
+AreReadBack words bytes = words_of bytes ≡ words
+
+-- bytes are four for each word
+abbrev pub TakeFourEach : List ℕ → List ℕ → Type 0
+TakeFourEach words bytes = length bytes ≡ 4 * length words
+
+-- words are as many as bytes have whole ones
+abbrev pub AreTheWholeOnes : List ℕ → List ℕ → Type 0
+AreTheWholeOnes words bytes = length words ≡ length bytes / 4
+
 -- how words stand in bytes
 pub record WordsInBytes : Type 0 where
   -- the words that were written are read back
-  pub back : (words : List ℕ) → AllByRecursion IsWord words → words_of (bytes_of_words words) ≡ words
+  pub back : (words : List ℕ) → AllByRecursion IsWord words → AreReadBack words (bytes_of_words words)
   -- each word takes four bytes
-  pub size : (words : List ℕ) → length (bytes_of_words words) ≡ 4 * length words
-  pub count : (bytes : List ℕ) → length (words_of bytes) ≡ length bytes / 4
+  pub size : (words : List ℕ) → TakeFourEach words (bytes_of_words words)
+  pub count : (bytes : List ℕ) → AreTheWholeOnes (words_of bytes) bytes

@@ -20,20 +20,31 @@ abbrev pub takes_time : Choice → Bool
 takes_time (Device device) = false
 takes_time other = true
 
+-- a choice gives no process a turn, and lets no time pass, while the alarm of the process in a slot is due, where that
+-- may be served
+abbrev pub WaitsForAlarm : World → Choice → ℕ → Record → Type 0
+WaitsForAlarm w choice slot r =
+    takes_time choice ≡ true → slice_get w.records slot ≡ Some r → is_let (only_in w) slot ≡ true →
+    due_alarm (now_in w) r.own ≡ None
+
 -- As long as the alarm of a process is due that may be served, the next choice, of the round robin or of the windows,
 -- gives no process a turn and lets no time pass.
 abbrev pub AlarmsComeFirst : Type 0
 AlarmsComeFirst =
     (w : World) (choice : Choice) (slot : ℕ) (r : Record) → length w.records ≤ SLOT_COUNT →
-    next w ≡ Some choice → takes_time choice ≡ true →
-    slice_get w.records slot ≡ Some r → is_let (only_in w) slot ≡ true → due_alarm (now_in w) r.own ≡ None
+    next w ≡ Some choice → WaitsForAlarm w choice slot r
+
+-- so many ticks are no more than are left until the alarm of the process in a slot becomes due, where that may be served
+abbrev pub StopsAtAlarm : World → ℕ → ℕ → Record → Type 0
+StopsAtAlarm w ticks slot r =
+    slice_get w.records slot ≡ Some r → is_let (only_in w) slot ≡ true →
+    IfSome (ticks_left_of (now_in w) r.own) (λ left. ticks ≤ left)
 
 -- and time that it lets pass ends when the next of these alarms becomes due, if not before
 abbrev pub PassesStopAtAlarms : Type 0
 PassesStopAtAlarms =
     (w : World) (ticks slot : ℕ) (r : Record) → length w.records ≤ SLOT_COUNT → next w ≡ Some (Pass ticks) →
-    slice_get w.records slot ≡ Some r → is_let (only_in w) slot ≡ true →
-    IfSome (ticks_left_of (now_in w) r.own) (λ left. ticks ≤ left)
+    StopsAtAlarm w ticks slot r
 
 -- An alarm that is due, when the clock shows a tick: its process lives and has armed it, and since its reference its
 -- delta has passed, by a clock of 32 bits.

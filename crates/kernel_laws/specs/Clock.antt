@@ -7,7 +7,7 @@ use Rattle.driver_model.specs.Alarm.{alarm_driver}
 use Rattle.driver_model.specs.Bytes.{shows_clock}
 use Rattle.kernel_model.specs.Record.{Record}
 use Rattle.kernel_model.specs.declared.settings.Settings.{Settings}
-use Rattle.kernel_model.specs.Turn.{turned}
+use Rattle.kernel_model.specs.Turn.{Turned, turned}
 use Rattle.kernel_model.specs.World.{Label, World, labels}
 use Rattle.kernel_model.specs.Causes.{EachChangeHasACause, TurnHasCauses}
 
@@ -38,10 +38,13 @@ abbrev pub is_for_alarm : Option CallMade → Bool
 is_for_alarm call =
     unwrap_or (option_map (λ made. made.class == 2 && slice_index made.args 0 == alarm_driver) call) false
 
+-- a turn that makes no command to the alarm is the same as another one
+abbrev pub IsTheSameButForAlarms : Turned → Turned → Type 0
+IsTheSameButForAlarms t other = is_for_alarm t.told.call ≡ false → other ≡ t
+
 -- Time comes in by the alarm alone: a turn that makes no command to it comes to the same at any other time, wherever
 -- the clock began.
 abbrev pub TimeComesInByTheAlarm : Type 0
 TimeComesInByTheAlarm =
-    (settings : Settings) (start time other : ℕ) (r : Record) →
-    let t = turned settings time r in
-    is_for_alarm t.told.call ≡ false → turned (record settings { start = start }) other r ≡ t
+    (settings : Settings) (start time other : ℕ) (r : Record)
+    → IsTheSameButForAlarms (turned settings time r) (turned (record settings { start = start }) other r)

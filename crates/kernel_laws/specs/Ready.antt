@@ -7,7 +7,7 @@ use Rattle.process_record.specs.declared.process.State.TheVariants.{Running, Yie
 use Rattle.upcall_queue.specs.declared.inbox.Inbox.{Inbox}
 use Rattle.kernel_model.specs.Record.{Record}
 use Rattle.kernel_model.specs.declared.settings.Settings.{Settings}
-use Rattle.kernel_model.specs.Turn.{idle, is_turn, may_turn, turned}
+use Rattle.kernel_model.specs.Turn.{Turned, idle, is_turn, may_turn, turned}
 use Rattle.kernel_model.specs.World.{Label, World, labels}
 
 -- a turn that a label tells is that of a process which may have one then: no operator holds it; and it runs, or has
@@ -19,10 +19,13 @@ IsOfReady w label = is_turn label.event ≡ true → IsSomeAnd (slice_get w.reco
 abbrev pub TurnsAreOfReadyProcesses : Type 0
 TurnsAreOfReadyProcesses = (w : World) (choice : Choice) → All (IsOfReady w) (labels w choice)
 
--- a turn of one that may have none changes nothing, tells nothing and asks for nothing
+-- a turn of a process that may have none changes nothing, tells nothing and asks for nothing
+abbrev pub DoesNothingUnready : Record → Turned → Type 0
+DoesNothingUnready r t = may_turn r ≡ false → t ≡ idle r
+
+-- so it is with each turn
 abbrev pub UnreadyTurnsDoNothing : Type 0
-UnreadyTurnsDoNothing = (settings : Settings) (time : ℕ) (r : Record) →
-    may_turn r ≡ false → turned settings time r ≡ idle r
+UnreadyTurnsDoNothing = (settings : Settings) (time : ℕ) (r : Record) → DoesNothingUnready r (turned settings time r)
 
 -- Something is due to a process that has yielded: it waits for any upcall, and one is pending; or it waited for one
 -- alone, which came.

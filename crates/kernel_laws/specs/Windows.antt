@@ -3,6 +3,7 @@ use Rattle.std.specs.Prelude.{◌≡◌, ◌≤◌, ℕ, ◌+◌, List, [], ◌�
 use Rattle.std.specs.List.{range_with_len}
 use Rattle.std.specs.Option.{option_map}
 use Rattle.tk_base.specs.declared.limits.TheConstants.{SLOT_COUNT}
+use Rattle.tk_base.specs.declared.process.Choice.{Choice}
 use Rattle.tk_base.specs.declared.process.Dev.{Dev}
 use Rattle.tk_base.specs.declared.process.Dev.TheVariants.{Alarm, Uart, Receive, Random, Store}
 use Rattle.partition_turns.specs.LanesView.{LanesView}
@@ -35,9 +36,13 @@ lanes_in w = record {
   uart_at = map (λ slot. sending_time (Some slot) w.devices) (range_with_len 0 SLOT_COUNT);
 }
 
--- so it is in each world with windows
+-- a choice, or that there is none, is that of the window in a world
+abbrev pub IsOfTheWindow : World → Option Choice → Type 0
+IsOfTheWindow w choice = choice ≡ window_choice (lanes_in w)
+
+-- so is the next one of each world with windows
 abbrev pub NextIsOfTheWindow : Type 0
-NextIsOfTheWindow = (w : World) → 1 ≤ w.pace.window → next w ≡ window_choice (lanes_in w)
+NextIsOfTheWindow = (w : World) → 1 ≤ w.pace.window → IsOfTheWindow w (next w)
 
 -- and what is not ready there for the slot whose window it is becomes so later
 abbrev pub LanesAreAhead : Type 0

@@ -69,11 +69,15 @@ abbrev pub tells_asking : QueueName → ℕ → Label → Bool
 tells_asking queue slot label =
     label.slot == slot && unwrap_or (option_map (asks_for queue) label.trace.call) false
 
+-- a request of the process in a slot begins to wait between two worlds only where such a call is told
+abbrev pub BeginsByCommand : QueueName → ℕ → World → World → List Label → Type 0
+BeginsByCommand queue slot w v told =
+    (not (asks_in queue slot w) && asks_in queue slot v) ≡ true → list_any (tells_asking queue slot) told ≡ true
+
 -- A request begins to wait by an accepted command to its driver alone, of a process that lives as it runs.
 abbrev pub RequestsBeginByCommands : Type 0
 RequestsBeginByCommands = (w : World) (choice : Choice) (queue : QueueName) (slot : ℕ) →
-    IfSome (slice_get w.records slot) LivesAsItRuns → begins_in queue slot w choice ≡ true →
-    list_any (tells_asking queue slot) (labels w choice) ≡ true
+    IfSome (slice_get w.records slot) LivesAsItRuns → BeginsByCommand queue slot w (after w choice) (labels w choice)
 
 -- A queue before a step and later, by who has a request there: those that have one still stand in the order in which
 -- they stood, whoever has none any more is gone, and behind them all stands the one whose request begins to wait in

@@ -24,8 +24,8 @@ use Rattle.driver_model.specs.Lines.{has_waiting, waits_after, waits_once}
 use Rattle.process_record.specs.declared.outcome.Outcome.TheVariants.{ToDriver}
 use Rattle.kernel_model.specs.Record.{Record}
 use Rattle.kernel_model.specs.declared.settings.Settings.{Settings}
-use Rattle.kernel_model.specs.Calls.{served, refused_with, failure_of}
-use Rattle.kernel_model.specs.Turn.{Turn, apply, is_act, is_turn, rule_shown, turned}
+use Rattle.kernel_model.specs.Calls.{Served, served, refused_with, failure_of}
+use Rattle.kernel_model.specs.Turn.{Turn, Turned, apply, is_act, is_turn, rule_shown, turned}
 use Rattle.kernel_model.specs.Parts.{edge_known}
 use Rattle.kernel_model.specs.World.{World, Answer, DeviceAnswer, Devices, Label, Stepped, after, answering}
 use Rattle.kernel_model.specs.World.{device_step_of, done, is_ready, labels, labels_told}
@@ -41,14 +41,22 @@ answer_by w (Run other) slot = if slot == other then Some (record { event = Turn
 answer_by w (Device device) slot = option_and_then (λ deed. deed.told slot) (device_step_of w device)
 answer_by w (Pass ticks) slot = None
 
+-- under settings a record is what one event makes of the first one, or the first one where there is no event
+abbrev pub ChangesByOne : Settings → Option Answer → Option Record → Option Record → Type 0
+ChangesByOne settings answer first now = now ≡ option_map (happens settings answer) first
+
+-- a world stays, and nothing is told
+abbrev pub StaysUntold : World → World → List Label → Type 0
+StaysUntold w v told = (v ≡ w) × (told ≡ [])
+
 -- A step changes the record of each process by the one event that it tells it, or not at all. A choice that is not
 -- ready changes nothing, and tells nothing.
 pub record OnlyItsOwnEvents : Type 0 where
   pub each : (w : World) (choice : Choice) (slot : ℕ) → is_ready w choice ≡ true →
-      slice_get (after w choice).records slot
-      ≡ option_map (happens w.settings (answer_by w choice slot)) (slice_get w.records slot)
-  pub unready : (w : World) (choice : Choice) → is_ready w choice ≡ false
-      → (after w choice ≡ w) × (labels w choice ≡ [])
+      ChangesByOne w.settings (answer_by w choice slot) (slice_get w.records slot)
+      (slice_get (after w choice).records slot)
+  pub unready : (w : World) (choice : Choice) → is_ready w choice ≡ false →
+      StaysUntold w (after w choice) (labels w choice)
 
 -- those that wait in a queue after an answer to one of them, whose request completed or did not
 abbrev pub queue_after_answer : Bool → ℕ → List ℕ → List ℕ
@@ -130,34 +138,47 @@ pub record DevicesAnswerOne : Type 0 where
   pub shows_nothing : (w : World) (button : ℕ) (pressed : Bool) → shown_by (edge_labels button pressed w) ≡ nothing
   pub each : (w : World) (device : Dev) → ComesTo w (done w (device_step_of w device))
 
+-- a choice may be made below the limit of steps
+abbrev pub IsReadyBelowLimit : World → Choice → Type 0
+IsReadyBelowLimit w choice = w.clock.steps < STEP_LIMIT → IsTrue (is_ready w choice)
+
 -- below the limit of steps the next choice of the round robin may be made
 abbrev pub NextIsReady : Type 0
-NextIsReady = (w : World) (c : Choice) → next w ≡ Some c → w.clock.steps < STEP_LIMIT → IsTrue (is_ready w c)
+NextIsReady = (w : World) (c : Choice) → next w ≡ Some c → IsReadyBelowLimit w c
+
+-- a time, if there is one, lies ahead
+abbrev pub LiesAhead : World → Option ℕ → Type 0
+LiesAhead w time = IfSome time (λ at. w.clock.time < at)
 
 -- where no device step is ready, the nearest time at which one becomes ready lies ahead
 abbrev pub NextLiesAhead : Type 0
-NextLiesAhead = (w : World) → ready_device (ready_devices w) ≡ None → IfSome (next_time w) (λ at. w.clock.time < at)
+NextLiesAhead = (w : World) → ready_device (ready_devices w) ≡ None → LiesAhead w (next_time w)
 
--- A call that is refused, a command to a driver too, gets the failure of the rule that it broke; of the process it
+-- What serving a call left: where it is refused by a rule, the call gets the failure of that rule; of the process it
 -- changes the reply registers, pc and the recorded refusal, and nothing of what else is its own (TRD 104, "Return
 -- Values").
+abbrev pub ChangesLittleRefused : Record → CallForm → CallRule → Served → Type 0
+ChangesLittleRefused r call rule s = rule_shown s.outcome ≡ Some rule → s ≡ refused_with r rule (failure_of call rule)
+
+-- so it is with each call, a command to a driver too
 abbrev pub RefusedChangesNothingElse : Type 0
 RefusedChangesNothingElse =
     (strict : Bool) (around : CommandContext) (r : Record) (call : CallForm) (rule : CallRule)
-    → rule_shown (served strict around r call).outcome ≡ Some rule
-    → served strict around r call ≡ refused_with r rule (failure_of call rule)
+    → ChangesLittleRefused r call rule (served strict around r call)
 
 -- a call has come to its end once it is served: no driver has it still to answer
 abbrev pub NoneIsLeft : Type 0
 NoneIsLeft = (strict : Bool) (around : CommandContext) (r : Record) (call : CallForm) →
     (served strict around r call).outcome ≢ ToDriver
 
--- What drivers keep of a process changes at its own calls alone, and at what ends its life: a turn without a call and
--- without a denial leaves its grants as they were, and it lives as before.
-abbrev pub GrantsChangeAtCalls : Type 0
-GrantsChangeAtCalls = (settings : Settings) (time : ℕ) (r : Record) →
-    let t = turned settings time r in
+-- a turn without a call and without a denial leaves the grants of its process as they were, and it lives as before
+abbrev pub KeepsGrants : Record → Turned → Type 0
+KeepsGrants r t =
     t.told.call ≡ None → t.told.denial ≡ None → (t.after.own.grants ≡ r.own.grants) × (t.after.own.lives ≡ r.own.lives)
+
+-- What drivers keep of a process changes at its own calls alone, and at what ends its life.
+abbrev pub GrantsChangeAtCalls : Type 0
+GrantsChangeAtCalls = (settings : Settings) (time : ℕ) (r : Record) → KeepsGrants r (turned settings time r)
 
 -- a turn drops one upcall at most: one that its command has a driver schedule where as many are pending as may be
 abbrev pub DropsAtMostOne : Type 0
@@ -185,10 +206,12 @@ TurnsKeepLines = (settings : Settings) (time : ℕ) (r : Record) → r.own.lives
     KeepsLines settings.storage r.own t.after.own t.acts
 
 -- a turn without a call and without a denial asks nothing of the board
+abbrev pub ActsAtCalls : Turned → Type 0
+ActsAtCalls t = t.told.call ≡ None → t.told.denial ≡ None → t.acts ≡ []
+
+-- so it is with each turn
 abbrev pub TurnsActAtCalls : Type 0
-TurnsActAtCalls = (settings : Settings) (time : ℕ) (r : Record) →
-    let t = turned settings time r in
-    t.told.call ≡ None → t.told.denial ≡ None → t.acts ≡ []
+TurnsActAtCalls = (settings : Settings) (time : ℕ) (r : Record) → ActsAtCalls (turned settings time r)
 
 -- Only proofs use this: what the laws of calls rest on, the laws of the drivers' commands and requests.
 pub record DriversPromise : Type 0 where

@@ -1,6 +1,6 @@
 -- When a process lives, and what stays of it: where it lies, the order of its memory, what a restart makes of it. The
 -- order is that of Levy et al., SOSP 2017, section 4; restarts are those of TRD 104, "Exit".
-use Rattle.std.specs.Prelude.{◌≡◌, ◌≢◌, ◌≤◌, ◌<◌, ℕ, false, List, length, slice_get, Some, IfSome, All}
+use Rattle.std.specs.Prelude.{◌≡◌, ◌≢◌, ◌≤◌, ◌<◌, ℕ, false, List, length, slice_get, Option, Some, IfSome, All}
 use Rattle.tk_base.specs.declared.limits.TheConstants.{PENDING_LIMIT}
 use Rattle.tk_base.specs.declared.process.Choice.{Choice}
 use Rattle.tk_base.specs.declared.process.Verb.TheVariants.{Restart}
@@ -27,13 +27,17 @@ pub record LivesAsItRuns (r : Record) : Type 0 where
   pub life : r.own.life ≡ r.process.restarts
   pub application : CanStartAgain r
 
+-- a process has the record that it had, but for which buttons it was told are pressed
+abbrev pub StaysButPressed : Record → Option Record → Type 0
+StaysButPressed r now = (pressed : ℕ) × (now ≡ Some (record r { pressed = pressed }))
+
 -- once a process has ended, is not held and does not live, no choices change its record as long as no operator has it
 -- start again, but for which buttons it was told are pressed
 abbrev pub EndedStays : Type 0
 EndedStays = (w : World) (choices : List Choice) (slot : ℕ) (r : Record) →
     slice_get w.records slot ≡ Some r → is_alive r.process.state ≡ false → r.process.held ≡ false →
     r.own.lives ≡ false → All (λ event. event ≢ Act Restart) (history slot w choices) →
-    (pressed : ℕ) × (slice_get (after_all w choices).records slot ≡ Some (record r { pressed = pressed }))
+    StaysButPressed r (slice_get (after_all w choices).records slot)
 
 -- a process has the object of another in the same place, and lies where that does: its accessible flash and its block
 pub record LiesAs (first now : Record) : Type 0 where
@@ -50,9 +54,13 @@ abbrev pub PlacesStay : Type 0
 PlacesStay = (w : World) (choices : List Choice) (slot : ℕ) (first : Record) →
     slice_get w.records slot ≡ Some first → IfSome (slice_get (after_all w choices).records slot) (LiesAs first)
 
+-- two worlds have as many processes
+abbrev pub HaveAsMany : World → World → Type 0
+HaveAsMany w v = length v.records ≡ length w.records
+
 -- and there are as many processes as before
 abbrev pub AsManyStay : Type 0
-AsManyStay = (w : World) (choices : List Choice) → length (after_all w choices).records ≡ length w.records
+AsManyStay = (w : World) (choices : List Choice) → HaveAsMany w (after_all w choices)
 
 -- no address lies in the blocks of both
 abbrev pub AreApart : Record → Record → Type 0
@@ -79,13 +87,17 @@ pub record HasOrder (r : Record) : Type 0 where
 abbrev pub HasPendingWithinLimit : Record → Type 0
 HasPendingWithinLimit r = length r.own.inbox.pending ≤ PENDING_LIMIT
 
+-- none of a process's upcalls was dropped between two records of it, where fewer waited at first than may
+abbrev pub DropsWhereFull : Record → Record → Type 0
+DropsWhereFull before now =
+    length before.own.inbox.pending < PENDING_LIMIT → now.own.inbox.dropped ≡ before.own.inbox.dropped
+
 -- An upcall of a process is dropped only where as many wait as may: after any choices a step drops none where fewer did
 -- before it.
 abbrev pub DropsOnlyWhereFull : Type 0
 DropsOnlyWhereFull = (w : World) (choices : List Choice) (choice : Choice) (slot : ℕ) (before now : Record) →
     slice_get (after_all w choices).records slot ≡ Some before →
-    slice_get (after (after_all w choices) choice).records slot ≡ Some now →
-    length before.own.inbox.pending < PENDING_LIMIT → now.own.inbox.dropped ≡ before.own.inbox.dropped
+    slice_get (after (after_all w choices) choice).records slot ≡ Some now → DropsWhereFull before now
 
 -- A process is as another was, but for its turns, its restarts and its life, its dropped upcalls, its last denial, its
 -- last refusal, its storage, and which buttons it was told are pressed.

@@ -1,6 +1,7 @@
 -- What a slot has of its window, in a run with time partitions. It is this board's own rule.
 use Rattle.std.specs.Prelude.{◌≡◌, ◌≤◌, ◌<◌, ℕ, ◌+◌, ◌%◌, true, List, filter, length, slice_get}
 use Rattle.tk_base.specs.declared.limits.TheConstants.{STEP_LIMIT}
+use Rattle.partition_turns.specs.Turns.{FillWindow, TakeEachTick}
 use Rattle.partition_turns.specs.Windows.{window_end, window_slot}
 use Rattle.kernel_model.specs.Turn.{is_turn}
 use Rattle.kernel_model.specs.World.{World}
@@ -38,9 +39,9 @@ turns_in_window n w = turns_told (before (window_end_of w) (timed_history (slot_
 -- Then each tick up to the end is a turn of it.
 abbrev pub EachTickIsItsTurn : Type 0
 EachTickIsItsTurn = (w : World) (n : ℕ) → IsReadyThroughout n w →
-    w.clock.time + turns_in_window n w ≡ window_end_of w
+    TakeEachTick w.clock.time (window_end_of w) (turns_in_window n w)
 
 -- So where the run begins with the window, the slot has as many turns as the window has ticks.
 abbrev pub WholeWindowIsItsTurns : Type 0
 WholeWindowIsItsTurns = (w : World) (n : ℕ) → IsReadyThroughout n w → w.clock.time % w.pace.window ≡ 0 →
-    turns_in_window n w ≡ w.pace.window
+    FillWindow w.pace.window (turns_in_window n w)

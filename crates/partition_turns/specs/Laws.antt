@@ -73,8 +73,12 @@ pub record AreAlikeIn (slot : ℕ) (l m : LanesView) : Type 0 where
   pub alarm : alarm_time l slot ≡ alarm_time m slot
   pub uart : uart_time l slot ≡ uart_time m slot
 
+-- two choices are the same
+abbrev pub IsTheSameChoice : Choice → Choice → Type 0
+IsTheSameChoice c d = c ≡ d
+
 -- What there is of the other slots decides no choice but whether there is one.
 abbrev pub OtherSlotsDecideNothing : Type 0
 OtherSlotsDecideNothing =
     (l m : LanesView) (c d : Choice) → AreAlikeIn (window_slot l.time l.n) l m → window_choice l ≡ Some c
-    → window_choice m ≡ Some d → c ≡ d
+    → window_choice m ≡ Some d → IsTheSameChoice c d

@@ -36,14 +36,22 @@ pub record IsInOwnWindow (slot n : ℕ) (l : LanesView) : Type 0 where
   pub window : window_slot l.time n ≡ slot
   pub ready : slot_is_ready l slot ≡ true
 
+-- each tick from one time to another is one of so many turns
+abbrev pub TakeEachTick : ℕ → ℕ → ℕ → Type 0
+TakeEachTick from to turns = to ≡ from + turns
+
 -- As long as it is the window of a slot that is ready, each tick is a turn of it.
 abbrev pub EachTickIsATurn : Type 0
 EachTickIsATurn =
     (slot n from to : ℕ) (steps : List LanesView) → Lead from steps to → All (IsInOwnWindow slot n) steps
-    → to ≡ from + turns_among slot steps
+    → TakeEachTick from to (turns_among slot steps)
+
+-- turns are as many as a window has ticks
+abbrev pub FillWindow : ℕ → ℕ → Type 0
+FillWindow n turns = turns ≡ n
 
 -- So from a window's first time to its end a slot that is ready throughout has n turns.
 abbrev pub ReadyHasItsWindow : Type 0
 ReadyHasItsWindow =
     (slot n from : ℕ) (steps : List LanesView) → 1 ≤ n → from % n ≡ 0 → Lead from steps (window_end from n)
-    → All (IsInOwnWindow slot n) steps → turns_among slot steps ≡ n
+    → All (IsInOwnWindow slot n) steps → FillWindow n (turns_among slot steps)

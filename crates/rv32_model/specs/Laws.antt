@@ -1,7 +1,7 @@
 -- What holds of the two instruction tables and of every turn. The tables are those of the RISC-V unprivileged manual,
 -- "RV32/64G Instruction Set Listings" and "RVC Instruction Set Listings".
 use Rattle.std.specs.Prelude.{◌≡◌, ◌≢◌, ◌⊎◌, ℕ, ◌+◌, ◌%◌, ◌≤◌, Bool, true, false, ◌&&◌, nat_le, nat_lt, [], length}
-use Rattle.std.specs.Prelude.{Option, None, Some, Ok, IfSome, IsTrue, filter, All}
+use Rattle.std.specs.Prelude.{List, Option, None, Some, Ok, IfSome, IsTrue, filter, All}
 use Rattle.std.specs.List.{list_any}
 use Rattle.tk_base.specs.declared.access.Access.{Access}
 use Rattle.tk_base.specs.declared.access.Access.TheVariants.{Fetch, Load, Store}
@@ -18,32 +18,43 @@ use Rattle.rv32_model.specs.declared.instr.Instr.TheVariants as instrs
 use Rattle.rv32_model.specs.declared.turn_end.TurnEnd.TheVariants.{Call, Trap, Went}
 use Rattle.rv32_model.specs.Instructions.{row_fits, instruction_table}
 use Rattle.rv32_model.specs.Compressed.{compressed_table, fits_parcel}
-use Rattle.rv32_model.specs.UserTurn.{MemoryAccess, user_turn, bytes_after, denied_at, fetched, instr_of, load_width}
-use Rattle.rv32_model.specs.UserTurn.{touch_of, w32_of}
+use Rattle.rv32_model.specs.UserTurn.{MemoryAccess, UserTurn, user_turn, bytes_after, denied_at, fetched, instr_of}
+use Rattle.rv32_model.specs.UserTurn.{load_width, touch_of, w32_of}
+
+-- of some rows, each tested alone, one fits at most
+abbrev pub FitsOne : {A : Type 0} → (A → Bool) → List A → Type 0
+FitsOne fits rows = length (filter fits rows) ≤ 1
 
 -- no word fits two rows of the table
 abbrev pub NoWordFitsTwoRows : Type 0
-NoWordFitsTwoRows = (word : ℕ) → length (filter (row_fits word) instruction_table) ≤ 1
+NoWordFitsTwoRows = (word : ℕ) → FitsOne (row_fits word) instruction_table
 
 -- no parcel fits two rows of the table of compressed instructions
 abbrev pub NoParcelFitsTwoRows : Type 0
-NoParcelFitsTwoRows = (parcel : ℕ) → length (filter (fits_parcel parcel) compressed_table) ≤ 1
+NoParcelFitsTwoRows = (parcel : ℕ) → FitsOne (fits_parcel parcel) compressed_table
 
 -- what denies the accesses of a process, and the bytes that it sees
 abbrev pub Denies : Type 0
 Denies = Access → ℕ → Width → Option Rule
 
+-- an access is permitted
+abbrev pub IsAllowed : Denies → MemoryAccess → Type 0
+IsAllowed denies t = denies t.access t.address t.width ≡ None
+
 -- each access that a turn lists is permitted
 abbrev pub AccessesArePermitted : Type 0
 AccessesArePermitted =
     (denies : Denies) (bytes : ℕ → ℕ) (regs : Registers)
-    → All (λ t. denies t.access t.address t.width ≡ None) (user_turn denies bytes regs).accesses
+    → All (IsAllowed denies) (user_turn denies bytes regs).accesses
+
+-- an access is a fetch, or is at a multiple of its width
+abbrev pub IsAligned : MemoryAccess → Type 0
+IsAligned t = t.access ≢ Fetch → t.address % width_bytes t.width ≡ 0
 
 -- each load and store that a turn lists is at a multiple of its width
 abbrev pub DataIsAligned : Type 0
 DataIsAligned =
-    (denies : Denies) (bytes : ℕ → ℕ) (regs : Registers)
-    → All (λ t. t.access ≢ Fetch → t.address % width_bytes t.width ≡ 0) (user_turn denies bytes regs).accesses
+    (denies : Denies) (bytes : ℕ → ℕ) (regs : Registers) → All IsAligned (user_turn denies bytes regs).accesses
 
 -- A parcel that may not be fetched: the one at pc, or the one after it, where that at pc may be fetched and is the
 -- first
@@ -95,14 +106,16 @@ CallsAreOfEcall =
     let t = user_turn denies bytes regs in
     t.end ≡ Call → IsInstrAt denies bytes regs.pc (Some instrs.Ecall) × (t.regs ≡ regs) × (t.write ≡ None)
 
--- a denied turn changes neither registers nor bytes, and lists no access
+-- a turn that is denied, and leaves some bytes, changes neither registers nor bytes, and lists no access
+abbrev pub ChangesNothingDenied : Registers → (ℕ → ℕ) → UserTurn → (ℕ → ℕ) → Denial → Type 0
+ChangesNothingDenied regs bytes t left denial =
+    t.end ≡ Trap denial → (t.regs ≡ regs) × (left ≡ bytes) × (t.accesses ≡ [])
+
+-- so it is with every turn
 abbrev pub DeniedTurnsChangeNothing : Type 0
 DeniedTurnsChangeNothing =
     (denies : Denies) (bytes : ℕ → ℕ) (regs : Registers) (denial : Denial)
-    → (user_turn denies bytes regs).end ≡ Trap denial
-    → ((user_turn denies bytes regs).regs ≡ regs)
-    × (bytes_after denies bytes regs ≡ bytes)
-    × ((user_turn denies bytes regs).accesses ≡ [])
+    → ChangesNothingDenied regs bytes (user_turn denies bytes regs) (bytes_after denies bytes regs) denial
 
 -- whether an access is a store
 abbrev pub is_store : Access → Bool
@@ -113,12 +126,15 @@ is_store other = false
 abbrev pub stores_at : ℕ → MemoryAccess → Bool
 stores_at at t = is_store t.access && (nat_le t.address at && nat_lt at (t.address + width_bytes t.width))
 
--- a byte that no store of the turn covers is as it was
+-- of some accesses, and the bytes before and after them: a byte that no store among them covers is as it was
+abbrev pub WritesByStores : List MemoryAccess → (ℕ → ℕ) → (ℕ → ℕ) → ℕ → Type 0
+WritesByStores accesses bytes left at = list_any (stores_at at) accesses ≡ false → left at ≡ bytes at
+
+-- so it is in every turn
 abbrev pub OnlyStoresWrite : Type 0
 OnlyStoresWrite =
     (denies : Denies) (bytes : ℕ → ℕ) (regs : Registers) (at : ℕ)
-    → list_any (stores_at at) (user_turn denies bytes regs).accesses ≡ false
-    → bytes_after denies bytes regs at ≡ bytes at
+    → WritesByStores (user_turn denies bytes regs).accesses bytes (bytes_after denies bytes regs) at
 
 -- what a turn writes it may store
 abbrev pub MayWrite : Denies → (ℕ → ℕ) → Registers → Type 0
@@ -145,9 +161,13 @@ pub record LookAlike (denies others : Denies) (bytes other_bytes : ℕ → ℕ) 
   pub loads : (at : ℕ) (width : Width) → misaligned_first denies Load at width ≡ None
       → number_at bytes at width ≡ number_at other_bytes at width
 
+-- two turns are the same: the registers, what is written, the accesses and the end
+abbrev pub IsTheSameTurn : UserTurn → UserTurn → Type 0
+IsTheSameTurn t u = t ≡ u
+
 -- a turn sees nothing but what it may access: the same turn follows from what looks alike
 abbrev pub SeesOnlyPermitted : Type 0
 SeesOnlyPermitted =
     (denies others : Denies) (bytes other_bytes : ℕ → ℕ) (regs : Registers)
     → LookAlike denies others bytes other_bytes
-    → user_turn denies bytes regs ≡ user_turn others other_bytes regs
+    → IsTheSameTurn (user_turn denies bytes regs) (user_turn others other_bytes regs)
