@@ -2,6 +2,7 @@
 -- object in slot 0 and other ones in slot 1, so that the laws of what a slot sees do not hold for want of two. The
 -- bytes were put together by hand from the Tock Binary Format, "TBF Header Base" and "Main".
 use Rattle.std.proofs.Common.{◌≡◌, ℕ, List, [], ◌∷◌, ◌++◌, true, false, slice_get, unwrap_or, refl, sym, ◌∙◌, arith}
+use Rattle.std.proofs.Common.{ap, length}
 use Rattle.std.proofs.Common.{Option, None, Some, is_some}
 use Rattle.tk_base.specs.declared.access.TheConstants.{FLASH_START}
 use Rattle.tk_base.specs.declared.process.Verb.TheVariants.{Stop as StopIt}
@@ -16,10 +17,13 @@ use Rattle.script_text.specs.Settings.{ScriptSettings as Script}
 use Rattle.script_text.specs.Settings as script
 use Rattle.kernel_model.specs.Record.{Record}
 use Rattle.kernel_model.specs.Worked.{standing}
-use Rattle.kernel_model.specs.World.{World}
+use Rattle.kernel_model.specs.Turn.{untraced}
+use Rattle.kernel_model.specs.World.{World, turn_label}
 use Rattle.kernel_partitions.specs.Alike.{IsNoAct}
+use Rattle.kernel_partitions.specs.Moments.{Moment}
+use Rattle.kernel_partitions.specs.Partitions.{AreAlikeUpTo}
 use Rattle.board_opening.specs.Opening.{opening, opening_record}
-use Rattle.board_partitions.specs.Boot.{OpenSameObject}
+use Rattle.board_partitions.specs.Boot.{OpenSameObject, StartsAtItsShare}
 
 -- an application of one instruction, which asks for 8 bytes of RAM: its header, and then the instruction
 abbrev application : List ℕ → List ℕ
@@ -102,3 +106,20 @@ edge_is_no_act = refl
 
 none_acts : IsNoAct (record { time = 5; kind = script.Act StopIt (45 ∷ []) }) → ⊥
 none_acts is = cc
+
+-- A turn of one board alone at time 5: up to there the same is told; a kernel in which it hangs on what another slot has.
+abbrev at_five : Moment
+at_five = record { at = 5; label = turn_label 0 5 untraced }
+
+alike_up_to_five : AreAlikeUpTo 5 (at_five ∷ []) []
+alike_up_to_five = refl
+
+none_alike_later : AreAlikeUpTo 6 (at_five ∷ []) [] → ⊥
+none_alike_later alike = let count = ap length alike in omega (arith, count)
+
+-- A block at the start of the share of slot 0; a board that puts the one of slot 1 there.
+starts_at_share : StartsAtItsShare 65536 0 (standing [] 256 (cleared 0))
+starts_at_share = refl
+
+none_starts_before : StartsAtItsShare 65536 1 (standing [] 256 (cleared 0)) → ⊥
+none_starts_before starts = omega (arith, starts)

@@ -1,7 +1,7 @@
 -- What a process gets that waits for one upcall alone: the arguments of the first scheduling of it since it waits (TRD
 -- 104, "Yield").
 use Rattle.std.specs.Prelude.{◌≡◌, ℕ, ◌==◌, if◌then◌else◌, List, [], ◌∷◌, ◌++◌, find, filter_map, slice_get, All}
-use Rattle.std.specs.Prelude.{false, None, Some, option_and_then, option_map, unwrap_or}
+use Rattle.std.specs.Prelude.{false, Option, None, Some, option_and_then, option_map, unwrap_or}
 use Rattle.tk_base.specs.declared.process.Choice.{Choice}
 use Rattle.tk_base.specs.declared.upcall.Upcall.{Upcall as Scheduled}
 use Rattle.tk_base.specs.declared.upcall.Wait.{Wait}
@@ -10,6 +10,7 @@ use Rattle.upcall_queue.specs.declared.inbox.Delivery.TheVariants.{Arguments}
 use Rattle.upcall_queue.specs.Pending.{is_of, place_of}
 use Rattle.process_record.specs.Process.{after_turn, delivered}
 use Rattle.kernel_model.specs.Record.{Record}
+use Rattle.kernel_model.specs.Turn.{TurnTrace}
 use Rattle.kernel_model.specs.World.{Label, World, after, labels}
 use Rattle.kernel_model.specs.Replay.{after_all}
 use Rattle.kernel_model.specs.Histories.{is_ended_in}
@@ -40,6 +41,24 @@ HasNoTurn slot w [] = Unit
 HasNoTurn slot w (choice ∷ choices) =
     (told_in slot w choice ≡ []) × (is_ended_in slot w choice ≡ false) × HasNoTurn slot (after w choice) choices
 
+-- a turn from one record to another, whose call asks for the upcall of a driver and a number alone, of which none waits,
+-- has the process wait for it
+abbrev pub WaitsForIt : ℕ → ℕ → Record → Record → TurnTrace → Type 0
+WaitsForIt driver number r s told =
+    takes (wait_of r) told.call ≡ FirstOf driver number → wait_of s ≡ Some (For driver number)
+
+-- a process waits as one does that waited for the upcall of a driver and a number, once these upcalls were scheduled
+abbrev pub IsAwaited : ℕ → ℕ → List Scheduled → Option Wait → Type 0
+IsAwaited driver number upcalls wait = wait ≡ Some (awaited driver number upcalls)
+
+-- a process that waits for the upcall of a driver and a number has no turn
+abbrev pub RestsWaiting : ℕ → ℕ → Option Wait → List TurnTrace → Type 0
+RestsWaiting driver number wait told = wait ≡ Some (For driver number) → told ≡ []
+
+-- a turn from one record to another delivers arguments
+abbrev pub GetsArguments : List ℕ → Record → Record → Type 0
+GetsArguments args r s = s.process ≡ delivered (Arguments args) (after_turn r.process)
+
 -- Of a world and a slot: any choices are made. A turn whose call asks for the upcall of a driver and a number alone, of
 -- which none waits, has the process wait for it. While it has no turn then, and no operator ends a life of it, it waits
 -- for it still exactly where none of the driver and number was scheduled for it since, null or not and dropped or not;
@@ -50,20 +69,19 @@ pub record GivesTheFirst (w : World) (slot : ℕ) : Type 0 where
       let pending = r.own.inbox.pending in
       slice_get v.records slot ≡ Some r → slice_get (after v choice).records slot ≡ Some s →
       slice_get pending (place_of driver number pending) ≡ None →
-      All (λ told. takes (wait_of r) told.call ≡ FirstOf driver number → wait_of s ≡ Some (For driver number))
-      (told_in slot v choice)
+      All (WaitsForIt driver number r s) (told_in slot v choice)
   pub waits : (choices since : List Choice) (driver number : ℕ) →
       let v = after_all w choices in
       wait_in_slot slot v ≡ Some (For driver number) → HasNoTurn slot v since →
-      wait_in_slot slot (after_all v since) ≡ Some (awaited driver number (upcalls_since slot v since))
+      IsAwaited driver number (upcalls_since slot v since) (wait_in_slot slot (after_all v since))
   pub rests : (choices : List Choice) (choice : Choice) (driver number : ℕ) →
       let v = after_all w choices in
-      wait_in_slot slot v ≡ Some (For driver number) → told_in slot v choice ≡ []
+      RestsWaiting driver number (wait_in_slot slot v) (told_in slot v choice)
   pub given : (choices : List Choice) (choice : Choice) (r s : Record) (args : List ℕ) →
       let v = after_all w choices in
       slice_get v.records slot ≡ Some r → slice_get (after v choice).records slot ≡ Some s →
       wait_of r ≡ Some (Given args) →
-      All (λ told. s.process ≡ delivered (Arguments args) (after_turn r.process)) (told_in slot v choice)
+      All (λ told. GetsArguments args r s) (told_in slot v choice)
 
 -- so it is of every process
 abbrev pub WaitsGetTheFirst : Type 0

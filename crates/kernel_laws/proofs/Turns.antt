@@ -25,7 +25,7 @@ use Rattle.kernel_model.specs.World.{is_let, may_be_made, only_at, only_in, ran}
 use Rattle.kernel_model.specs.Run.{may_go, next, ready_slots, situation_of}
 use Rattle.kernel_model.specs.Parts.{on_choice}
 use Rattle.kernel_model.specs.Replay.{chosen}
-use Rattle.kernel_laws.specs.Fairness.{HasTurn, IsReadyIn, ReadyProcessesHaveTurns, chooses_turn, makes_turn}
+use Rattle.kernel_laws.specs.Fairness.{HasTurnAmong, IsReadyIn, ReadyProcessesHaveTurns, chooses_turn, makes_turn}
 use Rattle.kernel_laws.specs.Fairness.{turn_worlds}
 use Rattle.kernel_laws.specs.Fairness.{worlds}
 use Rattle.kernel_model.proofs.Places.{of_acted, of_stepped, of_world, stepped_else, stepped_ready}
@@ -278,7 +278,7 @@ ready_plainly v slot none e =
 
 -- a turn that is given in a situation is given in its world
 turn_in_world : (slot : ℕ) (window : List World) (k : ℕ) (s : Situation) → k < length (map situation_of window)
-    → slice_index_or (map situation_of window) k s ≡ s → GivesTurn s slot → Any (HasTurn slot) window
+    → slice_index_or (map situation_of window) k s ≡ s → GivesTurn s slot → HasTurnAmong next slot window
 unfolding next
 turn_in_world slot [] k s lt is gives = absurd (omega arith)
 turn_in_world slot (v ∷ vs) zero s lt is gives =

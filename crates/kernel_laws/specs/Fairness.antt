@@ -33,9 +33,9 @@ turn_worlds n w = filter makes_turn (worlds w (chosen n w))
 abbrev pub IsReadyIn : ℕ → World → Type 0
 IsReadyIn slot v = can_run (slice_get v.records slot) ≡ true
 
--- the round robin gives the process in a slot the next turn
-abbrev pub HasTurn : ℕ → World → Type 0
-HasTurn slot v = next v ≡ Some (Run slot)
+-- who chooses gives the process in a slot the next turn in one of some worlds
+abbrev pub HasTurnAmong : (World → Option Choice) → ℕ → List World → Type 0
+HasTurnAmong choose slot window = Any (λ v. choose v ≡ Some (Run slot)) window
 
 -- Of a world: in the run of any length from it, each window of turns of processes, one after another, as many as all
 -- slots have in a slice each, in which the process in a slot is ready before each turn, has a turn of that process.
@@ -45,7 +45,7 @@ IsFair w =
     turn_worlds n w ≡ earlier ++ (window ++ later) →
     SLOT_COUNT * w.pace.slice ≤ length window →
     All (IsReadyIn slot) window →
-    Any (HasTurn slot) window
+    HasTurnAmong next slot window
 
 -- so it is on a board of no more processes than slots, without time partitions
 abbrev pub ReadyProcessesHaveTurns : Type 0

@@ -15,6 +15,7 @@ use Rattle.driver_model.specs.Commands.{leaving_all}
 use Rattle.kernel_model.specs.Record.{Record}
 use Rattle.kernel_model.specs.Turn.{Act, apply, operated}
 use Rattle.kernel_model.specs.World.{Devices, Label, Stepped, World, answer_label, answering, arrived}
+use Rattle.kernel_model.specs.World.{after, labels}
 use Rattle.kernel_model.specs.Parts.{acting_on}
 use Rattle.kernel_model.specs.World.{carried_out, coming_in, done, is_ready, listed, operating, routed}
 use Rattle.kernel_model.specs.Parts.{slot_of_name}
@@ -121,7 +122,7 @@ steps_operate_one w choice verb name meant = by_ready (is_ready w choice) refl m
   where
     by_choice : (c : Choice) → is_ready w c ≡ true
         → option_and_then (λ (arrival : Arrival). act_of arrival.kind) (first_for c w.devices.arrivals)
-        ≡ Some (verb, name) → ActsOnOne w c verb name
+        ≡ Some (verb, name) → ActsOnOne w (after w c) (labels w c) verb name
     by_choice (Run slot) ready is = absurd (cc)
     by_choice (Device dev.Event) ready is =
         let made = stepped_ready w (Device dev.Event) ready in
@@ -140,6 +141,6 @@ steps_operate_one w choice verb name meant = by_ready (is_ready w choice) refl m
     by_ready : (b : Bool) → is_ready w choice ≡ b
         → option_and_then (λ (arrival : Arrival). act_of arrival.kind)
         (cond b (first_for choice w.devices.arrivals) None) ≡ Some (verb, name)
-        → ActsOnOne w choice verb name
+        → ActsOnOne w (after w choice) (labels w choice) verb name
     by_ready true ready is = by_choice choice ready is
     by_ready false ready is = absurd (cc)

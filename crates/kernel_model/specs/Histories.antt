@@ -89,6 +89,11 @@ pub record HandedNothing (r : Record) : Type 0 where
 abbrev pub swap_reply : ℕ × ℕ → ℕ × ℕ → List ℕ
 swap_reply former pair = 130 ∷ former.0 ∷ former.1 ∷ pair.1 ∷ []
 
+-- the reply of a call that hands over a pair for a key is the pair that was last handed over for it in some turns, or
+-- (0, 0)
+abbrev pub GivesBack : PairKey → List TurnTrace → ℕ × ℕ → CallMade → Type 0
+GivesBack key past pair made = made.reply ≡ Some (swap_reply (last_pair key past) pair)
+
 -- Of a world and a slot: any choices are made, and then the slot's process has a turn. If in this turn it makes a call
 -- that hands over a pair for a key, then the reply is the pair that it last handed over for that key in its present
 -- life, or (0, 0).
@@ -97,7 +102,7 @@ GivesBackTheLast w slot =
     (choices : List Choice) (time : ℕ) (told : TurnTrace) (made : CallMade) (key : PairKey) (pair : ℕ × ℕ) →
     labels (after_all w choices) (Run slot) ≡ turn_label slot time told ∷ [] →
     told.call ≡ Some made → handed_by key made ≡ Some pair →
-    made.reply ≡ Some (swap_reply (last_pair key (turns_since slot w choices [])) pair)
+    GivesBack key (turns_since slot w choices []) pair made
 
 -- so it is where the process had handed nothing yet
 abbrev pub SwapsGiveBackTheLast : Type 0

@@ -4,61 +4,89 @@
 use Rattle.std.proofs.Common.{◌≤◌}
 use Rattle.std.proofs.Common.{◌≡◌, ◌⊎◌, inl, inr, ◌<◌, ℕ, zero, suc, ◌+◌, ◌-◌, ◌^◌, List, [], ◌∷◌, length, None, Option}
 use Rattle.std.proofs.Common.{Some, Ok, Err, replicate, slice_index, true, false, sym, ap, subst}
-use Rattle.std.proofs.Common.{refl, arith}
+use Rattle.std.proofs.Common.{refl, arith, cond, is_some, nat_lt, unwrap_or}
 use Rattle.std.proofs.lemmas.Bool.{true≢false}
 use Rattle.std.specs.Option.{ForSome}
 use Rattle.tk_base.specs.declared.access.Access.TheVariants.{Fetch, Load, Store}
 use Rattle.tk_base.specs.declared.access.Rule.TheVariants.{NoRegion}
+use Rattle.tk_base.specs.Regs.{Registers}
 use Rattle.tk_base.specs.declared.access.TheConstants.{FLASH_START, RAM_START}
 use Rattle.tk_base.specs.declared.access.Width.TheVariants.{Word}
-use Rattle.tk_base.specs.declared.call.CallRule.TheVariants.{Break}
+use Rattle.tk_base.specs.declared.call.CallRule.{CallRule}
+use Rattle.tk_base.specs.declared.call.CallRule.TheVariants.{Break, NoRoom}
 use Rattle.tk_base.specs.declared.kinds.PairKind.TheVariants.{ReadOnly}
 use Rattle.tk_base.specs.declared.process.Choice.TheVariants.{Run, Pass}
 use Rattle.tk_base.specs.declared.process.Dev.{Dev}
 use Rattle.tk_base.specs.declared.process.Dev.TheVariants as dev
+use Rattle.tk_base.specs.declared.process.Verb.TheVariants.{Stop}
+use Rattle.tk_base.specs.declared.upcall.Wait.TheVariants.{For, Given}
 use Rattle.grant_values.specs.Drivers.{counts_of, drivers}
+use Rattle.grant_values.specs.Words.{AreReadBack, AreTheWholeOnes, TakeFourEach, words_of}
 use Rattle.grant_values.specs.declared.console.WaitingWrite.{WaitingWrite}
 use Rattle.grant_model.specs.Grants.{shape_of}
+use Rattle.script_text.specs.Settings.{Act}
 use Rattle.syscall_abi.specs.Call.{call_of, class_table}
-use Rattle.rv32_model.specs.Instructions.{decoding, instruction_table}
-use Rattle.rv32_model.specs.Laws.{IsDueOf}
+use Rattle.syscall_abi.specs.declared.form.CallForm.TheVariants.{Memop}
+use Rattle.rv32_model.specs.Instructions.{InstrRow, decoding, instruction_table, row_fits}
+use Rattle.rv32_model.specs.Laws.{ChangesNothingDenied, Denies, FitsOne, IsAligned, IsAllowed, IsDueOf, IsTheSameTurn}
+use Rattle.rv32_model.specs.Laws.{WritesByStores}
 use Rattle.rv32_model.specs.declared.instr.Instr.{Instr}
 use Rattle.rv32_model.specs.declared.instr.Instr.TheVariants.{Ecall}
-use Rattle.rv32_model.specs.UserTurn.{user_turn, on_word, executed, fetched, instr_of, denied_at}
+use Rattle.rv32_model.specs.UserTurn.{UserTurn, user_turn, on_word, executed, fetched, instr_of, denied_at, trapped}
 use Rattle.tbf_headers.specs.Meaning.{header_reading, meaning_of}
 use Rattle.tbf_headers.specs.Tlv.{tlv_places_from}
 use Rattle.process_model.specs.Own.{Own}
 use Rattle.process_model.specs.Handed.{handing, own_entering}
 use Rattle.process_model.specs.Instruction.{ram_after}
 use Rattle.process_model.specs.Permission.{denied}
+use Rattle.process_record.specs.Lines.{slot_named}
 use Rattle.process_record.specs.Parts.{cleared}
+use Rattle.process_record.specs.declared.emit.CallMade.{CallMade}
 use Rattle.partition_turns.specs.LanesView.{LanesView}
-use Rattle.partition_turns.specs.Laws.{AllIsDone, CanBeMadeIn, EndsInTime}
-use Rattle.partition_turns.specs.Windows.{AreAhead, device_in_window, device_is_ready, ready_time}
+use Rattle.partition_turns.specs.Laws.{AllIsDone, CanBeMadeIn, EndsInTime, IsTheSameChoice}
+use Rattle.partition_turns.specs.Turns.{FillWindow, TakeEachTick}
+use Rattle.partition_turns.specs.Windows.{AreAhead, device_in_window, device_is_ready, is_left, ready_time, slot_choice}
+use Rattle.driver_model.specs.Alarm as alarm
 use Rattle.driver_model.specs.Alarm.{alarm_driver}
-use Rattle.driver_model.specs.Answers.{FollowsAnswer}
+use Rattle.driver_model.specs.Answers.{DrawsTheNext, FollowsAnswer, TellsInput, TellsWord, TellsWrite}
 use Rattle.driver_model.specs.Commands.{BoardRequest, Commanded, QueueName, Writes, Reads, Randoms, Stores, Waits}
-use Rattle.driver_model.specs.Console.{console, console_writes}
+use Rattle.driver_model.specs.Console.{console, console_writes, taken}
 use Rattle.driver_model.specs.Drivers.{CommandContext}
 use Rattle.driver_model.specs.Laws.{IsAtMostOneMore}
 use Rattle.driver_model.specs.Lines.{AsksTheSame, FollowsCommand, has_waiting, waits_after, waits_once}
 use Rattle.driver_model.specs.Requests.{with_request}
-use Rattle.driver_model.specs.Steps.{silently}
+use Rattle.driver_model.specs.Random.{answered}
+use Rattle.driver_model.specs.Steps.{DriverStep, scheduling, silently}
 use Rattle.kernel_model.specs.Accesses.{DenialIsDue, IsPermitted}
-use Rattle.kernel_model.specs.Calls.{by_form, memop, memops, served}
-use Rattle.kernel_model.specs.Causes.{IsCause, IsDoneByAnswer, IsDoneByTurn}
+use Rattle.kernel_model.specs.Calls.{Served, by_form, failure_of, memop, memops, refused_with, served}
+use Rattle.kernel_model.specs.Causes.{ChangeHasACause, IsCause, IsDoneByAnswer, IsDoneByTurn}
+use Rattle.kernel_model.specs.Console.{ActsOnOne}
 use Rattle.kernel_model.specs.Filter.{IsFiltered}
-use Rattle.kernel_model.specs.Histories.{HandedNothing}
-use Rattle.kernel_model.specs.Laws.{ComesTo, KeepsLines, quiet}
-use Rattle.kernel_model.specs.Lives.{HasOrder}
+use Rattle.kernel_model.specs.Histories.{GivesBack, HandedNothing, PairKey}
+use Rattle.kernel_model.specs.Laws.{ActsAtCalls, ChangesByOne, ChangesLittleRefused, ComesTo, IsReadyBelowLimit}
+use Rattle.kernel_model.specs.Laws.{KeepsGrants, KeepsLines, LiesAhead, StaysUntold, quiet}
+use Rattle.kernel_model.specs.Lives.{DropsWhereFull, HasOrder, HaveAsMany, StaysButPressed}
 use Rattle.kernel_model.specs.Prints.{AreOfItsBuffer, CouldLoad}
 use Rattle.kernel_model.specs.Record.{Record, byte_at}
 use Rattle.kernel_model.specs.Refused.{LeavesRefused}
-use Rattle.kernel_model.specs.Turn.{Turn, TurnTrace, turned, untraced}
+use Rattle.kernel_model.specs.Replay.{HaveSameRecord, IsReplayOf, LeadTo}
+use Rattle.kernel_model.specs.Turn.{Turn, TurnTrace, Turned, turned, untraced}
+use Rattle.kernel_model.specs.Turn as turn
 use Rattle.kernel_model.specs.World.{Stepped, World, after, carried_out, may_be_made, stepped, turn_label}
 use Rattle.kernel_model.specs.Worked.{asks, board, standing, worked_settings}
 use Rattle.kernel_model.proofs.Classes.{memop_in}
-use Rattle.board_opening.specs.Certified.{CountsAre}
+use Rattle.kernel_laws.specs.Alarms.{StopsAtAlarm, WaitsForAlarm}
+use Rattle.kernel_laws.specs.Clock.{IsTheSameButForAlarms}
+use Rattle.kernel_laws.specs.Fairness.{HasTurnAmong}
+use Rattle.kernel_laws.specs.Ready.{DoesNothingUnready}
+use Rattle.kernel_laws.specs.Tables.{EachFitsItself, TakesAsItKeeps}
+use Rattle.kernel_laws.specs.Windows.{IsOfTheWindow}
+use Rattle.kernel_histories.specs.Waits.{IsAwaited, RestsWaiting}
+use Rattle.kernel_lives.specs.Requests.{BeginsByCommand}
+use Rattle.board_opening.specs.Alone.{BecomesAlone, IsFirstAlone, first_alone}
+use Rattle.board_opening.specs.Certified.{AreToldAndLeft, CountsAre, HasDropped, HasStored}
+use Rattle.board_report.specs.OwnWords.{AreToldApart}
+use Rattle.board_report.specs.Words.{call_rule_text}
 
 -- An application with the header of one, that stands at an `ecall`; its block has the byte 9 throughout.
 abbrev object : List ℕ
@@ -393,3 +421,439 @@ counts_so = record { time = refl; steps = refl; turns = refl }
 
 none_takes_two : CountsAre (Run 0 ∷ Run 0 ∷ []) (counted 3 2) → ⊥
 none_takes_two counts = let time = counts.time in omega (arith, time)
+
+-- The row of ECALL: a word fits one row of its table; a table that has the row twice.
+abbrev ecall_row : InstrRow
+ecall_row = record { mask = 2 ^ 32 - 1; value = 0x73; form = λ word. Ecall }
+
+fits_one : FitsOne (row_fits 0x73) (ecall_row ∷ [])
+fits_one = omega arith
+
+none_fits_two : FitsOne (row_fits 0x73) (ecall_row ∷ ecall_row ∷ []) → ⊥
+none_fits_two fits = omega (arith, fits)
+
+-- A process that may not access what lies below 8: a load there, which is denied; and one of a word at 10.
+abbrev denies_low : Denies
+denies_low access at width = if nat_lt at 8 then Some NoRegion else None
+
+allows_load : IsAllowed denies_low (record { access = Load; address = 8; width = Word })
+allows_load = refl
+
+none_allows_denied : IsAllowed denies_low (record { access = Load; address = 4; width = Word }) → ⊥
+none_allows_denied is = cc
+
+aligns_load : IsAligned (record { access = Load; address = 8; width = Word })
+aligns_load apart = refl
+
+none_unaligned : IsAligned (record { access = Load; address = 10; width = Word }) → ⊥
+none_unaligned is = let rest = is (λ same. cc) in omega (arith, rest)
+
+-- A fetch that is denied; a processor that goes on behind it all the same.
+abbrev unfetched : UserTurn
+unfetched = trapped (cleared 0) (denied_at Fetch 0 NoRegion)
+
+leaves_all : ChangesNothingDenied (cleared 0) (λ at. 0) unfetched (λ at. 0) (denied_at Fetch 0 NoRegion)
+leaves_all denied = (refl, refl, refl)
+
+none_goes_on :
+    ChangesNothingDenied (cleared 0) (λ at. 0) (record unfetched { regs = cleared 4 }) (λ at. 0)
+    (denied_at Fetch 0 NoRegion)
+    → ⊥
+none_goes_on changes = let pc = ap (λ (x : Registers). x.pc) (changes refl).0 in omega (arith, pc)
+
+-- A byte that stays where no store is listed; a processor that writes it without one.
+writes_none : WritesByStores [] (λ at. 9) (λ at. 9) 8
+writes_none none = refl
+
+none_writes_unlisted : WritesByStores [] (λ at. 9) (λ at. 7) 8 → ⊥
+none_writes_unlisted writes = let same = writes refl in omega (arith, same)
+
+-- One turn is the same as itself; a processor whose turns differ by what the process can't see.
+same_turn : IsTheSameTurn unfetched unfetched
+same_turn = refl
+
+none_sees_more : IsTheSameTurn unfetched (record unfetched { regs = cleared 4 }) → ⊥
+none_sees_more same = let pc = ap (λ (t : UserTurn). t.regs.pc) same in omega (arith, pc)
+
+-- A word in its bytes, the lowest first; one whose bytes stand in another order, or that takes three; and words that are
+-- more than the bytes have.
+reads_back : AreReadBack (5 ∷ []) (5 ∷ 0 ∷ 0 ∷ 0 ∷ [])
+unfolding words_of
+reads_back = refl
+
+none_reads_turned : AreReadBack (5 ∷ []) (0 ∷ 0 ∷ 0 ∷ 5 ∷ []) → ⊥
+unfolding words_of
+none_reads_turned back = let word = ap (λ words. slice_index words 0) back in omega (arith, word)
+
+takes_four : TakeFourEach (5 ∷ []) (5 ∷ 0 ∷ 0 ∷ 0 ∷ [])
+takes_four = refl
+
+none_takes_three : TakeFourEach (5 ∷ []) (5 ∷ 0 ∷ 0 ∷ []) → ⊥
+none_takes_three takes = omega (arith, takes)
+
+has_whole_ones : AreTheWholeOnes (5 ∷ []) (5 ∷ 0 ∷ 0 ∷ 0 ∷ 1 ∷ [])
+has_whole_ones = refl
+
+none_has_more : AreTheWholeOnes (5 ∷ 1 ∷ []) (5 ∷ 0 ∷ 0 ∷ 0 ∷ 1 ∷ []) → ⊥
+none_has_more are = omega (arith, are)
+
+-- A window of 4 ticks with 4 turns; one with 3. And a choice; another one.
+takes_each_tick : TakeEachTick 4 8 4
+takes_each_tick = refl
+
+none_skips_a_tick : TakeEachTick 4 8 3 → ⊥
+none_skips_a_tick takes = omega (arith, takes)
+
+fills_window : FillWindow 4 4
+fills_window = refl
+
+none_fills_with_three : FillWindow 4 3 → ⊥
+none_fills_with_three fills = omega (arith, fills)
+
+same_choice : IsTheSameChoice (Run 1) (Run 1)
+same_choice = refl
+
+none_chooses_by_others : IsTheSameChoice (Run 1) (Pass 1) → ⊥
+none_chooses_by_others same = cc
+
+-- A write of which the UART takes the bytes; a device that tells so, and forgets the request. Bytes that come in, where
+-- no read waits; a device that schedules an upcall then.
+tells_write : TellsWrite (asks_to_write application.own) false (taken (asks_to_write application.own))
+tells_write = refl
+
+none_takes_it_away : TellsWrite (asks_to_write application.own) false (silently application.own) → ⊥
+unfolding counts_of drivers shape_of
+none_takes_it_away tells =
+    true≢false (sym (ap (λ (s : DriverStep). has_waiting Writes s.own) tells))
+
+tells_input : TellsInput application.own (5 ∷ []) (silently application.own)
+unfolding counts_of drivers shape_of
+tells_input = refl
+
+none_tells_unasked :
+    TellsInput application.own (5 ∷ []) (scheduling console 2 (0 ∷ 1 ∷ 0 ∷ []) application.own) → ⊥
+unfolding counts_of drivers shape_of
+none_tells_unasked tells = let none = ap (λ (s : DriverStep). is_some s.schedules) tells in true≢false none
+
+-- So it is with a word where no request waits; and the word that is drawn is the next one.
+tells_word : TellsWord application.own None (silently application.own)
+unfolding counts_of drivers shape_of answered
+tells_word = refl
+
+none_tells_word : TellsWord application.own None (scheduling 0x40001 0 (0 ∷ 4 ∷ 0 ∷ []) application.own) → ⊥
+unfolding counts_of drivers shape_of answered
+none_tells_word tells = let none = ap (λ (s : DriverStep). is_some s.schedules) tells in true≢false none
+
+draws_next : DrawsTheNext (Some 5) (Some 5)
+draws_next = refl
+
+none_draws_another : DrawsTheNext (Some 5) (Some 6) → ⊥
+none_draws_another draws = cc
+
+-- which buttons a process knows to be pressed, and how many of its upcalls were dropped; the second word of a reply
+abbrev pressed_by : Option Record → ℕ
+pressed_by None = 0
+pressed_by (Some r) = r.pressed
+
+abbrev dropped_by : Option Record → ℕ
+dropped_by None = 0
+dropped_by (Some r) = r.own.inbox.dropped
+
+abbrev second_word : Option (List ℕ) → ℕ
+second_word None = 0
+second_word (Some words) = slice_index words 1
+
+-- The process with the button of number 0 known to be pressed.
+abbrev presses : Record
+presses = record application { pressed = 1 }
+
+-- A process to which nothing happens stays; a kernel in which it changes without an event.
+replays : IsReplayOf worked_settings [] (Some application) (Some application)
+replays = refl
+
+none_replays : IsReplayOf worked_settings [] (Some application) (Some presses) → ⊥
+none_replays is = let pressed = ap pressed_by is in omega (arith, pressed)
+
+changes_by_none : ChangesByOne worked_settings None (Some application) (Some application)
+changes_by_none = refl
+
+none_changes_untold : ChangesByOne worked_settings None (Some application) (Some presses) → ⊥
+none_changes_untold changes = let pressed = ap pressed_by changes in omega (arith, pressed)
+
+same_record : HaveSameRecord (Some application) (Some application)
+same_record = refl
+
+none_differs_by_others : HaveSameRecord (Some application) (Some presses) → ⊥
+none_differs_by_others same = let pressed = ap pressed_by same in omega (arith, pressed)
+
+-- No choices lead nowhere; a run that makes a step without one.
+leads_nowhere : LeadTo stopped [] stopped
+leads_nowhere = refl
+
+none_steps_unchosen : LeadTo stopped [] (counted 0 1) → ⊥
+none_steps_unchosen leads = let steps = ap (λ (w : World). w.clock.steps) leads in omega (arith, steps)
+
+-- A choice that is not ready; a kernel that tells of a turn then.
+stays_untold : StaysUntold stopped stopped []
+stays_untold = (refl, refl)
+
+none_tells_unready : StaysUntold stopped stopped (turn_label 0 0 commanded ∷ []) → ⊥
+none_tells_unready stays = let told = stays.1 in cc
+
+-- A turn that may be made; a kernel that chooses a slot without a process.
+ready_to_run : IsReadyBelowLimit stopped (Run 0)
+unfolding may_be_made
+ready_to_run below = refl
+
+none_runs_nobody : IsReadyBelowLimit stopped (Run 5) → ⊥
+unfolding may_be_made
+none_runs_nobody is = let ready = is (omega arith) in cc
+
+-- A time that lies ahead; a board that would let time pass to the present.
+lies_ahead : LiesAhead stopped (Some 5)
+lies_ahead = omega arith
+
+none_lies_at_once : LiesAhead stopped (Some 0) → ⊥
+none_lies_at_once lies = omega (arith, lies)
+
+-- As many processes as before; a kernel in which one comes up.
+as_many : HaveAsMany stopped (board 1 (presses ∷ []))
+as_many = refl
+
+none_comes_up : HaveAsMany stopped (board 1 (application ∷ application ∷ [])) → ⊥
+none_comes_up have = omega (arith, have)
+
+-- No upcall is dropped where none waits; a kernel that drops one.
+drops_none : DropsWhereFull application presses
+drops_none fewer = refl
+
+none_drops_early : DropsWhereFull application (with_own (drops 1)) → ⊥
+none_drops_early where_full = let dropped = where_full (omega arith) in omega (arith, dropped)
+
+-- A process that has ended learns which buttons are pressed; a kernel that counts a dropped upcall for it.
+stays_but_pressed : StaysButPressed application (Some presses)
+stays_but_pressed = (1, refl)
+
+none_stays_with_more : StaysButPressed application (Some (with_own (drops 1))) → ⊥
+none_stays_with_more stays = let dropped = ap dropped_by stays.1 in omega (arith, dropped)
+
+-- A call that is refused for a bad break; a kernel that enters the alarm on the way.
+abbrev refuses : Served
+refuses = refused_with application Break (failure_of (Memop 1 0) Break)
+
+changes_little : ChangesLittleRefused application (Memop 1 0) Break refuses
+changes_little shown = refl
+
+none_enters_refused :
+    ChangesLittleRefused application (Memop 1 0) Break
+    (record refuses { after = record refuses.after { own = own_entering alarm_driver application.own } })
+    → ⊥
+unfolding counts_of drivers shape_of
+none_enters_refused changes =
+    let grants = ap (λ (s : Served). length s.after.own.grants) (changes refl) in omega (arith, grants)
+
+-- A turn without a call; a kernel that enters the alarm in one, or has the process wait.
+keeps_grants : KeepsGrants application (turn.idle application)
+keeps_grants call denial = (refl, refl)
+
+none_enters_uncalled :
+    KeepsGrants application (record (turn.idle application) { after = with_own (own_entering alarm_driver) }) → ⊥
+unfolding counts_of drivers shape_of
+none_enters_uncalled keeps = let grants = ap length (keeps refl refl).0 in omega (arith, grants)
+
+acts_at_none : ActsAtCalls (turn.idle application)
+acts_at_none call denial = refl
+
+none_acts_uncalled : ActsAtCalls (record (turn.idle application) { acts = Waits Writes ∷ [] }) → ⊥
+none_acts_uncalled acts = let none = acts refl refl in cc
+
+-- An operator's act on a process that is not there; a kernel in which it takes time.
+abbrev operated_on : World
+operated_on = record (board 1 []) {
+  devices = record (board 1 []).devices {
+    arrivals = record { time = 0; kind = Act Stop (45 ∷ []) } ∷ [];
+  };
+}
+
+abbrev after_act : ℕ → World
+after_act time = record (board 1 []) { clock = record { time = time; steps = 1 } }
+
+acts_on_nobody : ActsOnOne operated_on (after_act 0) [] Stop (45 ∷ [])
+unfolding slot_named
+acts_on_nobody = record { world = refl; tells = refl }
+
+none_acts_in_time : ActsOnOne operated_on (after_act 1) [] Stop (45 ∷ []) → ⊥
+unfolding slot_named
+none_acts_in_time acts = let time = ap (λ (w : World). w.clock.time) acts.world in omega (arith, time)
+
+-- The first swap gives back (0, 0); a kernel that gives back what it hands.
+abbrev swapped : List ℕ → CallMade
+swapped reply = record { class = 4; args = 1 ∷ 1 ∷ 256 ∷ 8 ∷ []; reply = Some reply; rule = None }
+
+abbrev console_buffer : PairKey
+console_buffer = record { kind = ReadOnly; driver = 1; number = 1 }
+
+gives_back : GivesBack console_buffer [] (256, 8) (swapped (130 ∷ 0 ∷ 0 ∷ 8 ∷ []))
+gives_back = refl
+
+none_gives_back_itself : GivesBack console_buffer [] (256, 8) (swapped (130 ∷ 256 ∷ 8 ∷ 8 ∷ [])) → ⊥
+none_gives_back_itself gives = let first = ap second_word gives in omega (arith, first)
+
+-- Time passes; a kernel in which a process changes meanwhile.
+none_changes_in_a_pass : ChangeHasACause stopped (Pass 0) 0 application presses → ⊥
+unfolding stepped carried_out may_be_made
+none_changes_in_a_pass change =
+    let pressed = ap (λ (r : Record). r.pressed) (change.others refl) in omega (arith, pressed)
+
+-- A driver that has grants takes commands, and one that is none takes none; one that has grants and takes none.
+takes_as_it_keeps : TakesAsItKeeps console true
+unfolding counts_of drivers
+takes_as_it_keeps = refl
+
+none_keeps_and_takes_none : TakesAsItKeeps console false → ⊥
+unfolding counts_of drivers
+none_keeps_and_takes_none takes = true≢false takes
+
+-- A table whose row fits its word; one with a row of which no word has the bits.
+fits_itself : EachFitsItself (ecall_row ∷ [])
+fits_itself = refl
+
+none_fits_nothing : EachFitsItself (record ecall_row { mask = 0 } ∷ []) → ⊥
+none_fits_nothing fits = let rows = ap length fits in omega (arith, rows)
+
+-- Windows of 4 ticks, and nothing to do: no choice; a board that still lets time pass.
+abbrev windowed : World
+windowed = record (board 1 []) { pace = record { slice = 1; window = 4 } }
+
+of_window : IsOfTheWindow windowed None
+unfolding slot_choice is_left device_in_window
+of_window = refl
+
+none_beside_the_window : IsOfTheWindow windowed (Some (Pass 1)) → ⊥
+unfolding slot_choice is_left device_in_window
+none_beside_the_window is = let some = ap is_some is in true≢false some
+
+-- A process that is held; a kernel that has it ask for something all the same.
+abbrev holds_still : Record
+holds_still = record application { process = record application.process { held = true } }
+
+does_nothing : DoesNothingUnready holds_still (turn.idle holds_still)
+does_nothing unready = refl
+
+none_does_something :
+    DoesNothingUnready holds_still (record (turn.idle holds_still) { acts = Waits Writes ∷ [] }) → ⊥
+none_does_something does = let acts = ap (λ (t : Turned). length t.acts) (does refl) in omega (arith, acts)
+
+-- A turn without a command to the alarm; a kernel in which it comes to another thing at another time.
+same_at_any_time : IsTheSameButForAlarms (turn.idle application) (turn.idle application)
+same_at_any_time apart = refl
+
+none_differs_in_time : IsTheSameButForAlarms (turn.idle application) (turn.idle presses) → ⊥
+none_differs_in_time same =
+    let pressed = ap (λ (t : Turned). t.after.pressed) (same refl) in omega (arith, pressed)
+
+-- An alarm that is due in 5 ticks, or at once; a board that gives a turn first, or lets 6 ticks pass.
+abbrev armed_for : ℕ → Record
+armed_for delta =
+    with_own (λ own. alarm.with_alarm (Some (record { reference = 0; delta = delta })) (own_entering alarm_driver own))
+
+waits_for_none : WaitsForAlarm (board 1 (armed_for 5 ∷ [])) (Run 0) 0 (armed_for 5)
+unfolding counts_of drivers shape_of
+waits_for_none time there let_so = refl
+
+none_runs_before : WaitsForAlarm (board 1 (armed_for 0 ∷ [])) (Run 0) 0 (armed_for 0) → ⊥
+unfolding counts_of drivers shape_of
+none_runs_before waits = let none = ap is_some (waits refl refl refl) in true≢false none
+
+stops_at_alarm : StopsAtAlarm (board 1 (armed_for 5 ∷ [])) 5 0 (armed_for 5)
+unfolding counts_of drivers shape_of
+stops_at_alarm there let_so = omega arith
+
+none_passes_alarm : StopsAtAlarm (board 1 (armed_for 5 ∷ [])) 6 0 (armed_for 5) → ⊥
+unfolding counts_of drivers shape_of
+none_passes_alarm stops = let late = stops refl refl in omega (arith, late)
+
+-- A round robin that gives slot 0 its turn; one that never gives any.
+has_turn : HasTurnAmong (λ v. Some (Run 0)) 0 (stopped ∷ [])
+has_turn = (0, stopped, omega arith, refl, refl)
+
+none_has_no_turn : HasTurnAmong (λ v. None) 0 (stopped ∷ []) → ⊥
+none_has_no_turn has = let none = has.4 in cc
+
+-- A request that begins to wait by a command to the console; a kernel in which one begins by itself.
+begins_by_command :
+    BeginsByCommand Writes 0 stopped (board 1 (with_own asks_to_write ∷ [])) (turn_label 0 0 commanded ∷ [])
+begins_by_command begins = refl
+
+none_begins_alone : BeginsByCommand Writes 0 stopped (board 1 (with_own asks_to_write ∷ [])) [] → ⊥
+unfolding counts_of drivers shape_of
+none_begins_alone begins = true≢false (sym (begins refl))
+
+-- Two words of which one was told; a board that draws it twice.
+told_and_left : AreToldAndLeft (1 ∷ 2 ∷ []) (1 ∷ []) (2 ∷ [])
+told_and_left = refl
+
+none_draws_twice : AreToldAndLeft (1 ∷ 2 ∷ []) (1 ∷ []) (1 ∷ 2 ∷ []) → ⊥
+none_draws_twice are = let count = ap length are in omega (arith, count)
+
+-- No upcall was dropped, and it is counted so; a kernel that counts one.
+has_dropped : HasDropped 0 application
+has_dropped = refl
+
+none_counts_one : HasDropped 0 (with_own (drops 1)) → ⊥
+none_counts_one has = omega (arith, has)
+
+-- Storage of two bytes, of which the second was written; a kernel that has lost it.
+abbrev stores : List ℕ → Record
+stores bytes = record application { storage = bytes }
+
+has_stored : HasStored 2 ((1, 7 ∷ []) ∷ []) (stores (255 ∷ 7 ∷ []))
+has_stored = refl
+
+none_loses_a_byte : HasStored 2 ((1, 7 ∷ []) ∷ []) (stores (255 ∷ 255 ∷ [])) → ⊥
+none_loses_a_byte has = let byte = ap (λ bytes. slice_index bytes 1) has in omega (arith, byte)
+
+-- Bytes that are no object open no process; a kernel that opens one.
+abbrev without_object : Record
+without_object = standing [] 0 (cleared 0)
+
+becomes_none : BecomesAlone worked_settings without_object [] None
+unfolding header_reading
+becomes_none = refl
+
+none_opens_without_object : BecomesAlone worked_settings without_object [] (Some application) → ⊥
+unfolding header_reading
+none_opens_without_object becomes = true≢false (ap is_some becomes)
+
+-- The first record of the object where it stands; a kernel that opens it with a button pressed.
+abbrev opened_alone : Record
+opened_alone = unwrap_or (first_alone 0 object FLASH_START RAM_START) application
+
+opens_alone : IsFirstAlone 0 opened_alone
+unfolding header_reading meaning_of tlv_places_from
+opens_alone = refl
+
+none_opens_pressed : IsFirstAlone 0 (record opened_alone { pressed = 1 }) → ⊥
+unfolding header_reading meaning_of tlv_places_from
+none_opens_pressed is = let pressed = ap pressed_by is in omega (arith, pressed)
+
+-- One waits still for the upcall of which none was scheduled; a kernel that gives it one.
+is_awaited : IsAwaited 0 0 [] (Some (For 0 0))
+is_awaited = refl
+
+none_is_given : IsAwaited 0 0 [] (Some (Given (5 ∷ []))) → ⊥
+none_is_given is = cc
+
+-- It has no turn meanwhile; a kernel that gives it one.
+rests_waiting : RestsWaiting 0 0 (Some (For 0 0)) []
+rests_waiting waits = refl
+
+none_runs_waiting : RestsWaiting 0 0 (Some (For 0 0)) (commanded ∷ []) → ⊥
+none_runs_waiting rests = let none = rests refl in cc
+
+-- Two rules with words of their own; a trace that has one word for all.
+told_apart : AreToldApart call_rule_text Break Break
+told_apart same = refl
+
+none_told_alike : AreToldApart (λ (rule : CallRule). []) Break NoRoom → ⊥
+none_told_alike apart = let same = apart refl in cc
