@@ -77,6 +77,17 @@ impl Pmp {
         }
     }
 
+    /// The same registers again.
+    pub fn copied(&self) -> Pmp
+        ensures { result ≡ self.now }
+    {
+        Pmp {
+            entries: self.entries,
+            executable: self.executable.copied(),
+            writable: self.writable.copied(),
+        }
+    }
+
     const CLEARED: Entry = Entry {
         mode: Mode::Off,
         read: false,
@@ -379,6 +390,16 @@ impl Window {
         Window {
             from,
             length: u64::from(to - from),
+        }
+    }
+
+    /// The same addresses again.
+    fn copied(&self) -> Window
+        ensures { result ≡ self.now }
+    {
+        Window {
+            from: self.from,
+            length: self.length,
         }
     }
 

@@ -49,6 +49,17 @@ impl Inbox {
         }
     }
 
+    /// The same again.
+    pub fn copied(&self) -> Inbox
+        ensures { result ≡ self.now }
+    {
+        Inbox {
+            pending: self.pending.copied(),
+            dropped: self.dropped,
+            wait: self.wait,
+        }
+    }
+
     /// Schedules an upcall, and says whether the process gets it. One that the process waits for
     /// alone gives it its arguments; else the null upcall is not scheduled, and not counted, and
     /// one for which there is no room is dropped and counted.

@@ -35,6 +35,17 @@ impl Queue {
         }
     }
 
+    /// The same upcalls again.
+    pub fn copied(&self) -> Queue
+        ensures { result ≡ self.now }
+    {
+        let mut pending = ArrayVec::new();
+        let Ok(()) = pending.try_extend_from_slice(&self.pending) else {
+            unreachable!()
+        };
+        Queue { pending }
+    }
+
     /// Appends an upcall and says whether it did: false, and nothing changes, exactly where
     /// [`PENDING_LIMIT`] are pending.
     pub fn append(&mut self, upcall: Upcall) -> bool
