@@ -72,6 +72,15 @@ impl Flash {
         Ok(Flash { bytes, entries })
     }
 
+    /// The same flash again, with the instructions that are known. The one error is want of memory.
+    pub fn copied(&self, alloc: Global) -> Result<Flash, NoMemory>
+        ensures { IfOk result (λ flash. flash ≡ self.now) }
+    {
+        let bytes = self.bytes.as_slice().to_vec(alloc)?;
+        let entries = self.entries.as_slice().to_vec(alloc)?;
+        Ok(Flash { bytes, entries })
+    }
+
     /// Decodes the instructions between two addresses, so that they are known from then on.
     pub fn decode(&mut self, from: Addr, to: Addr)
         ensures { self.new ≡ self.old }

@@ -44,6 +44,15 @@ impl Memory {
         Ok(Memory { flash, ram })
     }
 
+    /// The same memory again. The one error is want of memory.
+    pub fn copied(&self, alloc: Global) -> Result<Memory, NoMemory>
+        ensures { IfOk result (λ memory. memory ≡ self.now) }
+    {
+        let ram = self.ram.as_slice().to_vec(alloc)?;
+        let flash = self.flash.copied(alloc)?;
+        Ok(Memory { flash, ram })
+    }
+
     /// Decodes the instructions of flash between two addresses, so that they need not be decoded when they are
     /// executed.
     pub fn decode(&mut self, from: Addr, to: Addr)
