@@ -62,4 +62,19 @@ impl Seat {
             has_permissions: has_permissions(flash, &footprint.object),
         }
     }
+
+    /// The same again.
+    pub fn copied(&self) -> Seat
+        ensures { result ≡ self.now }
+    {
+        Seat {
+            object: self.object,
+            layout: self.layout,
+            inbox: self.inbox.copied(),
+            life: self.life,
+            lives: self.lives,
+            decoded: self.decoded,
+            has_permissions: self.has_permissions,
+        }
+    }
 }
