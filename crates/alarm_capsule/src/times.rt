@@ -150,6 +150,17 @@ impl AlarmTimes {
         }
     }
 
+    /// The same times again.
+    pub fn copied(&self) -> AlarmTimes
+        ensures { result ≡ self.now }
+    {
+        AlarmTimes {
+            times: self.times,
+            nearest: self.nearest,
+            first: self.first,
+        }
+    }
+
     /// Looks for the time of the alarm of the process in a slot again, at a time at which the clock
     /// shows `now`. It is asked for after each step in which that process may have armed or stopped
     /// its alarm, ended or started again. It asks that the times that are kept tell of all others.
