@@ -51,6 +51,19 @@ impl Model for Home {
     ghost invariant = { IsHome };
 }
 
+/// The same seats again.
+fn copied_seats(alloc: Global, seats: &[Seat]) -> Result<Vec<Seat>, NoMemory>
+    ensures { IfOk result (λ copies. copies.items ≡ seats.now) }
+{
+    let mut copies = Vec::new(alloc);
+    for seat in seats {
+        let Ok(()) = copies.push(seat.copied()) else {
+            return Err(NoMemory);
+        };
+    }
+    Ok(copies)
+}
+
 impl Home {
     /// Memory with these bytes in flash, and so many bytes of RAM, in which each process has its
     /// block, slot 0 first. All blocks are zero, and each process lives its first life and has no
@@ -76,6 +89,15 @@ impl Home {
                 return Err(NoMemory);
             };
         }
+        Ok(Home { memory, seats })
+    }
+
+    /// The same memory of the same processes again. The one error is want of memory.
+    pub fn copied(&self, alloc: Global) -> Result<Home, NoMemory>
+        ensures { IfOk result (λ home. home ≡ self.now) }
+    {
+        let memory = self.memory.copied(alloc)?;
+        let seats = copied_seats(alloc, &self.seats)?;
         Ok(Home { memory, seats })
     }
 
