@@ -29,6 +29,16 @@ impl ActivePmp {
         }
     }
 
+    /// The same registers again, set for the same slot.
+    pub fn copied(&self) -> ActivePmp
+        ensures { result ≡ self.now }
+    {
+        ActivePmp {
+            pmp: self.pmp.copied(),
+            slot: self.slot,
+        }
+    }
+
     /// Sets the registers for the process in a slot, where they are set for another one or for
     /// none, and has its instructions decoded, if they were not yet.
     // Inlined: most turns are those of the slot that had the last one.

@@ -61,6 +61,16 @@ impl ReadySlots {
         }
     }
 
+    /// The same again.
+    pub fn copied(&self) -> ReadySlots
+        ensures { result ≡ self.now }
+    {
+        ReadySlots {
+            ready: self.ready,
+            count: self.count,
+        }
+    }
+
     /// Whether the process in a slot can have a turn.
     #[inline(always)]
     pub fn has(&self, slot: Slot) -> bool
