@@ -1,7 +1,7 @@
 -- What is still to come in: bytes on the serial line, changes of buttons, and acts of an operator. Their times are this
 -- board's own.
-use Rattle.std.specs.Prelude.{ℕ, nat_le, Bool, true, false, not, if◌then◌else◌, List, [], ◌∷◌, Option, None, Some}
-use Rattle.std.specs.Prelude.{map, option_and_then}
+use Rattle.std.specs.Prelude.{ℕ, nat_le, nat_lt, Bool, true, false, not, if◌then◌else◌, List, [], ◌∷◌}
+use Rattle.std.specs.Prelude.{Option, None, Some, map, option_and_then}
 use Rattle.tk_base.specs.Bits.{has_bit, with_bit}
 use Rattle.tk_base.specs.declared.process.Verb.{Verb}
 use Rattle.script_text.specs.Settings.{ScriptEvent, EventKind, Input, Press, Release, Act}
@@ -17,6 +17,15 @@ first_arrival_time (event ∷ rest) = Some event.time
 abbrev pub is_time : ℕ → List ScriptEvent → Bool
 is_time time [] = false
 is_time time (event ∷ rest) = nat_le event.time time
+
+-- an event among others: behind those of its time, and before later ones
+abbrev pub inserted : ScriptEvent → List ScriptEvent → List ScriptEvent
+inserted e [] = e ∷ []
+inserted e (x ∷ xs) = if nat_le x.time e.time then x ∷ inserted e xs else e ∷ x ∷ xs
+
+-- whether an event comes in later than a time
+abbrev pub is_later : ℕ → ScriptEvent → Bool
+is_later time event = nat_lt time event.time
 
 -- what an event tells of a button: which one, and whether it is pressed; nothing where bytes come in, or an operator
 -- acts

@@ -1,5 +1,6 @@
 //! What is still to come in.
-ghost use Rattle.std.specs.Prelude.{◌≡◌, ◌<◌, ◌^◌, drop, length, option_map, IfSome};
+ghost use Rattle.std.specs.Prelude.{◌≡◌, ◌<◌, ◌≤◌, ◌^◌, drop, length, option_map, IfOk, IfSome, OnErr, OnOk};
+ghost use Rattle.std.specs.List.{position, position_or_len};
 ghost use Rattle.script_text.specs.Kinds.{kind_of};
 ghost use Rattle.script_text.specs.Settings.{IsKind};
 ghost use Rattle.tk_base.specs.declared.limits.TheConstants.{BUTTON_LIMIT};
@@ -7,15 +8,17 @@ ghost use Rattle.board_devices.specs.Arriving.{first_arrival_time, is_time, chan
 ghost use Rattle.board_devices.specs.Parts.{if_differs};
 ghost use Rattle.board_devices.specs.Arriving.{lines_after, pressed_after, with_first_arrived, pressed_after_first};
 ghost use Rattle.board_devices.specs.Arriving.{change_by_first};
-ghost use Rattle.board_devices.specs.Arriving.{first_act, act_of, act_told};
+ghost use Rattle.board_devices.specs.Arriving.{first_act, act_of, act_told, inserted, is_later};
 ghost use Rattle.board_devices.specs.Buttons.{told_by};
 
 use crate::buttons::{Buttons, Edge};
 use crate::lanes::Uarts;
 use arrayvec::ArrayVec;
 use script_text::{EventKind, EventList, TimedEvent};
+use std::alloc::Global;
 use std::marker::Model;
 use tk_base::{NAME_LIMIT, Verb};
+use tk_outside::NoMemory;
 
 /// What an operator asks for: an act on the process of a name.
 #[derive(Drop)]
@@ -83,15 +86,68 @@ fn happen(kind: &EventKind, uarts: &mut Uarts, buttons: &mut Buttons) -> Option<
     }
 }
 
-/// The same name again.
-fn copied(name: &ArrayVec<u8, NAME_LIMIT>) -> ArrayVec<u8, NAME_LIMIT>
-    ensures { result.items ≡ name.now.items }
+/// The same bytes again.
+fn copied<const N: usize>(bytes: &ArrayVec<u8, N>) -> ArrayVec<u8, N>
+    ensures { result.items ≡ bytes.now.items }
 {
     let mut copy = ArrayVec::new();
-    let Ok(()) = copy.try_extend_from_slice(name) else {
+    let Ok(()) = copy.try_extend_from_slice(bytes) else {
         unreachable!()
     };
     copy
+}
+
+/// The same kind again.
+fn same_kind(kind: &EventKind) -> EventKind
+    ensures { kind_of result ≡ kind_of kind.now }
+{
+    match kind {
+        EventKind::Input(bytes) => EventKind::Input(copied(bytes)),
+        EventKind::Press(button) => EventKind::Press(*button),
+        EventKind::Release(button) => EventKind::Release(*button),
+        EventKind::Act(verb, name) => EventKind::Act(*verb, copied(name)),
+    }
+}
+
+/// The same event again.
+fn same_event(event: &TimedEvent) -> TimedEvent
+    ensures { result ≡ event.now }
+{
+    TimedEvent {
+        time: event.time,
+        kind: same_kind(&event.kind),
+    }
+}
+
+/// The same events again. The one error is want of memory.
+fn same_events(alloc: Global, events: &[TimedEvent]) -> Result<Vec<TimedEvent>, NoMemory>
+    ensures { IfOk result (λ copies. copies.items ≡ events.now) }
+{
+    let mut copies = Vec::new(alloc);
+    for event in events {
+        let Ok(()) = copies.push(same_event(event)) else {
+            return Err(NoMemory);
+        };
+    }
+    Ok(copies)
+}
+
+/// The place of the first of some events that comes in later than a time. None where none does.
+fn first_after(events: &[TimedEvent], time: u32) -> Option<usize>
+    ensures { result ≡ position (is_later time) events.now }
+{
+    events.iter().position(|event| event.time > time)
+}
+
+/// The same, or the place behind all of them where none does.
+fn place_after(events: &[TimedEvent], time: u32) -> usize
+    ensures place { result ≡ position_or_len (is_later time) events.now }
+    ensures within { result ≤ length events.now }
+{
+    match first_after(events, time) {
+        Some(place) => place,
+        None => events.len(),
+    }
 }
 
 /// What an operator asks for by an event of a kind. None where it is no act.
@@ -115,6 +171,33 @@ impl Arrivals {
         Arrivals {
             events: events.into_vec(),
             come: 0,
+        }
+    }
+
+    /// The same again. The one error is want of memory.
+    pub fn copied(&self, alloc: Global) -> Result<Arrivals, NoMemory>
+        ensures { IfOk result (λ it. it ≡ self.now) }
+    {
+        let events = same_events(alloc, &self.events)?;
+        Ok(Arrivals {
+            events,
+            come: self.come,
+        })
+    }
+
+    /// An event is still to come in besides: behind those of its time, and before later ones. The
+    /// one error is want of memory; then nothing changes. It asks that the event is of a kind that
+    /// some board has.
+    pub fn expect(&mut self, event: TimedEvent) -> Result<(), NoMemory>
+        requires { IsKind BUTTON_LIMIT event.kind }
+        ensures comes { OnOk result (self.new ≡ inserted event self.old) }
+        ensures unchanged { OnErr result (self.new ≡ self.old) }
+    {
+        let left = self.events.split_at(self.come).1;
+        let place = self.come + place_after(left, event.time);
+        match self.events.insert(place, event) {
+            Ok(()) => Ok(()),
+            Err(_) => Err(NoMemory),
         }
     }
 

@@ -45,6 +45,16 @@ impl Buttons {
         Buttons { count, pressed: 0 }
     }
 
+    /// The same again.
+    pub fn copied(&self) -> Buttons
+        ensures { result ≡ self.now }
+    {
+        Buttons {
+            count: self.count,
+            pressed: self.pressed,
+        }
+    }
+
     /// How many buttons there are.
     pub fn count(&self) -> u32
         ensures number { result ≡ self.now.count }

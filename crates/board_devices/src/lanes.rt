@@ -4,7 +4,7 @@ ghost use Rattle.std.specs.Borrow.{Lends, sem};
 ghost use Rattle.board_devices.specs.SerialLine.{line_at, with_input};
 
 use crate::uart::Uart;
-use crate::words::Words;
+use crate::words::{Words, same_words};
 use std::alloc::Global;
 use std::marker::Model;
 use tk_base::WordList;
@@ -25,6 +25,20 @@ impl Model for Uarts {
     ghost view = { λ u. u.lanes.items };
 }
 
+/// The same UARTs again. The one error is want of memory.
+fn same_uarts(alloc: Global, uarts: &[Uart]) -> Result<Vec<Uart>, NoMemory>
+    ensures { IfOk result (λ copies. copies.items ≡ uarts.now) }
+{
+    let mut copies = Vec::new(alloc);
+    for uart in uarts {
+        let copy = uart.copied(alloc)?;
+        let Ok(()) = copies.push(copy) else {
+            return Err(NoMemory);
+        };
+    }
+    Ok(copies)
+}
+
 impl Uarts {
     ghost use Rattle.board_devices.specs.contracts.lanes.Uarts.{the_row};
     ghost use Rattle.board_devices.specs.contracts.uart.Uart.{the_row as uart};
@@ -41,6 +55,14 @@ impl Uarts {
                 return Err(NoMemory);
             };
         }
+        Ok(Uarts { lanes })
+    }
+
+    /// The same again. The one error is want of memory.
+    pub fn copied(&self, alloc: Global) -> Result<Uarts, NoMemory>
+        ensures { IfOk result (λ it. it ≡ self.now) }
+    {
+        let lanes = same_uarts(alloc, &self.lanes)?;
         Ok(Uarts { lanes })
     }
 
@@ -104,15 +126,18 @@ impl Model for WordLanes {
     ghost view = { λ w. w.lanes.items };
 }
 
-/// The same words again.
-fn same_words(alloc: Global, words: &WordList) -> Result<WordList, NoMemory>
-    ensures { IfOk result (λ copy. copy ≡ words.now) }
+/// The same words of each lane again. The one error is want of memory.
+fn same_lanes(alloc: Global, lanes: &[Words]) -> Result<Vec<Words>, NoMemory>
+    ensures { IfOk result (λ copies. copies.items ≡ lanes.now) }
 {
-    let mut copy = Vec::new(alloc);
-    let Ok(()) = copy.extend_from_slice(words.as_slice()) else {
-        return Err(NoMemory);
-    };
-    Ok(WordList::new(copy))
+    let mut copies = Vec::new(alloc);
+    for words in lanes {
+        let copy = words.copied(alloc)?;
+        let Ok(()) = copies.push(copy) else {
+            return Err(NoMemory);
+        };
+    }
+    Ok(copies)
 }
 
 impl WordLanes {
@@ -130,6 +155,14 @@ impl WordLanes {
                 return Err(NoMemory);
             };
         }
+        Ok(WordLanes { lanes })
+    }
+
+    /// The same again. The one error is want of memory.
+    pub fn copied(&self, alloc: Global) -> Result<WordLanes, NoMemory>
+        ensures { IfOk result (λ it. it ≡ self.now) }
+    {
+        let lanes = same_lanes(alloc, &self.lanes)?;
         Ok(WordLanes { lanes })
     }
 

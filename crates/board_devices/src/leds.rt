@@ -34,6 +34,17 @@ impl Leds {
         Leds { lit }
     }
 
+    /// The same again.
+    pub fn copied(&self) -> Leds
+        ensures { result ≡ self.now }
+    {
+        let mut lit = ArrayVec::new();
+        let Ok(()) = lit.try_extend_from_slice(&self.lit) else {
+            unreachable!()
+        };
+        Leds { lit }
+    }
+
     /// How many LEDs there are.
     pub fn len(&self) -> u32
         ensures number { result ≡ length self.now }

@@ -34,6 +34,17 @@ impl Store {
         Ok(Store { bytes })
     }
 
+    /// The same again. The one error is want of memory.
+    fn copied(&self, alloc: Global) -> Result<Store, NoMemory>
+        ensures { IfOk result (λ it. it ≡ self.now) }
+    {
+        let mut bytes = Vec::new(alloc);
+        let Ok(()) = bytes.extend_from_slice(&self.bytes) else {
+            return Err(NoMemory);
+        };
+        Ok(Store { bytes })
+    }
+
     /// All bytes.
     fn all(&self) -> &[u8]
         ensures { result.now ≡ self.now }
@@ -108,6 +119,42 @@ fn none_served(alloc: Global, lanes: usize) -> Result<Vec<u64>, AllocError>
     vec![in alloc; 0; lanes]
 }
 
+/// The storage of each slot again. The one error is want of memory.
+fn same_slots(alloc: Global, slots: &[Store]) -> Result<Vec<Store>, NoMemory>
+    ensures { IfOk result (λ copies. copies.items ≡ slots.now) }
+{
+    let mut copies = Vec::new(alloc);
+    for store in slots {
+        let copy = store.copied(alloc)?;
+        let Ok(()) = copies.push(copy) else {
+            return Err(NoMemory);
+        };
+    }
+    Ok(copies)
+}
+
+/// The same counts again. The one error is want of memory.
+fn same_counts(alloc: Global, counts: &[u64]) -> Result<Vec<u64>, NoMemory>
+    ensures { IfOk result (λ copy. copy.items ≡ counts.now) }
+{
+    let mut copy = Vec::new(alloc);
+    let Ok(()) = copy.extend_from_slice(counts) else {
+        return Err(NoMemory);
+    };
+    Ok(copy)
+}
+
+/// The same numbers again.
+fn same_faults(faults: &ArrayVec<u32, FAULT_LIMIT>) -> ArrayVec<u32, FAULT_LIMIT>
+    ensures { result.items ≡ faults.now.items }
+{
+    let mut copy = ArrayVec::new();
+    let Ok(()) = copy.try_extend_from_slice(faults) else {
+        unreachable!()
+    };
+    copy
+}
+
 impl Stores {
     ghost use Rattle.tk_outside.specs.Count.{counted};
     ghost use Rattle.board_devices.specs.Storage.{AreSized, fresh_storage, bytes_from, slot_bytes, with_slot_bytes};
@@ -137,6 +184,20 @@ impl Stores {
             size,
             served,
             faults,
+        })
+    }
+
+    /// The same again. The one error is want of memory.
+    pub fn copied(&self, alloc: Global) -> Result<Stores, NoMemory>
+        ensures { IfOk result (λ it. it ≡ self.now) }
+    {
+        let slots = same_slots(alloc, &self.slots)?;
+        let served = same_counts(alloc, &self.served)?;
+        Ok(Stores {
+            slots,
+            size: self.size,
+            served,
+            faults: same_faults(&self.faults),
         })
     }
 

@@ -48,6 +48,16 @@ impl Uart {
         }
     }
 
+    /// The same again. The one error is want of memory.
+    pub fn copied(&self, alloc: Global) -> Result<Uart, NoMemory>
+        ensures { IfOk result (λ it. it ≡ self.now) }
+    {
+        let mut uart = Uart::new(alloc, self.ticks)?;
+        uart.push(&self.peek());
+        uart.set_free(self.free);
+        Ok(uart)
+    }
+
     /// How many ticks it takes to send a byte.
     pub fn ticks(&self) -> u32
         ensures { result ≡ self.now.ticks }

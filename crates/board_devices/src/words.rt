@@ -1,8 +1,10 @@
 //! The source of random words.
-ghost use Rattle.std.specs.Prelude.{◌≡◌, ◌<◌, ◌∷◌, length, slice_get};
+ghost use Rattle.std.specs.Prelude.{◌≡◌, ◌<◌, ◌∷◌, IfOk, length, slice_get};
 
+use std::alloc::Global;
 use std::marker::Model;
 use tk_base::WordList;
+use tk_outside::NoMemory;
 
 /// The random words that are left. Contracts see the list of them.
 #[derive(Drop)]
@@ -21,12 +23,34 @@ impl Model for Words {
     ghost invariant = { λ w. w.drawn ≤ length w.words };
 }
 
+/// The same list again. The one error is want of memory.
+pub(crate) fn same_words(alloc: Global, words: &WordList) -> Result<WordList, NoMemory>
+    ensures { IfOk result (λ copy. copy ≡ words.now) }
+{
+    let mut copy = Vec::new(alloc);
+    let Ok(()) = copy.extend_from_slice(words.as_slice()) else {
+        return Err(NoMemory);
+    };
+    Ok(WordList::new(copy))
+}
+
 impl Words {
     /// All words of a list, the first to be drawn first.
     pub fn new(words: WordList) -> Words
         ensures { result ≡ words }
     {
         Words { words, drawn: 0 }
+    }
+
+    /// The same again. The one error is want of memory.
+    pub fn copied(&self, alloc: Global) -> Result<Words, NoMemory>
+        ensures { IfOk result (λ it. it ≡ self.now) }
+    {
+        let words = same_words(alloc, &self.words)?;
+        Ok(Words {
+            words,
+            drawn: self.drawn,
+        })
     }
 
     /// How many words are left.

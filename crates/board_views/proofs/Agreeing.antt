@@ -19,7 +19,7 @@ use Rattle.script_text.specs.Settings as script
 use Rattle.process_record.specs.Lines.{slot_named}
 use Rattle.process_record.specs.Operator.{ends_by}
 use Rattle.turn_scheduler.specs.RoundRobin.{choice, next_slot, ready_device}
-use Rattle.board_devices.specs.Arriving.{first_arrival_time, is_time}
+use Rattle.board_devices.specs.Arriving.{first_arrival_time, inserted, is_time}
 use Rattle.driver_model.specs.Alarm.{due_for, left_for, nearer}
 use Rattle.driver_model.specs.Commands.{BoardRequest, Waits, Leaves, Lights, Writes, Reads, Randoms, Stores}
 use Rattle.driver_model.specs.Commands.{leaving_all}
@@ -39,7 +39,7 @@ use Rattle.kernel_model.specs.Run.{round}
 use Rattle.tock_cli.proofs.Runs.{round-step, round-zero}
 use Rattle.board_opening.specs.Opening.{opening}
 use Rattle.board_views.specs.Agreeing.{AreWithin, ComesWithin, ScriptsAgree, ToTimeIsWithin, WorldsAgree, expecting}
-use Rattle.board_views.specs.Agreeing.{expects, inserted, with_event}
+use Rattle.board_views.specs.Agreeing.{expects, with_event}
 use Rattle.board_views.specs.Times.{choice_within, is_within, only_within, to_time}
 use Rattle.board_views.proofs.Stretches.{lead-step, lead-zero}
 use Rattle.board_views.proofs.Timing.{pass_ends, to_time-none, to_time-step}

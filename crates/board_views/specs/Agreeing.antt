@@ -1,16 +1,12 @@
 -- Scripts that agree up to a time make the same steps up to it: an event that comes in then changes none of the steps
 -- that begin before that time and end at it or before. It is this board's own rule.
-use Rattle.std.specs.Prelude.{◌≡◌, ◌≤◌, ◌<◌, ℕ, nat_le, true, if◌then◌else◌, List, [], ◌∷◌, is_some}
+use Rattle.std.specs.Prelude.{◌≡◌, ◌≤◌, ◌<◌, ℕ, true, List, is_some}
 use Rattle.script_text.specs.Settings.{ScriptEvent as Arrival, ScriptSettings as Script}
+use Rattle.board_devices.specs.Arriving.{inserted}
 use Rattle.kernel_model.specs.World.{World}
 use Rattle.kernel_model.specs.Run.{Ran, round}
 use Rattle.board_opening.specs.Opening.{opening}
 use Rattle.board_views.specs.Times.{choice_within, to_time}
-
--- an event among others: behind those of its time, and before later ones
-abbrev pub inserted : Arrival → List Arrival → List Arrival
-inserted e [] = e ∷ []
-inserted e (x ∷ xs) = if nat_le x.time e.time then x ∷ inserted e xs else e ∷ x ∷ xs
 
 -- a script that says an event besides
 abbrev pub with_event : Arrival → Script → Script
