@@ -1,6 +1,7 @@
 pub mod Stretches
 pub mod Plays
 pub mod Looks
+pub mod Expecting
 pub mod Running
 pub mod Shows
 pub mod Makes

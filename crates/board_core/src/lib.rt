@@ -3,6 +3,7 @@
 #![tactic(auto)]
 
 mod board;
+mod copies;
 mod left;
 mod lines;
 mod look;

@@ -38,7 +38,8 @@ use Rattle.kernel_model.specs.Run.{is_left, is_left_for, next, next_time, passes
 use Rattle.kernel_model.specs.Run.{round}
 use Rattle.tock_cli.proofs.Runs.{round-step, round-zero}
 use Rattle.board_opening.specs.Opening.{opening}
-use Rattle.board_views.specs.Agreeing.{AreWithin, ComesWithin, ScriptsAgree, ToTimeIsWithin, WorldsAgree, expecting}
+use Rattle.board_core.specs.Expecting.{expecting}
+use Rattle.board_views.specs.Agreeing.{AreWithin, ComesWithin, ScriptsAgree, ToTimeIsWithin, WorldsAgree}
 use Rattle.board_views.specs.Agreeing.{expects, with_event}
 use Rattle.board_views.specs.Times.{choice_within, is_within, only_within, to_time}
 use Rattle.board_views.proofs.Stretches.{lead-step, lead-zero}

@@ -6,15 +6,12 @@ use Rattle.board_devices.specs.Arriving.{inserted}
 use Rattle.kernel_model.specs.World.{World}
 use Rattle.kernel_model.specs.Run.{Ran, round}
 use Rattle.board_opening.specs.Opening.{opening}
+use Rattle.board_core.specs.Expecting.{expecting}
 use Rattle.board_views.specs.Times.{choice_within, to_time}
 
 -- a script that says an event besides
 abbrev pub with_event : Arrival → Script → Script
 with_event e script = record script { events = inserted e script.events }
-
--- a world in which an event is still to come in besides
-abbrev pub expecting : Arrival → World → World
-expecting e w = record w { devices = record w.devices { arrivals = inserted e w.devices.arrivals } }
 
 -- the same run, in which it did not come in yet
 abbrev pub expects : Arrival → Ran → Ran
