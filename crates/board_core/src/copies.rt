@@ -5,12 +5,11 @@ ghost use Rattle.tk_base.specs.declared.limits.TheConstants.{BUTTON_LIMIT};
 ghost use Rattle.board_core.specs.Expecting.{expecting};
 
 use crate::board::Board;
+use crate::lines::copied;
 use crate::state::BoardState;
-use arrayvec::ArrayVec;
 use process_record::Process;
 use script_text::TimedEvent;
 use std::alloc::Global;
-use tk_base::{OBJECT_LIMIT, PlaceFault};
 use tk_outside::NoMemory;
 
 /// The same processes again.
@@ -18,19 +17,6 @@ fn copied_processes(alloc: Global, processes: &[Process]) -> Result<Vec<Process>
     ensures { IfOk result (λ copies. copies.items ≡ processes.now) }
 {
     Ok(processes.to_vec(alloc)?)
-}
-
-/// The same applications again.
-fn copied_unplaced(
-    unplaced: &ArrayVec<(u32, PlaceFault), OBJECT_LIMIT>,
-) -> ArrayVec<(u32, PlaceFault), OBJECT_LIMIT>
-    ensures { result.items ≡ unplaced.now.items }
-{
-    let mut copies = ArrayVec::new();
-    let Ok(()) = copies.try_extend_from_slice(unplaced) else {
-        unreachable!()
-    };
-    copies
 }
 
 impl Board {
@@ -45,7 +31,7 @@ impl Board {
             state: BoardState {
                 machine,
                 processes,
-                unplaced: copied_unplaced(&state.unplaced),
+                unplaced: copied(&state.unplaced),
                 present: state.present,
             },
         })

@@ -27,7 +27,7 @@ fn name_in(flash: &[u8], object: &Object) -> ArrayVec<u8, 32>
 }
 
 /// The same applications again.
-fn copied(unplaced: &[(u32, PlaceFault)]) -> ArrayVec<(u32, PlaceFault), OBJECT_LIMIT>
+pub(crate) fn copied(unplaced: &[(u32, PlaceFault)]) -> ArrayVec<(u32, PlaceFault), OBJECT_LIMIT>
     requires { length unplaced.now ≤ OBJECT_LIMIT }
     ensures { result.items ≡ unplaced.now }
 {

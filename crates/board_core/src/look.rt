@@ -35,6 +35,20 @@ impl Board {
         self.state.machine.moment.steps
     }
 
+    /// How many buttons the board has.
+    pub fn buttons(&self) -> u32
+        ensures { result ≡ self.now.settings.buttons }
+    {
+        self.state.machine.moment.settings.buttons
+    }
+
+    /// How many ticks the window of each slot has; 0 without time partitions.
+    pub fn window(&self) -> u32
+        ensures { result ≡ self.now.pace.window }
+    {
+        self.state.machine.moment.window
+    }
+
     /// The process in a slot: its registers, its state, its counts, its last denial and its last
     /// refusal. None exactly where the slot has no process, as in each of these functions.
     pub fn process(&self, slot: Slot) -> Option<Process>

@@ -55,10 +55,10 @@ above n m t = grind (arith, nat_tests)
 at_most : (n m : ℕ) → nat_le n m ≡ true → n ≤ m
 at_most n m t = grind (arith, nat_tests)
 
-is_least : (n m : ℕ) → n ≤ m → nat_le n m ≡ true
+pub is_least : (n m : ℕ) → n ≤ m → nat_le n m ≡ true
 is_least n m h = grind (arith, nat_tests)
 
-less : (n m : ℕ) → nat_lt n m ≡ true → n < m
+pub less : (n m : ℕ) → nat_lt n m ≡ true → n < m
 less n m t = grind (arith, nat_tests)
 
 first_least : (n m : ℕ) → n ≤ m → n ≡ min n m
@@ -483,7 +483,7 @@ scripts_agree ready script flash e n within =
     ap (round n) (opens_besides script flash e) ∙ worlds_agree ready e n (opening script flash) within
 
 -- a board that goes on to a time makes such steps
-one_more : (time : ℕ) (k : ℕ) (w : World) (c : Choice) → choice_within time w ≡ Some c → next w ≡ Some c
+pub one_more : (time : ℕ) (k : ℕ) (w : World) (c : Choice) → choice_within time w ≡ Some c → next w ≡ Some c
     → AreWithin time k (after w c) → AreWithin time (suc k) w
 one_more time k w c e f within zero h =
     ap (λ (v : World). is_some (choice_within time v)) (lead-zero w) ∙ ap (λ (o : Option Choice). is_some o) e

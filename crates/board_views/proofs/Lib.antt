@@ -1,3 +1,4 @@
+pub mod Adding
 mod Stretches
 mod Texts
 mod TurnCounts

@@ -120,9 +120,9 @@ within-pass time w ticks ready h =
     ∙ by_end time (w.clock.time + ticks) w (Pass ticks) h (pass_ends w ticks ready)
 
 -- time never goes back, and no step is taken back
-record IsOn (w v : World) : Type 0 where
-  time : w.clock.time ≤ v.clock.time
-  steps : w.clock.steps ≤ v.clock.steps
+pub record IsOn (w v : World) : Type 0 where
+  pub time : w.clock.time ≤ v.clock.time
+  pub steps : w.clock.steps ≤ v.clock.steps
 
 stays_on : (w : World) → IsOn w w
 stays_on w = record { time = omega arith; steps = omega arith }
@@ -141,13 +141,13 @@ made_on w (Device device) = by_deed (device_step_of w device)
     by_deed (Some deed) = record { time = omega arith; steps = omega arith }
 made_on w (Pass ticks) = record { time = omega arith; steps = omega arith }
 
-step_on : (w : World) (c : Choice) → IsOn w (after w c)
+pub step_on : (w : World) (c : Choice) → IsOn w (after w c)
 step_on w c = of_stepped (λ (s : Stepped). IsOn w s.after) w c (stays_on w) (λ ready. made_on w c)
 
 joins_on : (w v u : World) → IsOn w v → IsOn v u → IsOn w u
 joins_on w v u h k = record { time = omega (arith, h.time, k.time); steps = omega (arith, h.steps, k.steps) }
 
-run_on : (k : ℕ) (w : World) → IsOn w (round k w).world
+pub run_on : (k : ℕ) (w : World) → IsOn w (round k w).world
 run_on zero w = subst (IsOn w) (sym (lead-zero w)) (stays_on w)
 run_on (suc k) w = by_next (next w) refl (λ c. run_on k (after w c))
   where

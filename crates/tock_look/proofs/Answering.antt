@@ -12,77 +12,55 @@ use Rattle.tool_answers.specs.declared.outcome.ServeOutcome.{ServeOutcome}
 use Rattle.tool_answers.specs.declared.outcome.ServeOutcome.TheVariants.{Done, Refused, SinkFailed}
 use Rattle.tool_answers.specs.Parts.{RefusalIs, sink_account}
 use Rattle.tock_look.specs.declared.asks.Ask.{Ask}
-use Rattle.tock_look.specs.declared.asks.Ask.TheVariants.{Boot, State, At, Steps, Trace, Memory, Storage, To, Turns}
-use Rattle.tock_look.specs.declared.asks.Ask.TheVariants.{Until, Last, Unknown}
-use Rattle.tock_look.specs.Answers.{IsAfter, answer_text, answers_text, world_after}
+use Rattle.tock_look.specs.Answers.{AreAfter, Worlds, answer_text, answers_from, answers_text, opened, worlds_after}
 use Rattle.tock_look.specs.Looks.{AnswersAll}
 
 -- what was written are the answers to the commands done, and those to all are these and those to what is left
-pub record AnswersSoFar {K : Type 0} (tells : K → SinkFacts) (old now : K) (opening here : World) (asks left : List Ask)
+pub record AnswersSoFar {K : Type 0} (tells : K → SinkFacts) (old now : K) (opening : World) (here : Worlds) (asks left : List Ask)
     : Type 0 where
   pub done : List ℕ
   pub wrote : WroteAll tells old now done
-  pub whole : answers_text opening opening asks ≡ done ++ answers_text opening here left
-
--- the world after a command, where the two files open with this one
-pub after_is : (files : RunFiles) (opening w : World) (ask : Ask) (new : World)
-    → opening_of_files files.flash.items files.script.items ≡ Some opening → IsAfter files w ask new
-    → new ≡ world_after opening w ask
-after_is files opening w Boot new o e = same_some new opening (sym e ∙ o)
-  where
-    same_some : (x y : World) → Some x ≡ Some y → x ≡ y
-    same_some x y e = cc
-after_is files opening w State new o e = e
-after_is files opening w (At slot) new o e = e
-after_is files opening w (Steps slot most) new o e = e
-after_is files opening w (Trace slot most) new o e = e
-after_is files opening w (Memory slot at count) new o e = e
-after_is files opening w (Storage slot at count) new o e = e
-after_is files opening w (To slot reach) new o e = e
-after_is files opening w (Turns slot turns most) new o e = e
-after_is files opening w (Until most goal) new o e = e
-after_is files opening w (Last most goal) new o e = e
-after_is files opening w Unknown new o e = e
+  pub whole : answers_text opening asks ≡ done ++ answers_from opening here left
 
 module _ {K : Type 0} {tells : K → SinkFacts} where
-  pub begins : WritesCompose tells → (a : K) (w : World) (asks : List Ask) → AnswersSoFar tells a a w w asks asks
+  pub begins : WritesCompose tells → (a : K) (w : World) (asks : List Ask) → AnswersSoFar tells a a w (opened w) asks asks
   begins law a w asks = record { done = []; wrote = law.wrote_nothing a; whole = refl }
 
-  module _ {old now : K} {opening here : World} {asks : List Ask} {i : ℕ}
+  module _ {old now : K} {opening : World} {here : Worlds} {asks : List Ask} {i : ℕ}
       (r : AnswersSoFar tells old now opening here asks (drop i asks)) (law : WritesCompose tells) where
     module _ (ask : Ask) (h : i < length asks) (a : ask ≡ get_or asks i ask) where
-      around : answers_text opening opening asks
-          ≡ r.done ++ (answer_text here ask ++ answers_text opening (world_after opening here ask) (drop (suc i) asks))
-      around = r.whole ∙ ap (λ (xs : List Ask). r.done ++ answers_text opening here xs) (drop-cons asks i ask h)
+      around : answers_text opening asks
+          ≡ r.done ++ (answer_text here ask ++ answers_from opening (worlds_after opening here ask) (drop (suc i) asks))
+      around = r.whole ∙ ap (λ (xs : List Ask). r.done ++ answers_from opening here xs) (drop-cons asks i ask h)
           ∙ ap (λ (x : Ask). r.done
-          ++ (answer_text here x ++ answers_text opening (world_after opening here x) (drop (suc i) asks)))
+          ++ (answer_text here x ++ answers_from opening (worlds_after opening here x) (drop (suc i) asks)))
           (sym a)
 
       -- one answer more
-      pub more : (files : RunFiles) (later : K) (new : World)
+      pub more : (files : RunFiles) (later : K) (new : Worlds)
           → opening_of_files files.flash.items files.script.items ≡ Some opening
-          → WroteAll tells now later (answer_text here ask) → IsAfter files here ask new
+          → WroteAll tells now later (answer_text here ask) → AreAfter files here ask new
           → AnswersSoFar tells old later opening new asks (drop (i + 1) asks)
       more files later new o w e = record {
         done = r.done ++ answer_text here ask;
         wrote = law.all_then_all r.wrote w;
         whole = around ∙ sym (append_assoc r.done (answer_text here ask)
-            (answers_text opening (world_after opening here ask) (drop (suc i) asks)))
-            ∙ ap (λ (v : World). (r.done ++ answer_text here ask) ++ answers_text opening v (drop (suc i) asks))
-            (sym (after_is files opening here ask new o e))
-            ∙ ap (λ (n : ℕ). (r.done ++ answer_text here ask) ++ answers_text opening new (drop n asks))
+            (answers_from opening (worlds_after opening here ask) (drop (suc i) asks)))
+            ∙ ap (λ (v : Worlds). (r.done ++ answer_text here ask) ++ answers_from opening v (drop (suc i) asks))
+            (sym (e opening o))
+            ∙ ap (λ (n : ℕ). (r.done ++ answer_text here ask) ++ answers_from opening new (drop n asks))
             (sym (add-one i));
       }
 
       -- the sink failed in an answer
       pub part : (later : K) → WrotePart tells now later (answer_text here ask)
-          → WrotePart tells old later (answers_text opening opening asks)
+          → WrotePart tells old later (answers_text opening asks)
       part later w = subst (λ (t : List ℕ). WrotePart tells old later t) (sym around)
           (law.all_then_part r.wrote (law.part_of_more
-          (answers_text opening (world_after opening here ask) (drop (suc i) asks)) w))
+          (answers_from opening (worlds_after opening here ask) (drop (suc i) asks)) w))
 
   -- there was no memory for an answer
-  module _ {old now : K} {opening here : World} {asks left : List Ask}
+  module _ {old now : K} {opening : World} {here : Worlds} {asks left : List Ask}
       (r : AnswersSoFar tells old now opening here asks left) (law : WritesCompose tells) where
     done_only : (later : K) → WroteAll tells now later [] → WroteAll tells old later r.done
     done_only later w = subst (λ (t : List ℕ). WroteAll tells old later t) (append-nil r.done)
@@ -90,19 +68,19 @@ module _ {K : Type 0} {tells : K → SinkFacts} where
 
     pub refused : (later last : K) (outcome : ServeOutcome) → WroteAll tells now later []
         → RefusalIs (sink_account tells later last) Memory outcome
-        → AnswersAll (sink_account tells old last) (answers_text opening opening asks) outcome
+        → AnswersAll (sink_account tells old last) (answers_text opening asks) outcome
     refused later last Done w f = absurd f
     refused later last (Refused refusal) w f = (
       f.0,
       (
         r.done,
-        record { rest = answers_text opening here left; whole = r.whole },
+        record { rest = answers_from opening here left; whole = r.whole },
         law.all_then_all (done_only later w) f.1,
       ),
     )
     refused later last SinkFailed w f =
         inr (
           r.done,
-          record { rest = answers_text opening here left; whole = r.whole },
+          record { rest = answers_from opening here left; whole = r.whole },
           law.all_then_part (done_only later w) f,
         )

@@ -12,30 +12,30 @@ use Rattle.tool_answers.specs.declared.outcome.ServeOutcome.{ServeOutcome}
 use Rattle.tool_answers.specs.declared.outcome.ServeOutcome.TheVariants.{Done, Refused, SinkFailed}
 use Rattle.tool_answers.specs.Parts.{RefusalIs, sink_account}
 use Rattle.tock_look.specs.declared.asks.Ask.{Ask}
-use Rattle.tock_look.specs.Answers.{IsAfter, answer_text, answers_text, world_after}
+use Rattle.tock_look.specs.Answers.{AreAfter, Worlds, answer_text, answers_from, answers_text, opened, worlds_after}
 use Rattle.tock_look.specs.Asks.{line_ask}
 use Rattle.tock_look.specs.Lines.{Came, GivesLine, IsEnded}
 use Rattle.tock_look.specs.Looks.{AnswersAll, AnswersLines}
-use Rattle.tock_look.proofs.Answering.{after_is}
 
--- the world after commands
-abbrev worlds_after : World → World → List Ask → World
-worlds_after opening w [] = w
-worlds_after opening w (ask ∷ asks) = worlds_after opening (world_after opening w ask) asks
+-- the worlds after commands
+abbrev after_asks : World → Worlds → List Ask → Worlds
+after_asks opening w [] = w
+after_asks opening w (ask ∷ asks) = after_asks opening (worlds_after opening w ask) asks
 
 -- with one command more
-answers-more : (opening w : World) (asks : List Ask) (ask : Ask) → answers_text opening w (asks ++ ask ∷ [])
-    ≡ answers_text opening w asks ++ answer_text (worlds_after opening w asks) ask
+answers-more : (opening : World) (w : Worlds) (asks : List Ask) (ask : Ask)
+    → answers_from opening w (asks ++ ask ∷ [])
+    ≡ answers_from opening w asks ++ answer_text (after_asks opening w asks) ask
 answers-more opening w [] ask = append-nil (answer_text w ask)
 answers-more opening w (a ∷ asks) ask =
-    ap (λ (t : List ℕ). answer_text w a ++ t) (answers-more opening (world_after opening w a) asks ask)
-    ∙ sym (append_assoc (answer_text w a) (answers_text opening (world_after opening w a) asks)
-    (answer_text (worlds_after opening (world_after opening w a) asks) ask))
+    ap (λ (t : List ℕ). answer_text w a ++ t) (answers-more opening (worlds_after opening w a) asks ask)
+    ∙ sym (append_assoc (answer_text w a) (answers_from opening (worlds_after opening w a) asks)
+    (answer_text (after_asks opening (worlds_after opening w a) asks) ask))
 
-worlds-more : (opening w : World) (asks : List Ask) (ask : Ask) → worlds_after opening w (asks ++ ask ∷ [])
-    ≡ world_after opening (worlds_after opening w asks) ask
-worlds-more opening w [] ask = refl
-worlds-more opening w (a ∷ asks) ask = worlds-more opening (world_after opening w a) asks ask
+asks-more : (opening : World) (w : Worlds) (asks : List Ask) (ask : Ask)
+    → after_asks opening w (asks ++ ask ∷ []) ≡ worlds_after opening (after_asks opening w asks) ask
+asks-more opening w [] ask = refl
+asks-more opening w (a ∷ asks) ask = asks-more opening (worlds_after opening w a) asks ask
 
 -- the commands of lines, with one line more
 commands : List (List ℕ) → List Ask
@@ -57,15 +57,15 @@ came-more (Some ls) (Some ms) (Some ns) given more h k =
     h ∙ ap (λ (xs : List (List ℕ)). given ++ xs) k ∙ sym (append_assoc given more ns)
 
 -- lines were given, and their commands answered
-pub record Converses {K : Type 0} (tells : K → SinkFacts) (old now : K) (opening here : World)
+pub record Converses {K : Type 0} (tells : K → SinkFacts) (old now : K) (opening : World) (here : Worlds)
     (before left : Option (List (List ℕ))) : Type 0 where
   pub given : List (List ℕ)
   pub came : Came before left given
-  pub wrote : WroteAll tells old now (answers_text opening opening (map line_ask given))
-  pub there : here ≡ worlds_after opening opening (map line_ask given)
+  pub wrote : WroteAll tells old now (answers_text opening (map line_ask given))
+  pub there : here ≡ after_asks opening (opened opening) (map line_ask given)
 
 pub begins : {K : Type 0} {tells : K → SinkFacts} → WritesCompose tells → (a : K) (w : World)
-    (lines : Option (List (List ℕ))) → Converses tells a a w w lines lines
+    (lines : Option (List (List ℕ))) → Converses tells a a w (opened w) lines lines
 begins law a w lines = record {
   given = [];
   came = none_came lines;
@@ -77,7 +77,7 @@ begins law a w lines = record {
     none_came None = tt
     none_came (Some ls) = refl
 
-module _ {K : Type 0} {tells : K → SinkFacts} {old now : K} {opening here : World}
+module _ {K : Type 0} {tells : K → SinkFacts} {old now : K} {opening : World} {here : Worlds}
     {before left : Option (List (List ℕ))} (r : Converses tells old now opening here before left)
     (law : WritesCompose tells) where
   -- no line is left
@@ -109,20 +109,20 @@ module _ {K : Type 0} {tells : K → SinkFacts} {old now : K} {opening here : Wo
       not_done SinkFailed f e = absurd (cc)
 
       answers : (outcome : ServeOutcome) → RefusalIs (sink_account tells now last) Memory outcome
-          → AnswersAll (sink_account tells old last) (answers_text opening opening (map line_ask r.given)) outcome
+          → AnswersAll (sink_account tells old last) (answers_text opening (map line_ask r.given)) outcome
       answers Done f = absurd f
       answers (Refused refusal) f = (
         f.0,
         (
-          answers_text opening opening (map line_ask r.given),
-          record { rest = []; whole = sym (append-nil (answers_text opening opening (map line_ask r.given))) },
+          answers_text opening (map line_ask r.given),
+          record { rest = []; whole = sym (append-nil (answers_text opening (map line_ask r.given))) },
           law.all_then_all r.wrote f.1,
         ),
       )
       answers SinkFailed f =
           inr (
-            answers_text opening opening (map line_ask r.given),
-            record { rest = []; whole = sym (append-nil (answers_text opening opening (map line_ask r.given))) },
+            answers_text opening (map line_ask r.given),
+            record { rest = []; whole = sym (append-nil (answers_text opening (map line_ask r.given))) },
             law.all_then_part r.wrote f,
           )
 
@@ -133,28 +133,27 @@ module _ {K : Type 0} {tells : K → SinkFacts} {old now : K} {opening here : Wo
     came : Came before rest (r.given ++ line ∷ [])
     came = came-more before left rest r.given (line ∷ []) r.came g
 
-    text : answers_text opening opening (map line_ask (r.given ++ line ∷ []))
-        ≡ answers_text opening opening (map line_ask r.given) ++ answer_text here (line_ask line)
+    text : answers_text opening (map line_ask (r.given ++ line ∷ []))
+        ≡ answers_text opening (map line_ask r.given) ++ answer_text here (line_ask line)
     unfolding commands
-    text = ap (answers_text opening opening) (commands-more r.given line)
-        ∙ answers-more opening opening (commands r.given) (line_ask line)
-        ∙ ap (λ (w : World). answers_text opening opening (map line_ask r.given) ++ answer_text w (line_ask line))
+    text = ap (answers_text opening) (commands-more r.given line)
+        ∙ answers-more opening (opened opening) (commands r.given) (line_ask line)
+        ∙ ap (λ (w : Worlds). answers_text opening (map line_ask r.given) ++ answer_text w (line_ask line))
         (sym r.there)
 
     -- one answer more
-    pub more : (files : RunFiles) (later : K) (new : World)
+    pub more : (files : RunFiles) (later : K) (new : Worlds)
         → opening_of_files files.flash.items files.script.items ≡ Some opening
-        → WroteAll tells now later (answer_text here (line_ask line)) → IsAfter files here (line_ask line) new
+        → WroteAll tells now later (answer_text here (line_ask line)) → AreAfter files here (line_ask line) new
         → Converses tells old later opening new before rest
     unfolding commands
     more files later new o w a = record {
       given = r.given ++ line ∷ [];
       came = came;
       wrote = subst (λ (t : List ℕ). WroteAll tells old later t) (sym text) (law.all_then_all r.wrote w);
-      there = after_is files opening here (line_ask line) new o a
-          ∙ ap (λ (v : World). world_after opening v (line_ask line)) r.there
-          ∙ sym (worlds-more opening opening (commands r.given) (line_ask line))
-          ∙ ap (worlds_after opening opening) (sym (commands-more r.given line));
+      there = a opening o ∙ ap (λ (v : Worlds). worlds_after opening v (line_ask line)) r.there
+          ∙ sym (asks-more opening (opened opening) (commands r.given) (line_ask line))
+          ∙ ap (after_asks opening (opened opening)) (sym (commands-more r.given line));
     }
 
     -- the sink failed in an answer
@@ -180,11 +179,11 @@ module _ {K : Type 0} {tells : K → SinkFacts} {old now : K} {opening here : Wo
     }
       where
         front : List ℕ
-        front = answers_text opening opening (map line_ask r.given)
+        front = answers_text opening (map line_ask r.given)
 
-        done_only : WroteAll tells old later (answers_text opening opening (map line_ask r.given))
+        done_only : WroteAll tells old later (answers_text opening (map line_ask r.given))
         done_only = subst (λ (t : List ℕ). WroteAll tells old later t)
-            (append-nil (answers_text opening opening (map line_ask r.given))) (law.all_then_all r.wrote w)
+            (append-nil (answers_text opening (map line_ask r.given))) (law.all_then_all r.wrote w)
 
         not_done : (outcome : ServeOutcome) → RefusalIs (sink_account tells later last) Memory outcome
             → outcome ≡ Done → IsEnded rest
@@ -194,19 +193,19 @@ module _ {K : Type 0} {tells : K → SinkFacts} {old now : K} {opening here : Wo
 
         answers : (outcome : ServeOutcome) → RefusalIs (sink_account tells later last) Memory outcome
             → AnswersAll (sink_account tells old last)
-            (answers_text opening opening (map line_ask (r.given ++ line ∷ []))) outcome
+            (answers_text opening (map line_ask (r.given ++ line ∷ []))) outcome
         answers Done f = absurd f
         answers (Refused refusal) f = (
           f.0,
           (
-            answers_text opening opening (map line_ask r.given),
+            answers_text opening (map line_ask r.given),
             record { rest = answer_text here (line_ask line); whole = text },
             law.all_then_all done_only f.1,
           ),
         )
         answers SinkFailed f =
             inr (
-              answers_text opening opening (map line_ask r.given),
+              answers_text opening (map line_ask r.given),
               record { rest = answer_text here (line_ask line); whole = text },
               law.all_then_part done_only f,
             )

@@ -1,8 +1,9 @@
 -- The commands, as words of the command line. They are this tool's own.
-use Rattle.std.specs.Prelude.{ℕ, Bool, true, false, ◌==◌, nat_lt, if◌then◌else◌, List, [], ◌∷◌, ◌++◌, length, map}
+use Rattle.std.specs.Prelude.{ℕ, Bool, true, false, ◌==◌, ◌&&◌, nat_le, nat_lt, if◌then◌else◌}
+use Rattle.std.specs.Prelude.{List, [], ◌∷◌, ◌++◌, length, map, take, drop}
 use Rattle.std.specs.Prelude.{codes, unwrap_or}
 use Rattle.std.specs.Prelude.{String, string_bytes, Vec, Option, None, Some}
-use Rattle.std.specs.Option.{option_map, option_and_then}
+use Rattle.std.specs.Option.{option_map, option_map_or, option_and_then}
 use Rattle.std.specs.List.{slice_split}
 use Rattle.std.specs.Str.{bytes_eq}
 use Rattle.decimal_number.specs.Number.{number_up_to}
@@ -12,12 +13,12 @@ use Rattle.board_views.specs.declared.goal.Watched.{Watched}
 use Rattle.board_views.specs.declared.times.Reach.{Reach}
 use Rattle.board_views.specs.declared.goal.TheConstants.{GOAL_ADDRESSES, GOAL_PLACES}
 use Rattle.tock_look.specs.declared.asks.Ask.TheVariants.{Boot, State, At, Steps, Trace, Memory, Storage, To, Turns}
-use Rattle.tock_look.specs.declared.asks.Ask.TheVariants.{Until, Last, Unknown}
+use Rattle.tock_look.specs.declared.asks.Ask.TheVariants.{Until, Last, Add, Keep, Return, Unknown}
 use Rattle.tock_look.specs.declared.asks.Limits.{Limits}
 use Rattle.tock_look.specs.declared.asks.Numbers.{Numbers}
 use Rattle.tock_look.specs.declared.asks.Numbers.TheVariants as numbers
 use Rattle.tock_look.specs.declared.asks.Places.{Places}
-use Rattle.tock_look.specs.declared.asks.TheConstants.{LAST_SLOT, MOST_NUMBER}
+use Rattle.tock_look.specs.declared.asks.TheConstants.{LAST_PLACE, LAST_SLOT, MOST_NUMBER}
 
 -- the slot that a word names, and the number of steps that one gives
 abbrev pub slot_of : List ℕ → Option ℕ
@@ -32,9 +33,16 @@ plain_ask name =
     if bytes_eq name (codes "boot") then Some Boot
     else (if bytes_eq name (codes "state") then Some State else None)
 
--- `at S`
-unfoldable pub slot_ask : List ℕ → List ℕ → Option Ask
-slot_ask name slot = if bytes_eq name (codes "at") then option_map At (slot_of slot) else None
+-- the place at which a board is kept that a word names
+abbrev pub place_of : List ℕ → Option ℕ
+place_of word = number_up_to LAST_PLACE word
+
+-- `at S`, `keep K`, `return K`
+unfoldable pub placed_ask : List ℕ → List ℕ → Option Ask
+placed_ask name number =
+    if bytes_eq name (codes "at") then option_map At (slot_of number)
+    else (if bytes_eq name (codes "keep") then option_map Keep (place_of number)
+    else (if bytes_eq name (codes "return") then option_map Return (place_of number) else None))
 
 -- whether the lines of steps are to be written, by the name of the command
 abbrev pub is_traced : List ℕ → Option Bool
@@ -143,16 +151,23 @@ search_ask name slot p = option_and_then (λ last. option_map (λ s. searching l
 -- the command of some words
 abbrev pub asked : List (List ℕ) → Option Ask
 asked (name ∷ []) = plain_ask name
-asked (name ∷ slot ∷ []) = slot_ask name slot
+asked (name ∷ number ∷ []) = placed_ask name number
 asked (name ∷ slot ∷ number ∷ []) = numbered_ask name slot number
 asked (name ∷ slot ∷ first ∷ second ∷ []) = two_numbers_ask name slot first second
 asked (name ∷ slot ∷ limits ∷ watched ∷ addresses ∷ []) =
     option_and_then (search_ask name slot) (places_of limits watched addresses)
 asked other = None
 
--- the command of a word: its own words stand between blanks
+-- `add LINE`: the line
+abbrev pub added_of : List ℕ → Option (List ℕ)
+added_of word = if nat_le 4 (length word) && bytes_eq (take 4 word) (codes "add ") then Some (drop 4 word) else None
+
+abbrev pub adding : List ℕ → Ask
+adding line = Add (record { items = line })
+
+-- the command of a word: it adds a line, or its own words stand between blanks
 unfoldable pub ask_of : List ℕ → Option Ask
-ask_of word = asked (slice_split (λ b. b == 32) word)
+ask_of word = option_map_or (λ line. Some (adding line)) (added_of word) (asked (slice_split (λ b. b == 32) word))
 
 -- that of a line, which may be none
 abbrev pub line_ask : List ℕ → Ask

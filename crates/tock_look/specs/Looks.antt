@@ -55,12 +55,12 @@ pub record AnswersLines (lines : LineAccount) (sent : SinkAccount) (world : Worl
   pub given : List (List ℕ)
   pub came : Came lines.before lines.after given
   pub all : outcome ≡ Done → IsEnded lines.after
-  pub answers : AnswersAll sent (answers_text world world (map line_ask given)) outcome
+  pub answers : AnswersAll sent (answers_text world (map line_ask given)) outcome
 
 -- the commands of words were answered, or where there are none those of lines
 abbrev pub AnswersAsked : LineAccount → SinkAccount → World → List Ask → ServeOutcome → Type 0
 AnswersAsked lines sent world [] outcome = AnswersLines lines sent world outcome
-AnswersAsked lines sent world (ask ∷ asks) outcome = AnswersAll sent (answers_text world world (ask ∷ asks)) outcome
+AnswersAsked lines sent world (ask ∷ asks) outcome = AnswersAll sent (answers_text world (ask ∷ asks)) outcome
 
 pub record AnswersLooking (told : ShelfAccount) (lines : LineAccount) (sent : SinkAccount) (looking : Looking)
     (outcome : ServeOutcome) : Type 0 where

@@ -7,13 +7,19 @@ ghost use Rattle.board_views.specs.Stops.{within};
 ghost use Rattle.board_views.specs.Times.{world_reached};
 ghost use Rattle.tool_tasks.specs.RunFiles.{AreWithinLimits, opening_of_files};
 ghost use Rattle.tool_answers.specs.Parts.{sink_account};
+ghost use Rattle.tock_look.specs.Adding.{added_text, line_event, whether_added, with_line};
+ghost use Rattle.tock_look.specs.Answers.{answer_text, answered, kept_by, worlds_of};
 ghost use Rattle.tock_look.specs.Answers.{Answers, AnswersWith, last_text, reached_text, traced_text};
 ghost use Rattle.tock_look.specs.Answers.{until_text, view_text, words_line};
 ghost use Rattle.tock_look.specs.Asks.{line_ask};
+ghost use Rattle.tock_look.specs.Keeping.{returned};
 ghost use Rattle.tock_look.specs.declared.answers.Answered.TheVariants.{Whole};
-ghost use Rattle.tock_look.specs.declared.asks.Ask.TheVariants.{Boot};
+ghost use Rattle.tock_look.specs.declared.asks.Ask.TheVariants.{Keep, Return};
+ghost use Rattle.tock_look.specs.declared.views.View.TheVariants.{Nothing};
 
+use crate::adding::{add_line, write_added};
 use crate::asks::{Ask, line_ask};
+use crate::keeping::{Boards, keep, return_to, write_found_place};
 use crate::views::{View, write_view};
 use board_core::Board;
 use board_views::{Goal, Reach, find_last, go_steps, go_to, go_traced, go_turns, go_until};
@@ -37,10 +43,7 @@ pub enum Answered {
 fn show<K: Sink>(board: &Board, view: View, out: &mut K) -> Answered
     ensures { AnswersWith (sink_account K.tells out.old out.new) (view_text board.now view) result }
 {
-    match write_view(board, view, out) {
-        Ok(()) => Answered::Whole,
-        Err(_) => Answered::SinkFailed,
-    }
+    told(write_view(board, view, out))
 }
 
 /// Makes at most so many steps, writes the lines of each, and then why and where the board stopped.
@@ -87,8 +90,10 @@ pub fn board_of(alloc: Global, files: &RunFiles) -> Result<Board, NoMemory>
 /// Has the board be as before its first step.
 fn boot_again<K: Sink>(alloc: Global, files: &RunFiles, board: &mut Board, out: &mut K) -> Answered
     requires { AreWithinLimits files.now }
-    ensures { Answers (sink_account K.tells out.old out.new) files.now board.old board.new Boot
-        result }
+    ensures text { AnswersWith (sink_account K.tells out.old out.new)
+        (view_text board.old Nothing) result }
+    ensures opened { result ≡ Whole →
+        opening_of_files files.now.flash.items files.now.script.items ≡ Some board.new }
 {
     writes_compose::<K>();
     match board_of(alloc, files) {
@@ -133,29 +138,77 @@ fn look_back<K: Sink>(
     show(board, View::Last { found }, out)
 }
 
-/// Writes the answer to what is no command.
-fn answer_unknown<K: Sink>(out: &mut K) -> Answered
-    ensures { AnswersWith (sink_account K.tells out.old out.new) words_line result }
+/// How a command was answered whose answer was written, or in part.
+fn told(written: Result<(), Failed>) -> Answered
+    ensures { result ≡ answered written }
 {
-    match put_all(out, b"= words\n") {
+    match written {
         Ok(()) => Answered::Whole,
         Err(_) => Answered::SinkFailed,
     }
 }
 
-/// Does a command, and writes the answer. Afterwards the board shows the world after that command,
+/// Adds the event of a line, and tells whether there is one.
+fn add<K: Sink>(alloc: Global, board: &mut Board, line: &[u8], out: &mut K) -> Answered
+    ensures text { AnswersWith (sink_account K.tells out.old out.new)
+        (added_text (whether_added (line_event board.old line.now))) result }
+    ensures led { result ≡ Whole → board.new ≡ with_line board.old line.now }
+{
+    match add_line(alloc, board, line) {
+        Ok(added) => told(write_added(added, out)),
+        Err(_) => Answered::NoMemory,
+    }
+}
+
+/// Keeps the board at a place, and tells whether there is one.
+fn keep_at<K: Sink>(alloc: Global, boards: &mut Boards, place: usize, out: &mut K) -> Answered
+    ensures text { AnswersWith (sink_account K.tells out.old out.new)
+        (answer_text (worlds_of boards.old) (Keep place)) result }
+    ensures board { boards.new.board ≡ boards.old.board }
+    ensures kept { result ≡ Whole →
+        boards.new.kept.items ≡ kept_by (worlds_of boards.old) (Keep place) }
+{
+    match keep(alloc, boards, place) {
+        Ok(found) => told(write_found_place(found, out)),
+        Err(_) => Answered::NoMemory,
+    }
+}
+
+/// Has the board be as it was kept at a place, and tells whether one is.
+fn return_at<K: Sink>(alloc: Global, boards: &mut Boards, place: usize, out: &mut K) -> Answered
+    ensures text { AnswersWith (sink_account K.tells out.old out.new)
+        (answer_text (worlds_of boards.old) (Return place)) result }
+    ensures board { result ≡ Whole →
+        boards.new.board ≡ returned place boards.old.kept.items boards.old.board }
+    ensures kept { boards.new.kept ≡ boards.old.kept }
+{
+    match return_to(alloc, boards, place) {
+        Ok(found) => told(write_found_place(found, out)),
+        Err(_) => Answered::NoMemory,
+    }
+}
+
+/// Writes the answer to what is no command.
+fn answer_unknown<K: Sink>(out: &mut K) -> Answered
+    ensures { AnswersWith (sink_account K.tells out.old out.new) words_line result }
+{
+    told(put_all(out, b"= words\n"))
+}
+
+/// Does a command, and writes the answer. Afterwards the boards show the worlds after that command,
 /// where the whole answer was written.
 pub fn answer<K: Sink>(
     alloc: Global,
     files: &RunFiles,
-    board: &mut Board,
+    boards: &mut Boards,
     ask: &Ask,
     out: &mut K,
 ) -> Answered
     requires { AreWithinLimits files.now }
-    ensures { Answers (sink_account K.tells out.old out.new) files.now board.old board.new ask.now
+    ensures { Answers (sink_account K.tells out.old out.new) files.now boards.old boards.new ask.now
         result }
 {
+    let board = &mut boards.board;
     match ask {
         Ask::Boot => boot_again(alloc, files, board, out),
         Ask::State => show(board, View::State, out),
@@ -164,14 +217,8 @@ pub fn answer<K: Sink>(
             let stop = go_steps(board, *most);
             show(board, View::Stopped { slot: *slot, stop }, out)
         }
-        Ask::Trace { slot, most } => match trace(board, *slot, *most, out) {
-            Ok(()) => Answered::Whole,
-            Err(_) => Answered::SinkFailed,
-        },
-        Ask::To { slot, reach } => match reach_time(board, *slot, *reach, out) {
-            Ok(()) => Answered::Whole,
-            Err(_) => Answered::SinkFailed,
-        },
+        Ask::Trace { slot, most } => told(trace(board, *slot, *most, out)),
+        Ask::To { slot, reach } => told(reach_time(board, *slot, *reach, out)),
         Ask::Turns { slot, turns, most } => {
             let stop = go_turns(board, *slot, *turns, *most);
             show(board, View::Stopped { slot: *slot, stop }, out)
@@ -196,6 +243,9 @@ pub fn answer<K: Sink>(
         ),
         Ask::Until { most, goal } => go_on(alloc, board, goal, *most, out),
         Ask::Last { most, goal } => look_back(alloc, board, goal, *most, out),
+        Ask::Add { line } => add(alloc, board, line, out),
+        Ask::Keep { place } => keep_at(alloc, boards, *place, out),
+        Ask::Return { place } => return_at(alloc, boards, *place, out),
         Ask::Unknown => answer_unknown(out),
     }
 }
@@ -204,17 +254,17 @@ pub fn answer<K: Sink>(
 pub fn answer_line<K: Sink>(
     alloc: Global,
     files: &RunFiles,
-    board: &mut Board,
+    boards: &mut Boards,
     line: &str,
     out: &mut K,
 ) -> Answered
     requires { AreWithinLimits files.now }
-    ensures { Answers (sink_account K.tells out.old out.new) files.now board.old board.new
+    ensures { Answers (sink_account K.tells out.old out.new) files.now boards.old boards.new
         (line_ask line.now) result }
 {
     writes_compose::<K>();
     match line_ask(alloc, line) {
-        Ok(ask) => answer(alloc, files, board, &ask, out),
+        Ok(ask) => answer(alloc, files, boards, &ask, out),
         Err(_) => Answered::NoMemory,
     }
 }

@@ -1,11 +1,12 @@
 //! The commands, as words.
-ghost use Rattle.std.specs.Prelude.{◌≡◌, ◌==◌, map, IfOk};
+ghost use Rattle.std.specs.Prelude.{◌≡◌, ◌==◌, map, option_copied, IfOk};
 ghost use Rattle.std.specs.List.{slice_split};
 ghost use Rattle.std.specs.Option.{option_map};
-ghost use Rattle.tock_look.specs.Asks.{ask_of, asked, asks_of, is_last, is_traced, limits_in, limits_of};
+ghost use Rattle.tock_look.specs.Asks.{added_of, adding, ask_of, asked, asks_of, is_last, is_traced, limits_in};
+ghost use Rattle.tock_look.specs.Asks.{limits_of, place_of, placed_ask};
 ghost use Rattle.tock_look.specs.Asks.{line_ask, looking_shown, most_of, numbered_ask, numbers_after};
 ghost use Rattle.tock_look.specs.Asks.{numbers_for, numbers_between, places_of, plain_ask, reaching, search_ask};
-ghost use Rattle.tock_look.specs.Asks.{searching, slot_ask, slot_of, stepping, two_numbers_ask, watched_after};
+ghost use Rattle.tock_look.specs.Asks.{searching, slot_of, stepping, two_numbers_ask, watched_after};
 ghost use Rattle.tock_look.specs.Asks.{watched_of, with_two};
 
 use arrayvec::ArrayVec;
@@ -16,6 +17,12 @@ use tk_base::{NoMemory, Slot};
 
 /// The number of the last slot.
 const LAST_SLOT: u64 = 15;
+
+/// The number of the last place at which a board may be kept.
+const LAST_PLACE: u64 = 127;
+
+/// How the command begins that adds a line to a script.
+const ADD: &[u8] = b"add ";
 
 /// The greatest number in a command.
 const MOST_NUMBER: u64 = 4_294_967_295;
@@ -48,6 +55,12 @@ pub enum Ask {
     /// `last S MOST WATCHED ADDRESSES`: at most so many steps, and where a goal would have stopped
     /// the board the last time.
     Last { most: u32, goal: Goal },
+    /// `add LINE`: the event of an `at` line of a script is still to come in.
+    Add { line: Vec<u8> },
+    /// `keep K`: the board is kept at a place, 0 to 127.
+    Keep { place: usize },
+    /// `return K`: the board is as it was kept at a place.
+    Return { place: usize },
     /// No command.
     Unknown,
 }
@@ -77,16 +90,30 @@ fn plain_ask(name: &str) -> Option<Ask>
     }
 }
 
-/// The command of a slot.
-#[tactic(auto, unfolding(crate::specs::Asks::slot_ask))]
-fn slot_ask(name: &str, slot: &str) -> Option<Ask>
-    ensures { result ≡ slot_ask name.now slot.now }
+/// The place that a word names.
+fn place_in(word: &str) -> Option<usize>
+    ensures { result ≡ place_of word.now }
 {
-    if name != "at" {
-        return None;
+    Some(number_up_to(word.as_bytes(), LAST_PLACE)? as usize)
+}
+
+/// The command of a slot or a place.
+#[tactic(auto, unfolding(crate::specs::Asks::placed_ask))]
+fn placed_ask(name: &str, number: &str) -> Option<Ask>
+    ensures { result ≡ placed_ask name.now number.now }
+{
+    match name {
+        "at" => Some(Ask::At {
+            slot: slot_in(number)?,
+        }),
+        "keep" => Some(Ask::Keep {
+            place: place_in(number)?,
+        }),
+        "return" => Some(Ask::Return {
+            place: place_in(number)?,
+        }),
+        _ => None,
     }
-    let slot = slot_in(slot)?;
-    Some(Ask::At { slot })
 }
 
 /// The command of a slot and a number of steps.
@@ -391,7 +418,7 @@ fn asked(alloc: Global, pieces: &[&str]) -> Result<Option<Ask>, NoMemory>
 {
     match pieces {
         [name] => Ok(plain_ask(name)),
-        [name, slot] => Ok(slot_ask(name, slot)),
+        [name, number] => Ok(placed_ask(name, number)),
         [name, slot, number] => Ok(numbered_ask(name, slot, number)),
         [name, slot, first, second] => Ok(two_numbers_ask(name, slot, first, second)),
         [name, slot, limits, watched, addresses] => {
@@ -412,11 +439,36 @@ fn pieces_of(alloc: Global, word: &str) -> Result<Vec<&str>, AllocError>
     word.split(' ').collect(alloc)
 }
 
+/// The line that a word adds to a script, if it begins so.
+fn added_in(word: &[u8]) -> Option<&[u8]>
+    ensures { option_copied result ≡ added_of word.now }
+{
+    if word.len() < ADD.len() {
+        return None;
+    }
+    let (name, line) = word.split_at(ADD.len());
+    if name == ADD { Some(line) } else { None }
+}
+
+/// The command that adds a line.
+fn adding(alloc: Global, line: &[u8]) -> Result<Ask, NoMemory>
+    ensures { IfOk result (λ ask. ask ≡ adding line.now) }
+{
+    let mut copy = Vec::new(alloc);
+    match copy.extend_from_slice(line) {
+        Ok(()) => Ok(Ask::Add { line: copy }),
+        Err(_) => Err(NoMemory),
+    }
+}
+
 /// The command of a word.
 #[tactic(auto, unfolding(crate::specs::Asks::ask_of))]
 fn ask_in(alloc: Global, word: &str) -> Result<Option<Ask>, NoMemory>
     ensures { IfOk result (λ ask. ask ≡ ask_of word.now) }
 {
+    if let Some(line) = added_in(word.as_bytes()) {
+        return Ok(Some(adding(alloc, line)?));
+    }
     match pieces_of(alloc, word) {
         Ok(pieces) => asked(alloc, &pieces),
         Err(_) => Err(NoMemory),

@@ -11,6 +11,7 @@ ghost use Rattle.tock_look.specs.Looks.{AnswersAll, AnswersLines, IsNoCommand, L
 
 use crate::answers::{Answered, answer, answer_line, board_of};
 use crate::asks::{Ask, asks_in};
+use crate::keeping::Boards;
 use crate::lines::LineSource;
 use board_core::Board;
 use run_text::Mode;
@@ -24,18 +25,20 @@ use tool_words::{Refusal, RunCommand};
 fn answer_all<K: Sink>(
     alloc: Global,
     files: &RunFiles,
-    board: &mut Board,
+    board: Board,
     asks: &[Ask],
     out: &mut K,
 ) -> ServeOutcome
     requires within { AreWithinLimits files.now }
-    requires opened { opening_of_files files.now.flash.items files.now.script.items ≡ Some board.old }
-    ensures { AnswersAll (sink_account K.tells out.old out.new)
-        (answers_text board.old board.old asks.now) result }
+    requires opened { opening_of_files files.now.flash.items files.now.script.items ≡ Some board }
+    ensures { AnswersAll (sink_account K.tells out.old out.new) (answers_text board asks.now)
+        result }
 {
     writes_compose::<K>();
+    let kept = Vec::new(alloc);
+    let mut boards = Boards { board, kept };
     for ask in asks {
-        match answer(alloc, files, board, ask, out) {
+        match answer(alloc, files, &mut boards, ask, out) {
             Answered::Whole => {}
             Answered::SinkFailed => return ServeOutcome::SinkFailed,
             Answered::NoMemory => return refuse(Refusal::Memory, out),
@@ -56,21 +59,23 @@ fn end_long_session<K: Sink>(out: &mut K) -> ServeOutcome
 fn answer_lines<L: LineSource, K: Sink>(
     alloc: Global,
     files: &RunFiles,
-    board: &mut Board,
+    board: Board,
     lines: &mut L,
     out: &mut K,
 ) -> ServeOutcome
     requires within { AreWithinLimits files.now }
-    requires opened { opening_of_files files.now.flash.items files.now.script.items ≡ Some board.old }
+    requires opened { opening_of_files files.now.flash.items files.now.script.items ≡ Some board }
     ensures { AnswersLines (line_account L.lines lines.old lines.new)
-        (sink_account K.tells out.old out.new) board.old result }
+        (sink_account K.tells out.old out.new) board result }
 {
     writes_compose::<K>();
+    let kept = Vec::new(alloc);
+    let mut boards = Boards { board, kept };
     for _ in 0..u64::MAX {
         let Some(line) = lines.next_line() else {
             return ServeOutcome::Done;
         };
-        match answer_line(alloc, files, board, line.as_str(), out) {
+        match answer_line(alloc, files, &mut boards, line.as_str(), out) {
             Answered::Whole => {}
             Answered::SinkFailed => return ServeOutcome::SinkFailed,
             Answered::NoMemory => return refuse(Refusal::Memory, out),
@@ -93,12 +98,12 @@ fn look_at<L: LineSource, K: Sink>(
         (sink_account K.tells out.old out.new)
         (opening_of_files files.now.flash.items files.now.script.items) asks.now result }
 {
-    let Ok(mut board) = board_of(alloc, files) else {
+    let Ok(board) = board_of(alloc, files) else {
         return refuse(Refusal::Memory, out);
     };
     match asks {
-        [] => answer_lines(alloc, files, &mut board, lines, out),
-        [_, ..] => answer_all(alloc, files, &mut board, asks, out),
+        [] => answer_lines(alloc, files, board, lines, out),
+        [_, ..] => answer_all(alloc, files, board, asks, out),
     }
 }
 

@@ -7,8 +7,10 @@
 //! The answer to each ends with a line `= ok`.
 #![tactic(auto)]
 
+mod adding;
 mod answers;
 mod asks;
+mod keeping;
 mod lines;
 mod look;
 mod views;

@@ -1,4 +1,5 @@
 use Rattle.std.proofs.Common.{inl, refl}
+use Rattle.tock_look.specs.Answers.{worlds_of}
 use Rattle.tock_look.proofs.Answering.{more, part, refused}
 use Rattle.tock_look.proofs.look.answer_all.Goals as goal
 
@@ -16,4 +17,4 @@ pub loop-ask-preserved : goal.loop-ask-preserved
 loop-ask-preserved g c =
     let whole = c.in-Whole.ensures in
     more c.loop-ask.invariant c.writes_compose.ensures c.ask-item.result c.loop-ask-test.true c.ask-item.is
-    c.args.files.now c.answer.new.out c.answer.new.board c.requires.opened whole.0 (whole.1 refl)
+    c.args.files.now c.answer.new.out (worlds_of c.answer.new.boards) c.requires.opened whole.0 (whole.1 refl)

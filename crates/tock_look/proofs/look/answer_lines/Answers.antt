@@ -1,10 +1,11 @@
 use Rattle.std.proofs.Common.{refl, ap, option_map, string_bytes}
+use Rattle.tock_look.specs.Answers.{worlds_of}
 use Rattle.tock_look.proofs.Conversing.{begins, ended, more, part, refused, too_many}
 use Rattle.tock_look.proofs.look.answer_lines.Goals as goal
 
 pub loop-init : goal.loop-init
 loop-init g c =
-    begins c.writes_compose.ensures c.args.out.now c.args.board.now (g.L.LineSource.lines c.args.lines.now)
+    begins c.writes_compose.ensures c.args.out.now c.args.board (g.L.LineSource.lines c.args.lines.now)
 
 pub returns-in_default : goal.returns-in_default
 returns-in_default g c =
@@ -28,7 +29,7 @@ loop-preserved g c =
     let whole = c.in-Whole.ensures in
     more c.loop.invariant c.writes_compose.ensures (g.L.LineSource.lines c.next_line.new.self)
     (string_bytes c.in-Some.line) (rw c.in-Some.is at c.next_line.ensures) c.args.files.now c.answer_line.new.out
-    c.answer_line.new.board c.requires.opened (rw c.as_str.ensures.value at whole.0)
+    (worlds_of c.answer_line.new.boards) c.requires.opened (rw c.as_str.ensures.value at whole.0)
     (rw c.as_str.ensures.value at (whole.1 refl))
 
 pub returns : goal.returns
