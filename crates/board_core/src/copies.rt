@@ -12,7 +12,7 @@ use script_text::TimedEvent;
 use std::alloc::Global;
 use tk_outside::NoMemory;
 
-/// The same processes again.
+/// The same processes again. The one error is want of memory.
 fn copied_processes(alloc: Global, processes: &[Process]) -> Result<Vec<Process>, NoMemory>
     ensures { IfOk result (λ copies. copies.items ≡ processes.now) }
 {

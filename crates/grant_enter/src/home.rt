@@ -51,7 +51,7 @@ impl Model for Home {
     ghost invariant = { IsHome };
 }
 
-/// The same seats again.
+/// The same seats again. The one error is want of memory.
 fn copied_seats(alloc: Global, seats: &[Seat]) -> Result<Vec<Seat>, NoMemory>
     ensures { IfOk result (λ copies. copies.items ≡ seats.now) }
 {
