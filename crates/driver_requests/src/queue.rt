@@ -44,6 +44,16 @@ impl<R> RequestQueue<R> {
         }
     }
 
+    /// The same again.
+    pub fn copied(&self) -> RequestQueue<R>
+        ensures { result ≡ self.now }
+    {
+        RequestQueue {
+            waiting: self.waiting.copied(),
+            requests: PhantomData,
+        }
+    }
+
     /// Those that wait, the one that waits longest first.
     pub fn as_slice(&self) -> &[Waiting]
         ensures { result.now ≡ self.now }

@@ -7,7 +7,7 @@ use std::marker::Model;
 use tk_base::{ProcessId, SLOT_COUNT, Slot};
 
 /// A process in a list. Contracts see its id.
-#[derive(Drop)]
+#[derive(Clone, Copy)]
 pub struct Waiting {
     /// By its slot, and the life in which it began to wait.
     pub id: ProcessId,
@@ -19,6 +19,8 @@ impl Model for Waiting {
     ghost Value = { ProcessId };
 
     ghost view = { λ w. w.id };
+
+    ghost inverse = { λ id. record { id = id } };
 }
 
 impl Default for Waiting {
@@ -68,6 +70,17 @@ impl WaitingList {
         WaitingList {
             ids: ArrayVec::new(),
         }
+    }
+
+    /// The same again.
+    pub fn copied(&self) -> WaitingList
+        ensures { result ≡ self.now }
+    {
+        let mut ids = ArrayVec::new();
+        let Ok(()) = ids.try_extend_from_slice(&self.ids) else {
+            unreachable!()
+        };
+        WaitingList { ids }
     }
 
     /// Puts a process last. It asks that none of its slot waits; then there is room.
