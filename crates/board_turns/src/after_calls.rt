@@ -1,5 +1,5 @@
 //! Which calls may change an alarm or ask anything of the devices.
-ghost use Rattle.std.specs.Prelude.{◌≡◌, None};
+ghost use Rattle.std.specs.Prelude.{◌≡◌, true, None};
 ghost use Rattle.kernel_alarms.specs.Acting.{may_have_acted, may_have_armed};
 
 use grant_values::Driver;
@@ -35,18 +35,15 @@ pub(crate) fn may_have_acted(emit: &Emit) -> bool
     }
 }
 
-/// Whether the call that a turn showed, if it showed one, may have changed what its process keeps
-/// for the alarm, or whether it lives: an exit or a command to the alarm that was not refused. A
-/// command that only asks the alarm something is none of these.
+/// Whether the call that a turn showed, which may have acted, may have changed what its process keeps
+/// for the alarm, or whether it lives: an exit or a command to the alarm.
 #[inline(always)]
 pub(crate) fn may_have_armed(emit: &Emit) -> bool
+    requires acted { may_have_acted emit.now.made None ≡ true }
     ensures { result ≡ may_have_armed emit.now.made None }
 {
     match &emit.made {
-        Some(made) => {
-            may_have_acted(emit)
-                && (made.class != COMMAND || made.args[0] == Driver::Alarm.number())
-        }
+        Some(made) => made.class != COMMAND || made.args[0] == Driver::Alarm.number(),
         None => false,
     }
 }

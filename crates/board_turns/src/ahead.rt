@@ -79,12 +79,14 @@ impl Machine {
         ensures calm { IsCalmUntil self.new self.new.calm }
         ensures rest { self.new ≡ record self.old { alarms = self.new.alarms; calm = self.new.calm } }
     {
-        if emit.denial.is_some() {
+        let denied = emit.denial.is_some();
+        if denied {
             self.alarms.forget(slot);
-        } else if may_have_armed(emit) {
-            self.note_alarm(slot);
         }
         if may_have_acted(emit) {
+            if !denied && may_have_armed(emit) {
+                self.note_alarm(slot);
+            }
             self.calm = self.look_ahead();
         }
     }
