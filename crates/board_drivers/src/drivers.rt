@@ -90,6 +90,27 @@ impl Drivers {
         })
     }
 
+    /// The same again. The one error is want of memory.
+    pub fn copied(&self, alloc: Global) -> Result<Drivers, NoMemory>
+        ensures { IfOk result (λ it. it ≡ self.now) }
+    {
+        let uarts = self.uarts.copied(alloc)?;
+        let arrivals = self.arrivals.copied(alloc)?;
+        let words = self.words.copied(alloc)?;
+        let stores = self.stores.copied(alloc)?;
+        Ok(Drivers {
+            console: self.console.copied(),
+            random: self.random.copied(),
+            storage: self.storage.copied(),
+            uarts,
+            leds: self.leds.copied(),
+            buttons: self.buttons.copied(),
+            arrivals,
+            words,
+            stores,
+        })
+    }
+
     /// The process of an id ended, or starts again: it waits in no list any more. Its alarm went
     /// with its grant.
     #[inline(always)]

@@ -29,6 +29,16 @@ pub struct ConsoleCapsule {
 }
 
 impl ConsoleCapsule {
+    /// The same again.
+    pub fn copied(&self) -> ConsoleCapsule
+        ensures { result ≡ self.now }
+    {
+        ConsoleCapsule {
+            writes: self.writes.copied(),
+            reads: self.reads.copied(),
+        }
+    }
+
     /// A command of the process of an id to the console: the reply, or the rule that refuses it.
     #[tactic(auto, unfolding(driver_model::specs::Console::commands))]
     fn obey(

@@ -23,6 +23,15 @@ pub struct RandomCapsule {
 }
 
 impl RandomCapsule {
+    /// The same again.
+    pub fn copied(&self) -> RandomCapsule
+        ensures { result ≡ self.now }
+    {
+        RandomCapsule {
+            waiting: self.waiting.copied(),
+        }
+    }
+
     /// A command of the process of an id to the source: the reply, or the rule that refuses it.
     #[tactic(auto, unfolding(driver_model::specs::Random::commands))]
     fn obey(

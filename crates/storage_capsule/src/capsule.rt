@@ -25,6 +25,15 @@ pub struct StorageCapsule {
 }
 
 impl StorageCapsule {
+    /// The same again.
+    pub fn copied(&self) -> StorageCapsule
+        ensures { result ≡ self.now }
+    {
+        StorageCapsule {
+            waiting: self.waiting.copied(),
+        }
+    }
+
     /// A command of the process of an id to the storage, of which a slot has `size` bytes: the
     /// reply, or the rule that refuses it.
     #[tactic(auto, unfolding(driver_model::specs::Storage::commands))]
