@@ -241,12 +241,12 @@ module _ (law : NextIsOfTheWindow) (turns : WindowsAreInTurn) where
   pub each_tick_is_its_turn : EachTickIsItsTurn
   each_tick_is_its_turn w n through =
       let ahead = (turns w.clock.time w.pace.window through.windows).ahead in
-      turns_to_end (slot_in_window w) (window_end_of w) n w (record {
+      sym (turns_to_end (slot_in_window w) (window_end_of w) n w (record {
         some = through.windows;
         within = omega (arith, ahead);
         slot_is = λ under. refl;
         end_is = λ under. refl;
-      }) through.below_limit through.ready through.reached
+      }) through.below_limit through.ready through.reached)
 
   -- a window that begins has all of its ticks ahead
   whole_ahead : (time n : ℕ) → time % n ≡ 0 → window_end time n ≡ time + n
