@@ -23,8 +23,13 @@ pub record AnswersSoFar {K : Type 0} (tells : K → SinkFacts) (old now : K) (op
   pub whole : answers_text opening asks ≡ done ++ answers_from opening here left
 
 module _ {K : Type 0} {tells : K → SinkFacts} where
-  pub begins : WritesCompose tells → (a : K) (w : World) (asks : List Ask) → AnswersSoFar tells a a w (opened w) asks asks
-  begins law a w asks = record { done = []; wrote = law.wrote_nothing a; whole = refl }
+  pub begins : WritesCompose tells → (a : K) (w : World) (kept : List World) (asks : List Ask) → kept ≡ []
+      → AnswersSoFar tells a a w (record { now = w; kept = kept }) asks asks
+  begins law a w kept asks none = record {
+    done = [];
+    wrote = law.wrote_nothing a;
+    whole = ap (λ (ks : List World). answers_from w (record { now = w; kept = ks }) asks) (sym none);
+  }
 
   module _ {old now : K} {opening : World} {here : Worlds} {asks : List Ask} {i : ℕ}
       (r : AnswersSoFar tells old now opening here asks (drop i asks)) (law : WritesCompose tells) where

@@ -64,13 +64,14 @@ pub record Converses {K : Type 0} (tells : K → SinkFacts) (old now : K) (openi
   pub wrote : WroteAll tells old now (answers_text opening (map line_ask given))
   pub there : here ≡ after_asks opening (opened opening) (map line_ask given)
 
-pub begins : {K : Type 0} {tells : K → SinkFacts} → WritesCompose tells → (a : K) (w : World)
-    (lines : Option (List (List ℕ))) → Converses tells a a w (opened w) lines lines
-begins law a w lines = record {
+pub begins : {K : Type 0} {tells : K → SinkFacts} → WritesCompose tells → (a : K) (w : World) (kept : List World)
+    (lines : Option (List (List ℕ))) → kept ≡ []
+    → Converses tells a a w (record { now = w; kept = kept }) lines lines
+begins law a w kept lines none = record {
   given = [];
   came = none_came lines;
   wrote = law.wrote_nothing a;
-  there = refl;
+  there = ap (λ (ks : List World). record { now = w; kept = ks }) none;
 }
   where
     none_came : (o : Option (List (List ℕ))) → Came o o []

@@ -1,6 +1,6 @@
 -- A line of a script that is added while a board runs. The rules are this tool's own.
 use Rattle.std.specs.Prelude.{◌≡◌, ℕ, ◌==◌, ◌&&◌, nat_le, not, Bool, if◌then◌else◌, List, [], ◌∷◌, ◌++◌, codes, decimal}
-use Rattle.std.specs.Prelude.{length, Result, Ok, Err, Unit}
+use Rattle.std.specs.Prelude.{length, Result, Ok, Err}
 use Rattle.tk_base.specs.declared.limits.TheConstants.{SCRIPT_LIMIT}
 use Rattle.script_text.specs.Reading.{Fault, reading}
 use Rattle.script_text.specs.Rules.{name_of_rule}

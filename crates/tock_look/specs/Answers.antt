@@ -1,5 +1,5 @@
 -- The answers to commands, by the worlds that the board shows. They are this tool's own.
-use Rattle.std.specs.Prelude.{◌≡◌, ℕ, List, [], ◌∷◌, ◌++◌, codes, is_some, slice_get, Some, Result, Ok, Err, Unit}
+use Rattle.std.specs.Prelude.{◌≡◌, ℕ, List, [], ◌∷◌, ◌++◌, codes, is_some, slice_get, Some, Result, Ok, Err}
 use Rattle.tk_outside.specs.declared.failed.Failed.{Failed}
 use Rattle.kernel_model.specs.World.{World}
 use Rattle.kernel_model.specs.Run.{round}

@@ -18,7 +18,7 @@ use Rattle.tock_look.specs.declared.asks.Limits.{Limits}
 use Rattle.tock_look.specs.declared.asks.Numbers.{Numbers}
 use Rattle.tock_look.specs.declared.asks.Numbers.TheVariants as numbers
 use Rattle.tock_look.specs.declared.asks.Places.{Places}
-use Rattle.tock_look.specs.declared.asks.TheConstants.{LAST_PLACE, LAST_SLOT, MOST_NUMBER}
+use Rattle.tock_look.specs.declared.asks.TheConstants.{LAST_PLACE, LAST_SLOT, LINE_LIMIT, MOST_NUMBER}
 
 -- the slot that a word names, and the number of steps that one gives
 abbrev pub slot_of : List ℕ → Option ℕ
@@ -162,12 +162,13 @@ asked other = None
 abbrev pub added_of : List ℕ → Option (List ℕ)
 added_of word = if nat_le 4 (length word) && bytes_eq (take 4 word) (codes "add ") then Some (drop 4 word) else None
 
-abbrev pub adding : List ℕ → Ask
-adding line = Add (record { items = line })
+-- the command that adds a line, which is not too long
+abbrev pub adding : List ℕ → Option Ask
+adding line = if nat_le (length line) LINE_LIMIT then Some (Add (record { items = line })) else None
 
 -- the command of a word: it adds a line, or its own words stand between blanks
 unfoldable pub ask_of : List ℕ → Option Ask
-ask_of word = option_map_or (λ line. Some (adding line)) (added_of word) (asked (slice_split (λ b. b == 32) word))
+ask_of word = option_map_or adding (added_of word) (asked (slice_split (λ b. b == 32) word))
 
 -- that of a line, which may be none
 abbrev pub line_ask : List ℕ → Ask

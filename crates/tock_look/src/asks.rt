@@ -21,6 +21,9 @@ const LAST_SLOT: u64 = 15;
 /// The number of the last place at which a board may be kept.
 const LAST_PLACE: u64 = 127;
 
+/// How many bytes a line may have that is added.
+pub const LINE_LIMIT: usize = 256;
+
 /// How the command begins that adds a line to a script.
 const ADD: &[u8] = b"add ";
 
@@ -55,8 +58,9 @@ pub enum Ask {
     /// `last S MOST WATCHED ADDRESSES`: at most so many steps, and where a goal would have stopped
     /// the board the last time.
     Last { most: u32, goal: Goal },
-    /// `add LINE`: the event of an `at` line of a script is still to come in.
-    Add { line: Vec<u8> },
+    /// `add LINE`: the event of an `at` line of a script is still to come in. The line has at most
+    /// [`LINE_LIMIT`] bytes.
+    Add { line: ArrayVec<u8, LINE_LIMIT> },
     /// `keep K`: the board is kept at a place, 0 to 127.
     Keep { place: usize },
     /// `return K`: the board is as it was kept at a place.
@@ -450,14 +454,14 @@ fn added_in(word: &[u8]) -> Option<&[u8]>
     if name == ADD { Some(line) } else { None }
 }
 
-/// The command that adds a line.
-fn adding(alloc: Global, line: &[u8]) -> Result<Ask, NoMemory>
-    ensures { IfOk result (λ ask. ask ≡ adding line.now) }
+/// The command that adds a line. None where the line is too long.
+fn adding(line: &[u8]) -> Option<Ask>
+    ensures { result ≡ adding line.now }
 {
-    let mut copy = Vec::new(alloc);
-    match copy.extend_from_slice(line) {
-        Ok(()) => Ok(Ask::Add { line: copy }),
-        Err(_) => Err(NoMemory),
+    let mut copy = ArrayVec::new();
+    match copy.try_extend_from_slice(line) {
+        Ok(()) => Some(Ask::Add { line: copy }),
+        Err(_) => None,
     }
 }
 
@@ -467,7 +471,7 @@ fn ask_in(alloc: Global, word: &str) -> Result<Option<Ask>, NoMemory>
     ensures { IfOk result (λ ask. ask ≡ ask_of word.now) }
 {
     if let Some(line) = added_in(word.as_bytes()) {
-        return Ok(Some(adding(alloc, line)?));
+        return Ok(adding(line));
     }
     match pieces_of(alloc, word) {
         Ok(pieces) => asked(alloc, &pieces),

@@ -1,5 +1,5 @@
 //! Boards that are kept, so that one may be returned to.
-ghost use Rattle.std.specs.Prelude.{◌≡◌, IfOk, OnErr, OnOk, is_some};
+ghost use Rattle.std.specs.Prelude.{◌≡◌, IfOk, OnOk, is_some, slice_get};
 ghost use Rattle.tk_outside.specs.Writes.{Writes};
 ghost use Rattle.tock_look.specs.Keeping.{found_line, kept_with, kept_after, returned};
 

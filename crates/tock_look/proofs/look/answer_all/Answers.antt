@@ -1,7 +1,12 @@
 use Rattle.std.proofs.Common.{inl, refl}
 use Rattle.tock_look.specs.Answers.{worlds_of}
-use Rattle.tock_look.proofs.Answering.{more, part, refused}
+use Rattle.tock_look.proofs.Answering.{begins, more, part, refused}
 use Rattle.tock_look.proofs.look.answer_all.Goals as goal
+
+pub loop-ask-init : goal.loop-ask-init
+loop-ask-init g c =
+    begins c.writes_compose.ensures c.args.out.now c.args.board c.new-kept.result.items c.args.asks.now
+    c.new-kept.ensures.items
 
 pub returns-in-SinkFailed : goal.returns-in-SinkFailed
 returns-in-SinkFailed g c =

@@ -5,7 +5,8 @@ use Rattle.tock_look.proofs.look.answer_lines.Goals as goal
 
 pub loop-init : goal.loop-init
 loop-init g c =
-    begins c.writes_compose.ensures c.args.out.now c.args.board (g.L.LineSource.lines c.args.lines.now)
+    begins c.writes_compose.ensures c.args.out.now c.args.board c.new-kept.result.items
+    (g.L.LineSource.lines c.args.lines.now) c.new-kept.ensures.items
 
 pub returns-in_default : goal.returns-in_default
 returns-in_default g c =
