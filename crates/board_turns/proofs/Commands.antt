@@ -198,15 +198,6 @@ is_served strict slot home home' p p' call GoesOn s n = s
 is_served strict slot home home' p p' call Ended s n = s
 is_served strict slot home home' p p' call Again s n = s
 
--- what was left of a call is known by other names
-pub finishes_as : (slot : ℕ) (x y z : Machine) (call : CallForm) (o u : Outcome) (r : Resident) (p q : Process)
-    → y ≡ z → p ≡ q → o ≡ u → Finishes slot x z call u r (resident z.home slot q)
-    → Finishes slot x y call o r (resident y.home slot p)
-finishes_as slot x y z call o u r p q at same out finish =
-    subst (λ (left : Machine × Process × Outcome).
-    Finishes slot x left.0 call left.2 r (resident left.0.home slot left.1))
-    (λ i. (sym at i, sym same i, sym out i)) finish
-
 -- a call that was left to its driver began as the kernel's
 pub finishes_left : (slot : ℕ) (x y : Machine) (h : Homes) (p q : Process) (s : Resident) (call : CallForm)
     (o : Outcome) → IsLeft x.moment.settings.strict x.home h p q call

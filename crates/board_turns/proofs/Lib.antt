@@ -5,6 +5,7 @@ pub mod Sight
 pub mod Turns
 pub mod Quiet
 pub mod Stopped
+mod Staying
 mod Replies
 pub mod Denied
 pub mod TurnsKept

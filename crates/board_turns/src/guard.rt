@@ -1,13 +1,16 @@
 //! The one protection register file.
-ghost use Rattle.std.specs.Prelude.{◌≡◌, ◌<◌, None, length};
+ghost use Rattle.std.specs.Prelude.{◌≡◌, ◌<◌, false, None, length};
 ghost use Rattle.process_layout.specs.Bounds.{bounds_of};
 ghost use Rattle.board_memory.specs.Registers.{Protect};
 ghost use Rattle.grant_enter.specs.Homes.{own_of};
-ghost use Rattle.board_turns.specs.Guards.{GuardsOnly, GuardsOthers, IsSetFor};
+ghost use Rattle.syscall_abi.specs.Forms.{form_of};
+ghost use Rattle.board_turns.specs.Guards.{DiffersInMark, GuardsOnly, GuardsOthers, IsSetFor};
+ghost use Rattle.board_turns.specs.Guards.{may_move};
 
 use grant_enter::Home;
 use pmp_regions::Pmp;
 use process_layout::Layout;
+use syscall_abi::Call;
 use tk_base::Slot;
 
 /// The board's protection registers (RISC-V privileged manual, "Physical Memory Protection"), and
@@ -84,6 +87,23 @@ impl ActivePmp {
         let same_ram = layout.start == before.start && layout.brk == before.brk;
         if !(same_flash && same_ram) {
             home.protect(slot, &mut self.pmp);
+        }
+    }
+
+    /// Sets the registers again for the process in a slot after it made a call: a memop may have moved
+    /// what it may access, and an exit, by which it starts again. It asks that no other call has.
+    // Inlined: most calls are none of these two.
+    #[inline(always)]
+    pub fn refresh_after(&mut self, call: &Call, home: &Home, slot: Slot, before: &Layout)
+        requires slot { slot < length home.now.owns }
+        requires set { Protect self.old.pmp (bounds_of before.now) }
+        requires stays { may_move (form_of call.now) ≡ false
+            → DiffersInMark (bounds_of before.now) (own_of home.now slot).layout }
+        ensures slot { self.new.slot ≡ self.old.slot }
+        ensures protect { Protect self.new.pmp (own_of home.now slot).layout }
+    {
+        if let Call::Memop { .. } | Call::Exit { .. } = call {
+            self.refresh(home, slot, before);
         }
     }
 }

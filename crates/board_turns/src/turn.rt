@@ -199,6 +199,33 @@ impl Machine {
         give_reply(process, reply, rule)
     }
 
+    /// Has the kernel serve a system call, and its driver a command that is left to it. The registers
+    /// stay as they are.
+    #[inline(always)]
+    fn finish_call(&mut self, process: &mut Process, slot: Slot, call: &Call) -> Outcome
+        requires turn { InTurn slot self.old (resident self.old.home slot process.old) }
+        requires may { MayServe self.old.moment self.old.drivers slot (own_of self.old.home slot) }
+        ensures serves { Finishes slot self.old self.new (form_of call.now) result
+            (resident self.old.home slot process.old) (resident self.new.home slot process.new) }
+        ensures seated { IsResident self.old.home.flash (self.old.moment.steps + 1)
+            (resident self.new.home slot process.new) }
+        ensures only { ChangesOnly slot self.old.home self.new.home }
+        ensures rest { self.new
+            ≡ record self.old { home = self.new.home; drivers = self.new.drivers } }
+    {
+        let life = process.restarts;
+        let id = ProcessId { slot, life };
+        let strict = self.moment.settings.strict;
+        match kernel_call(&mut self.home, process, slot, call, strict) {
+            Outcome::ToDriver => self.command_driver(process, slot, call),
+            gone @ (Outcome::Ended | Outcome::Again) => {
+                self.drivers.gone(&id);
+                gone
+            }
+            outcome => outcome,
+        }
+    }
+
     /// Serves a system call, and protects the process as its layout is afterwards.
     fn serve(&mut self, process: &mut Process, slot: Slot, call: &Call) -> Outcome
         requires turn { InTurn slot self.old (resident self.old.home slot process.old) }
@@ -208,19 +235,10 @@ impl Machine {
         ensures leaves { LeavesMachine 1 slot self.old self.new
             (resident self.new.home slot process.new) }
     {
+        commands_stay_in_place();
         let layout = self.home.layout(slot);
-        let life = process.restarts;
-        let id = ProcessId { slot, life };
-        let strict = self.moment.settings.strict;
-        let outcome = match kernel_call(&mut self.home, process, slot, call, strict) {
-            Outcome::ToDriver => self.command_driver(process, slot, call),
-            gone @ (Outcome::Ended | Outcome::Again) => {
-                self.drivers.gone(&id);
-                gone
-            }
-            outcome => outcome,
-        };
-        self.guard.refresh(&self.home, slot, &layout);
+        let outcome = self.finish_call(process, slot, call);
+        self.guard.refresh_after(call, &self.home, slot, &layout);
         outcome
     }
 
