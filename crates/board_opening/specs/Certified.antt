@@ -1,6 +1,6 @@
 -- Laws of each run from a boot, by any choices. They speak of a process and its grants (Levy et al., SOSP 2017, section
 -- 4), of its calls, upcalls and buffers (TRD 104, "Yield", "Subscribe", "Read-Only Allow").
-use Rattle.std.specs.Prelude.{◌≡◌, ◌≢◌, ◌↔◌, ◌≤◌, ◌<◌, ℕ, ◌+◌, true, false, replicate, List, [], ◌∷◌, ◌++◌, length}
+use Rattle.std.specs.Prelude.{◌≡◌, ◌≢◌, ◌↔◌, ◌<◌, ℕ, ◌+◌, true, false, replicate, List, [], ◌∷◌, ◌++◌, length}
 use Rattle.std.specs.Prelude.{slice_get, All, Some, None, IfSome}
 use Rattle.tk_base.specs.declared.process.Choice.{Choice}
 use Rattle.tk_base.specs.declared.process.Choice.TheVariants.{Pass}

@@ -434,7 +434,7 @@ none_fits_two fits = omega (arith, fits)
 
 -- A process that may not access what lies below 8: a load there, which is denied; and one of a word at 10.
 abbrev denies_low : Denies
-denies_low access at width = if nat_lt at 8 then Some NoRegion else None
+denies_low access at width = cond (nat_lt at 8) (Some NoRegion) None
 
 allows_load : IsAllowed denies_low (record { access = Load; address = 8; width = Word })
 allows_load = refl
