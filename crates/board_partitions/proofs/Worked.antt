@@ -107,7 +107,8 @@ edge_is_no_act = refl
 none_acts : IsNoAct (record { time = 5; kind = script.Act StopIt (45 ∷ []) }) → ⊥
 none_acts is = cc
 
--- A turn of one board alone at time 5: up to there the same is told; a kernel in which it hangs on what another slot has.
+-- A turn of one board alone at time 5: up to there the same is told; a kernel in which it hangs on what another slot
+-- has.
 abbrev at_five : Moment
 at_five = record { at = 5; label = turn_label 0 5 untraced }
 

@@ -41,8 +41,8 @@ HasNoTurn slot w [] = Unit
 HasNoTurn slot w (choice ∷ choices) =
     (told_in slot w choice ≡ []) × (is_ended_in slot w choice ≡ false) × HasNoTurn slot (after w choice) choices
 
--- a turn from one record to another, whose call asks for the upcall of a driver and a number alone, of which none waits,
--- has the process wait for it
+-- a turn from one record to another, whose call asks for the upcall of a driver and a number alone, of which none
+-- waits, has the process wait for it
 abbrev pub WaitsForIt : ℕ → ℕ → Record → Record → TurnTrace → Type 0
 WaitsForIt driver number r s told =
     takes (wait_of r) told.call ≡ FirstOf driver number → wait_of s ≡ Some (For driver number)

@@ -34,7 +34,8 @@ AlarmsComeFirst =
     (w : World) (choice : Choice) (slot : ℕ) (r : Record) → length w.records ≤ SLOT_COUNT →
     next w ≡ Some choice → WaitsForAlarm w choice slot r
 
--- so many ticks are no more than are left until the alarm of the process in a slot becomes due, where that may be served
+-- so many ticks are no more than are left until the alarm of the process in a slot becomes due, where that may be
+-- served
 abbrev pub StopsAtAlarm : World → ℕ → ℕ → Record → Type 0
 StopsAtAlarm w ticks slot r =
     slice_get w.records slot ≡ Some r → is_let (only_in w) slot ≡ true →

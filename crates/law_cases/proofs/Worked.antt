@@ -475,8 +475,8 @@ same_turn = refl
 none_sees_more : IsTheSameTurn unfetched (record unfetched { regs = cleared 4 }) → ⊥
 none_sees_more same = let pc = ap (λ (t : UserTurn). t.regs.pc) same in omega (arith, pc)
 
--- A word in its bytes, the lowest first; one whose bytes stand in another order, or that takes three; and words that are
--- more than the bytes have.
+-- A word in its bytes, the lowest first; one whose bytes stand in another order, or that takes three; and words that
+-- are more than the bytes have.
 reads_back : AreReadBack (5 ∷ []) (5 ∷ 0 ∷ 0 ∷ 0 ∷ [])
 unfolding words_of
 reads_back = refl
