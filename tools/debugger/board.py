@@ -14,7 +14,15 @@ AT_ONCE = 256
 
 
 class Refused(Exception):
-    """The board was not made, or a command was not understood."""
+    """The board was not made, or a command was not done."""
+
+
+class NotDone(Refused):
+    """A command that tock_look answers with other words than `ok`."""
+
+    def __init__(self, command, words):
+        super().__init__("tock_look does not do the command %s: %s" % (command, " ".join(words)))
+        self.words = words
 
 
 def find_look():
@@ -122,7 +130,7 @@ class Board:
             if line == "= ok":
                 return lines
             if line.startswith("= "):
-                raise Refused("tock_look does not know the command %s" % command)
+                raise NotDone(command, line.split()[1:])
             lines.append(line)
         raise Refused(" ".join(lines) or "tock_look ended")
 

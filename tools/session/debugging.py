@@ -43,7 +43,7 @@ def debug(sitting, programs, slot):
     # An interrupt is GDB's, and not this program's.
     handler = signal.signal(signal.SIGINT, signal.SIG_IGN)
     try:
-        return subprocess.call(words_of(sitting, sitting.path, programs, slot),
+        return subprocess.call(words_of(sitting, sitting.written(sitting.text()), programs, slot),
                                preexec_fn=lambda: signal.signal(signal.SIGINT, signal.SIG_DFL))
     finally:
         signal.signal(signal.SIGINT, handler)

@@ -1,70 +1,117 @@
 """A board whose script is still being written: where it is, and what it told on the way.
 
-The present is a time. Each step that was made began before it, and ended at it or before: so a line of the script of
-that time, or of a later one, changes none of them, and the run of the longer script begins with the same steps. A pass
-that would end later is not made yet: it ends sooner where a line comes.
+The present is a time. Each step that was made began before it, and ended at it or before. What a person does comes in
+at the present, or one tick later where the board's own time is the present already: so it changes none of the steps
+that were made. A pass that would end later than the present is not made yet: it ends sooner where an event comes.
 """
 
-from debugger.board import Board, MOST, Refused
+from debugger.board import MOST, Refused
+from session.kept import NEAREST, Kept, KeepingBoard, KeptBoards, in_order
 
 # As many steps as `tock boot` makes at most.
 MOST_STEPS = 1000000000
 
 
-class Present:
-    """A board of tock_look that goes on to a time, and what its steps told but for their calls."""
+class BrokenRule(Exception):
+    """An event that the board does not take, and the script's word of the rule that it breaks."""
 
-    def __init__(self, look, flash):
-        self.look, self.flash = look, flash
-        self.board = None
-        self.steps = self.time = self.now = 0
-        self.lines = []
+    def __init__(self, event, rule):
+        super().__init__(rule)
+        self.event, self.rule = event, rule
+
+
+class Present:
+    """A board of tock_look that goes on to a time, with the events of its script and others, and what its steps told
+    but for their calls."""
+
+    def __init__(self, look, flash, script):
+        self.board, self.events = KeepingBoard(look, flash, script, is_apart=True), []
+        self.now, self.lines = 0, []
+        self.kept = KeptBoards(self.board)
+        try:
+            self.board.moved(self.board.ask("to", 0, 0, 0))
+            if self.board.told is None:
+                raise Refused("no slot has a process: `./tock list` tells why")
+        except BaseException:
+            self.end()
+            raise
+
+    def begin(self, events):
+        """Tells which events the script has; the board is kept as it is at the start."""
+        self.events = events
+        self.kept.keep(events)
+
+    @property
+    def steps(self):
+        return self.board.steps
+
+    @property
+    def time(self):
+        """The board's own time."""
+        return self.board.told.time
+
+    @property
+    def next(self):
+        """The time at which what a person does now comes in."""
+        return self.now if self.here().is_before(self.now) else self.time + 1
 
     @property
     def is_full(self):
         return self.steps >= MOST_STEPS
 
-    def begin(self, script, now):
-        """Makes the board anew by a script that is the same before a time, and brings it to that time, which was the
-        present or came before it. Where the script is refused all stays as it was."""
-        board = Board(self.look, self.flash, script, is_apart=True)
-        try:
-            board.moved(board.ask("to", 0, now, MOST_STEPS))
-            if board.told is None:
-                raise Refused("no slot has a process: `./tock list` tells why")
-        except BaseException:
-            board.stop()
-            raise
-        self.end()
-        self.board = board
-        self.stand(now)
+    def here(self):
+        return Kept(self.board.told, self.events)
 
-    def stand(self, now):
-        """The board is at a time, up to which it was before; what was told later is not told yet."""
-        self.steps, self.time, self.now = self.board.steps, self.board.told.time, now
+    def bring(self, events, now):
+        """Has the board have other events, which are the same before a time, and be at that time, which is the present
+        or came before it. Where one of them breaks a rule all stays as it was."""
+        before = self.events, self.now, self.steps
+        try:
+            self.stand(events, now, self.steps)
+        except BrokenRule:
+            self.stand(*before)
+            raise
+        # What was told later is not told yet.
         while self.lines and time_of(self.lines[-1]) >= now:
             self.lines.pop()
 
-    def go_back(self, now):
-        """Goes back to a time."""
-        self.board.boot()
-        self.board.moved(self.board.ask("to", 0, now, MOST_STEPS))
-        self.stand(now)
+    def stand(self, events, now, most):
+        """Has the board have these events, and be at a time, after at most so many steps."""
+        missing = self.here().missing(events) if now == self.now else None
+        if missing is None:
+            kept, missing = self.kept.last_before(now, most, events)
+            self.board.return_to(kept.place, kept.told)
+            self.events = kept.events
+        for number, event in enumerate(missing):
+            rule = self.board.add(event.lines[-1].rstrip("\n"))
+            if rule:
+                self.events = in_order(self.events + missing[:number])
+                raise BrokenRule(event, rule)
+        self.events = events
+        self.board.moved(self.board.ask("to", 0, now, most - self.steps))
+        self.now = now
 
     def go_to(self, now):
-        """Goes on to a time, which becomes the present, or as far as the board goes."""
+        """Goes to a time, which becomes the present: back, or on as far as the board goes."""
         now = min(now, MOST)
-        if now > self.now and not self.is_full:
+        if now < self.now:
+            self.bring(self.events, now)
+        elif now > self.now and not self.is_full:
             self.make(now, MOST_STEPS - self.steps)
             self.now = self.time + 1 if self.is_full else now
 
     def make(self, time, count):
         """Makes the steps that begin before a time and end at it or before, at most so many, and keeps what they told;
         how many were made."""
-        before = self.steps
-        self.lines += self.board.moved(self.board.ask("told", 0, time, count))[1]
-        self.steps, self.time = self.board.steps, self.board.told.time
-        return self.steps - before
+        first, last = self.steps, self.steps + count
+        while self.steps < last:
+            end = min(last, (self.steps // NEAREST + 1) * NEAREST)
+            self.lines += self.board.moved(self.board.ask("told", 0, time, end - self.steps))[1]
+            if self.steps < end:
+                break
+            if end % NEAREST == 0:
+                self.kept.keep(self.events)
+        return self.steps - first
 
     def step(self, count):
         """Makes so many steps, or as many as are left, whatever the time is then."""
@@ -74,18 +121,14 @@ class Present:
         if count and self.make(MOST, 1):
             self.now = max(self.now, began + 1, self.time)
         elif made:
-            # Fewer were left: that the last of them began before this time is seen by going to it once more.
-            self.board.boot()
-            self.board.moved(self.board.ask("to", 0, self.time, MOST_STEPS))
-            self.now = max(self.now, self.time + (self.board.steps < self.steps))
-            self.board.seek(0, self.steps)
+            # Fewer were left, and the last of them began at this time at the latest.
+            self.now = max(self.now, self.time + 1)
 
     def state(self):
         return self.board.state()
 
     def end(self):
-        if self.board:
-            self.board.stop()
+        self.board.stop()
 
 
 def time_of(line):

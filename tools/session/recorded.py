@@ -3,6 +3,8 @@
 import os
 import shutil
 
+from session.kept import in_order
+
 # A line in front that tells how far the session went.
 HEADING = "# tools/live: with --turns %d this is the session up to time %d\n"
 
@@ -54,8 +56,11 @@ class Recorded:
         where this is asked for."""
         now = made[0].made
         kept = [event for event in self.events if not drops_later or event.made is None or event.made <= now]
-        # Sorting keeps the order of those of one time.
-        return sorted(kept + made, key=lambda event: event.time)
+        return in_order(kept + made)
+
+    def line_number(self, events, event):
+        """The number of the line of one of these events in the script that has them."""
+        return len(self.settings) + sum(len(other.lines) for other in events[:events.index(event) + 1])
 
     def number(self, name, other):
         """The number of a setting, or another one where it is not there."""

@@ -15,8 +15,6 @@ from session.view import SECOND
 
 # Seconds between two pictures, and the most of them that the board makes up for.
 FRAME, MOST_BEHIND = 0.04, 0.25
-# From how many steps on a person is told that the board runs again.
-LONG = 30000000
 MOST_PACE, LEAST_PACE = 1000000, 0.001
 # How many typed lines are kept.
 KEPT_LINES = 200
@@ -154,7 +152,7 @@ class Screen:
 
     def pressed(self, key, was_asked):
         if isinstance(key, str) and key.isdecimal() and key.isascii():
-            is_down = int(key) in self.sitting.recorded.pressed(self.present.now)
+            is_down = int(key) in self.sitting.recorded.pressed(self.present.next)
             self.do("%s %s" % ("release" if is_down else "press", key))
         elif key == "q" and was_asked:
             self.sitting.is_over = True
@@ -197,15 +195,9 @@ class Screen:
         if line.strip() == "help":
             self.view.help = True
             return
-        if self.present.steps > LONG:
-            self.view.said = "running again ..."
-            self.paint()
-        began = time.monotonic()
         try:
             told = self.sitting.do(line)
             self.view.said = "; ".join(told[:3]) or line.strip()
-            if time.monotonic() - began > 0.2:
-                self.view.said += " (%.1f s)" % (time.monotonic() - began)
         except Refused as refused:
             self.view.said = str(refused)
 

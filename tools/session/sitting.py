@@ -8,7 +8,7 @@ import sys
 import tempfile
 
 from debugger.board import Refused
-from session.present import MOST_STEPS, Present
+from session.present import MOST_STEPS, BrokenRule, Present
 from session.recorded import HEADING, Event, Recorded, write_whole
 
 TOOLS = os.path.dirname(os.path.dirname(os.path.abspath(__file__)))
@@ -48,19 +48,16 @@ def script_tool():
 SCRIPT = script_tool()
 
 
-def reason_of(text, refused):
-    """Why tock_look refused a script, in words, where it did."""
-    words = refused.split()
-    if len(words) != 3 or words[0] != "script":
-        return refused
+def reason_of(text, number, rule):
+    """Why a script is refused, by the number of a line and the script's word of the rule that this breaks."""
     if os.path.join(TOOLS, "told") not in sys.path:
         sys.path.insert(0, os.path.join(TOOLS, "told"))
     from scripts import REASONS
-    lines = [(number, line.split()) for number, line in enumerate(text.split("\n"), 1)]
-    lines = [(number, line) for number, line in lines if line and not line[0].startswith("#")]
-    line = next(line for number, line in lines if number == int(words[1]))
-    before = [found for found in lines if found[0] < int(words[1])]
-    return "line %s of the script is refused: %s: %s" % (words[1], words[2], REASONS[words[2]](line, before))
+    lines = [(place, line.split()) for place, line in enumerate(text.split("\n"), 1)]
+    lines = [(place, line) for place, line in lines if line and not line[0].startswith("#")]
+    line = next(line for place, line in lines if place == number)
+    before = [found for found in lines if found[0] < number]
+    return "line %d of the script is refused: %s: %s" % (number, rule, REASONS[rule](line, before))
 
 
 def ticks_of(word):
@@ -86,35 +83,41 @@ class Sitting:
         if script is not None:
             with open(script, encoding="latin-1", newline="\n") as file:
                 text = file.read()
-        self.recorded, self.present = Recorded(""), Present(look, image)
         self.folder = tempfile.TemporaryDirectory(prefix="live-")
-        # The script by which the board runs.
-        self.path = os.path.join(self.folder.name, "session.script")
         try:
-            self.run_by(text, 0)
+            self.present = self.opened(look, text)
         except BaseException:
-            self.close()
+            self.folder.cleanup()
             raise
         # What the program takes can be read.
         self.recorded = Recorded(text)
+        self.present.begin(self.recorded.events)
 
     # The script.
 
-    def run_by(self, text, now):
-        """Has the board run by a script, up to a time; where that is refused all stays as it was."""
-        longer = os.path.join(self.folder.name, "longer.script")
-        with open(longer, "w", encoding="latin-1", newline="\n") as file:
-            file.write(text)
+    def opened(self, look, text):
+        """The board of a script, at its start."""
         try:
-            self.present.begin(longer, now)
+            return Present(look, self.image, self.written(text))
         except Refused as refused:
-            raise Refused(reason_of(text, str(refused))) from None
-        os.replace(longer, self.path)
+            words = str(refused).split()
+            if len(words) != 3 or words[0] != "script":
+                raise
+            raise Refused(reason_of(text, int(words[1]), words[2])) from None
+
+    def written(self, text):
+        """A file with a script, for a program that reads it."""
+        path = os.path.join(self.folder.name, "session.script")
+        write_whole(path, text)
+        return path
 
     def change(self, events, now):
-        """The script has these events, and the board is run by it, up to a time; tells where it is to be saved and
-        cannot."""
-        self.run_by(self.recorded.text(events), now)
+        """The script has these events, and the board is at a time; tells where it is to be saved and cannot."""
+        try:
+            self.present.bring(events, now)
+        except BrokenRule as broken:
+            number = self.recorded.line_number(events, broken.event)
+            raise Refused(reason_of(self.recorded.text(events), number, broken.rule)) from None
         self.recorded.events, self.is_saved, self.is_changed = events, False, True
         if self.out is None:
             return []
@@ -126,10 +129,10 @@ class Sitting:
 
     def make(self, word, rest):
         """What a person does at the board; the lines that the script has for it, and how many it lost."""
-        now = self.present.now
+        now, comes = self.present.now, self.present.next
         try:
             made = [Event(event.time, ["at %d %s\n" % (event.time, event.says)], now)
-                    for event in SCRIPT.done(now, word, rest, 1)]
+                    for event in SCRIPT.done(comes, word, rest, 1)]
         except SCRIPT.Wrong as wrong:
             raise Refused(str(wrong)) from None
         except UnicodeEncodeError:
@@ -175,20 +178,14 @@ class Sitting:
 
     # Time.
 
-    def go_to(self, now):
-        if now < self.present.now:
-            self.present.go_back(now)
-        else:
-            self.present.go_to(now)
-
     def run(self, ticks):
-        self.go_to(self.present.now + ticks_of(ticks))
+        self.present.go_to(self.present.now + ticks_of(ticks))
 
     def back(self, ticks):
-        self.go_to(max(0, self.present.now - ticks_of(ticks)))
+        self.present.go_to(max(0, self.present.now - ticks_of(ticks)))
 
     def to(self, time):
-        self.go_to(ticks_of(time))
+        self.present.go_to(ticks_of(time))
 
     def step(self, count="1"):
         if not (count.isascii() and count.isdecimal()):

@@ -47,7 +47,7 @@ class View:
     def cells(self, height, width):
         """The screen, in so many rows and columns."""
         self.state = self.present.state()
-        self.console.take_in(self.present.lines, self.sitting.recorded.events, self.present.now)
+        self.console.take_in(self.present.lines, self.sitting.recorded.events, self.present.next)
         cells = Cells(height, width)
         if self.help:
             for row, line in enumerate((KEYS + "\n" + HELP).split("\n")):
@@ -90,7 +90,7 @@ class View:
             cells.put(row, column, text, LED_ON if led == "1" else FAINTLY)
             column += len(text) + 1
         count = self.sitting.recorded.number("buttons", 0)
-        pressed = self.sitting.recorded.pressed(self.present.now)
+        pressed = self.sitting.recorded.pressed(self.present.next)
         column = 9
         for number in range(count):
             text = "[%d]" % number
