@@ -1,6 +1,6 @@
 """Checks of tools/live, which asks tock_look: that the script of a session gives that session again, byte for byte, on
-the program, also after going back, and is saved at each event; what is shown. `checks` gives each with its name, for
-tests/run; terminals.py has those on a terminal."""
+the program, also after going back, and is saved at each event; what is shown, and what it costs. `checks` gives each
+with its name, for tests/run; terminals.py has those on a terminal."""
 
 import os
 import random
@@ -8,6 +8,7 @@ import re
 import subprocess
 import sys
 import tempfile
+import time
 
 import terminals
 from cases.case import REPOSITORY
@@ -17,6 +18,7 @@ sys.path.insert(0, os.path.join(REPOSITORY, "tools"))
 from debugger.board import Board, Refused, find_look
 from session.cells import Cells, cut, parts_of, picture_of, width_of
 from session.console import Console
+from session.kept import FARTHEST, PLACES, KeptBoards
 from session.plain import Plain
 from session.recorded import Event, Recorded
 from session.sitting import DEEDS, Sitting
@@ -30,13 +32,20 @@ SESSIONS = [("echo", ""), ("press", "buttons 2\n"), ("lights", ""), ("together",
             ("beside_hostile", "policy threshold 2\nbuttons 1\n"), ("words", "uart 0\n"),
             ("clock", "start 4294967000\n"), ("logger", "slice 7\n# a comment\nat 300 do list logger\n")]
 COMMANDS = 40
-# How many steps one by one `places` are looked at, and how many times.
-PLACES, TIMES = 3000, 30
+# How many steps one by one `times_as_told` looks at, and how many times.
+STEPS, TIMES = 3000, 30
+# After how many steps boards are kept in a session of few steps, about the present and all over.
+NEAR, FAR = 40, 640
+# How far a session goes of which the costs are looked at, and the seconds that an event and going back take at most, on
+# a machine that does little else.
+DEEP, EVENT_SECONDS, BACK_SECONDS = 30000000, 0.1, 1.5
 
 
 def sitting_at(folder, image, script):
     write(folder, "given", script)
-    return Sitting(find_look(), IMAGE % image, os.path.join(folder, "given"), os.path.join(folder, "saved"))
+    sitting = Sitting(find_look(), IMAGE % image, os.path.join(folder, "given"), os.path.join(folder, "saved"))
+    sitting.present.kept.nearest, sitting.present.kept.farthest = NEAR, FAR
+    return sitting
 
 
 def chance_command(chance, sitting):
@@ -100,7 +109,7 @@ def times_of(image, script):
     """The times before and after each of the first steps of a run."""
     board = Board(find_look(), IMAGE % image, script)
     times = [0]
-    for answer in board.ask_all(["steps 0 1"] * PLACES):
+    for answer in board.ask_all(["steps 0 1"] * STEPS):
         board.moved(answer)
         times += [board.told.time] if board.steps == len(times) else []
     board.end()
@@ -134,7 +143,7 @@ def changed_by_event(folder, sitting):
     """Whether an event in the present changes the steps that were made."""
     here = sitting.present
     write(folder, "longer", sitting.recorded.text(sitting.recorded.with_events(
-        [Event(here.now, ["at %d input 7a\n" % here.now], here.now)], True)))
+        [Event(here.next, ["at %d input 7a\n" % here.next], here.now)], True)))
     board = Board(find_look(), sitting.image, os.path.join(folder, "longer"))
     board.seek(0, here.steps)
     told, own = board.ask("state"), here.board.ask("state")
@@ -156,6 +165,120 @@ def events_at_each_step(program):
                     wrong = "%s after %d steps, at %d" % (image, sitting.present.steps, sitting.present.now)
                     break
             sitting.close()
+        if wrong:
+            return wrong
+    return None
+
+
+class Counted:
+    """The commands that the board of a session gets, and how many steps it makes by them."""
+
+    def __init__(self, board):
+        self.board, self.asks, self.commands, self.steps = board, board.ask, [], 0
+        board.ask = self.ask
+
+    def ask(self, *words):
+        answer = self.asks(*words)
+        self.commands.append(words[0])
+        if words[0] == "to":
+            self.steps += int(answer[-1].split()[1]) - self.board.steps
+        return answer
+
+    def of(self, does):
+        """What a deed takes: commands, steps, and seconds."""
+        self.commands, self.steps, began = [], 0, time.monotonic()
+        does()
+        return self.commands, self.steps, time.monotonic() - began
+
+
+def costs(program):
+    """An event is one command to the board, however many steps it made; going back makes few of them again. Where
+    nothing else is done both are done at once."""
+    with tempfile.TemporaryDirectory() as folder:
+        write(folder, "given", "")
+        sitting = Sitting(find_look(), IMAGE % "crunch", os.path.join(folder, "given"), None)
+        try:
+            sitting.do("to %d" % DEEP)
+            if sitting.present.steps < DEEP // 2:
+                return "makes %d steps alone" % sitting.present.steps
+            counted = Counted(sitting.present.board)
+            commands, steps, event_took = counted.of(lambda: sitting.do("type x"))
+            if (commands, steps) != (["add"], 0):
+                return "an event: %s, %d steps" % (commands, steps)
+            for ticks in (1, 1000, 1000000, DEEP // 3, DEEP // 3):
+                commands, steps, took = counted.of(lambda: sitting.do("back %d" % ticks))
+                if commands[0] != "return" or steps > FARTHEST or is_quiet() and took > BACK_SECONDS:
+                    return "back by %d: %s, %d steps, %.3f s" % (ticks, commands, steps, took)
+            return "an event took %.3f s" % event_took if is_quiet() and event_took > EVENT_SECONDS else None
+        finally:
+            sitting.close()
+
+
+def is_quiet():
+    """Whether the machine does little else, so that times tell something."""
+    return os.getloadavg()[0] < os.cpu_count() / 2
+
+
+class AnyBoard:
+    """A board of so many steps that is kept anywhere."""
+
+    def __init__(self):
+        self.steps, self.told, self.places = 0, None, set()
+
+    def keep(self, place):
+        self.places.add(place)
+
+
+def kept_boards(program):
+    """There are places for the boards that are kept, up to a billion steps and also after going back; the next one is
+    never far, and near about the present."""
+    chance, board = random.Random(3), AnyBoard()
+    kept = KeptBoards(board)
+    end = 1000000000
+    ways = [(0, end)] + [(at, min(end, at + chance.randrange(3 * FARTHEST))) for at in
+                         (chance.randrange(end) for _ in range(40))]
+    for begin, stop in ways:
+        begin = max((steps for steps in kept.found if steps <= begin), default=0)
+        for board.steps in range(begin, stop + 1, kept.nearest):
+            kept.keep([])
+        found = sorted(kept.found)
+        gaps = [after - before for before, after in zip(found, found[1:])]
+        if max(gaps) > FARTHEST or stop - max(steps for steps in found if steps <= stop) > kept.nearest:
+            return "after %d steps: %s" % (stop, found)
+    return None if max(board.places) < PLACES else "takes place %d" % max(board.places)
+
+
+MANY = "buttons 2\n" + "".join("at %d input 41\n" % (9000 + n) for n in range(4094))
+# A script, what is done, of which the last is refused, and what is said of that.
+BREAK_RULES = [
+    ("partition 3\n", ["run 9", "press 0"], "line 2 of the script is refused: unknown-word: after `partition` (line 1) "
+     "there is no line of buttons or of an operator"),
+    (MANY, ["run 30", "press 0", "tap 1"], "line 4 of the script is refused: too-many: there are at most 4096 lines "
+     "`at`"),
+    (MANY, ["run 30", "send a", "run 70", "send b", "back 20", "tap 0"], "line 4 of the script is refused: too-many: "
+     "there are at most 4096 lines `at`")]
+
+
+def rules(program):
+    """Where an event breaks a rule of the script, that is told in words, and nothing changes; also where the second of
+    two events is refused, or others were dropped for it."""
+    for script, (*lines, last), said in BREAK_RULES:
+        with tempfile.TemporaryDirectory() as folder:
+            sitting = sitting_at(folder, "press", script)
+            try:
+                for line in lines:
+                    sitting.do(line)
+                before, told = sitting.text(), sitting.present.board.ask("state")
+                try:
+                    return "does %r: %s" % (last, sitting.do(last))
+                except Refused as refused:
+                    found = str(refused)
+                if (found, sitting.text(), sitting.present.board.ask("state")) != (said, before, told):
+                    return "after %r: says %s, and is at %s" % (last, found, sitting.text().partition("\n")[0])
+                sitting.save(sitting.out)
+                wrong = differs(program, sitting)
+            finally:
+                sitting.close()
         if wrong:
             return wrong
     return None
@@ -346,6 +469,7 @@ def checks(program):
     except Refused as error:
         print("live: not tried: %s" % error)
         return []
-    found = (by_chance, places, events_at_each_step, later, of_document, of_picture, refused, helped, on_any_screen)
+    found = (by_chance, places, events_at_each_step, later, rules, kept_boards, costs, of_document, of_picture, refused,
+             helped, on_any_screen)
     return [("live-" + check.__name__.replace("_", "-"), lambda check=check: check(program))
             for check in found + terminals.CHECKS]

@@ -4,8 +4,8 @@ from debugger.board import Board, NotDone
 
 # How many boards tock_look keeps.
 PLACES = 128
-# After multiples of how many steps boards are kept: of the greater number all over the run, of the smaller one about
-# the present, and in between of its doubles, each up to so many times itself away from the present.
+# After multiples of how many steps boards are kept about the present, and all over the run. In between doubles of the
+# first number count, each up to so many times itself away from the present.
 NEAREST, FARTHEST, AROUND = 312500, 10000000, 4
 
 
@@ -57,25 +57,29 @@ def in_order(events):
     return sorted(events, key=lambda event: event.time)
 
 
-def is_wanted(steps, now):
-    """Whether a board after so many steps is kept where the present is after others."""
-    distance = NEAREST
-    while distance < FARTHEST and steps % (2 * distance) == 0:
-        distance *= 2
-    return distance == FARTHEST or abs(now - steps) <= AROUND * distance
-
-
 class KeptBoards:
     """The boards of a run that are kept, by their steps."""
 
     def __init__(self, board):
         self.board, self.found = board, {}
+        self.nearest, self.farthest = NEAREST, FARTHEST
+
+    def next_steps(self, steps):
+        """After how many steps a board is kept next."""
+        return (steps // self.nearest + 1) * self.nearest
+
+    def is_wanted(self, steps, now):
+        """Whether a board after so many steps is kept where the present is after others."""
+        distance = self.nearest
+        while distance < self.farthest and steps % (2 * distance) == 0:
+            distance *= 2
+        return distance >= self.farthest or abs(now - steps) <= AROUND * distance
 
     def keep(self, events):
         """Keeps the board as it is, with its events, in place of one that had as many steps; and no more those that
         are not wanted here."""
         now = self.board.steps
-        self.found = {steps: kept for steps, kept in self.found.items() if steps != now and is_wanted(steps, now)}
+        self.found = {steps: kept for steps, kept in self.found.items() if steps != now and self.is_wanted(steps, now)}
         place = min(set(range(PLACES)) - {kept.place for kept in self.found.values()})
         self.board.keep(place)
         self.found[now] = Kept(self.board.told, events, place)

@@ -6,7 +6,7 @@ that were made. A pass that would end later than the present is not made yet: it
 """
 
 from debugger.board import MOST, Refused
-from session.kept import NEAREST, Kept, KeepingBoard, KeptBoards, in_order
+from session.kept import Kept, KeepingBoard, KeptBoards, in_order
 
 # As many steps as `tock boot` makes at most.
 MOST_STEPS = 1000000000
@@ -88,7 +88,7 @@ class Present:
                 self.events = in_order(self.events + missing[:number])
                 raise BrokenRule(event, rule)
         self.events = events
-        self.board.moved(self.board.ask("to", 0, now, most - self.steps))
+        self.move("to", now, most - self.steps)
         self.now = now
 
     def go_to(self, now):
@@ -97,30 +97,31 @@ class Present:
         if now < self.now:
             self.bring(self.events, now)
         elif now > self.now and not self.is_full:
-            self.make(now, MOST_STEPS - self.steps)
+            self.lines += self.move("told", now, MOST_STEPS - self.steps)
             self.now = self.time + 1 if self.is_full else now
 
-    def make(self, time, count):
-        """Makes the steps that begin before a time and end at it or before, at most so many, and keeps what they told;
-        how many were made."""
-        first, last = self.steps, self.steps + count
+    def move(self, word, time, count):
+        """Makes the steps that begin before a time and end at it or before, at most so many, and keeps boards on the
+        way; gives what the command of that word tells of them."""
+        lines, last = [], self.steps + count
         while self.steps < last:
-            end = min(last, (self.steps // NEAREST + 1) * NEAREST)
-            self.lines += self.board.moved(self.board.ask("told", 0, time, end - self.steps))[1]
+            end = min(last, self.kept.next_steps(self.steps))
+            lines += self.board.moved(self.board.ask(word, 0, time, end - self.steps))[1]
             if self.steps < end:
                 break
-            if end % NEAREST == 0:
+            if self.kept.next_steps(end - 1) == end:
                 self.kept.keep(self.events)
-        return self.steps - first
+        return lines
 
     def step(self, count):
         """Makes so many steps, or as many as are left, whatever the time is then."""
-        count = min(count, MOST_STEPS - self.steps)
-        made = self.make(MOST, count - 1) if count > 1 else 0
-        began = self.time
-        if count and self.make(MOST, 1):
+        first, last = self.steps, min(self.steps + count, MOST_STEPS)
+        self.lines += self.move("told", MOST, last - 1 - first)
+        began, before = self.time, self.steps
+        self.lines += self.move("told", MOST, last - before)
+        if self.steps > before:
             self.now = max(self.now, began + 1, self.time)
-        elif made:
+        elif before > first:
             # Fewer were left, and the last of them began at this time at the latest.
             self.now = max(self.now, self.time + 1)
 
