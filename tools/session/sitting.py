@@ -83,15 +83,15 @@ class Sitting:
         if script is not None:
             with open(script, encoding="latin-1", newline="\n") as file:
                 text = file.read()
-        self.folder = tempfile.TemporaryDirectory(prefix="live-")
+        self.folder, self.present = tempfile.TemporaryDirectory(prefix="live-"), None
         try:
             self.present = self.opened(look, text)
+            # What the program takes can be read.
+            self.recorded = Recorded(text)
+            self.present.begin(self.recorded.events)
         except BaseException:
-            self.folder.cleanup()
+            self.close()
             raise
-        # What the program takes can be read.
-        self.recorded = Recorded(text)
-        self.present.begin(self.recorded.events)
 
     # The script.
 
@@ -229,5 +229,6 @@ class Sitting:
         return self.present.lines[min(count, len(self.present.lines)):]
 
     def close(self):
-        self.present.end()
+        if self.present:
+            self.present.end()
         self.folder.cleanup()
