@@ -253,10 +253,14 @@ MANY = "buttons 2\n" + "".join("at %d input 41\n" % (9000 + n) for n in range(40
 BREAK_RULES = [
     ("partition 3\n", ["run 9", "press 0"], "line 2 of the script is refused: unknown-word: after `partition` (line 1) "
      "there is no line of buttons or of an operator"),
-    (MANY, ["run 30", "press 0", "tap 1"], "line 4 of the script is refused: too-many: there are at most 4096 lines "
-     "`at`"),
-    (MANY, ["run 30", "send a", "run 70", "send b", "back 20", "tap 0"], "line 4 of the script is refused: too-many: "
-     "there are at most 4096 lines `at`")]
+    ("buttons 1\n", ["to 4294967250", "tap 0"], "line 3 of the script is refused: out-of-range: a time is 0 to "
+     "4294967295 ticks, and here it is 4294967350"),
+    ("buttons 1\n", ["run 30", "send a", "run 70", "send b", "back 70", "press 1"], "line 3 of the script is refused: "
+     "out-of-range: there is no button 1: by line 1 the buttons are 0 to 0"),
+    (MANY, ["run 30", "send a", "run 70", "send b", "back 20", "tap 0"], "line 4098 of the script is refused: "
+     "too-many: there are at most 4096 lines `at`"),
+    ("# %s\n" % ("x" * 262000), ["send a", "type " + "x" * 64], "the script would be too long: it has at most 262144 "
+     "bytes")]
 
 
 def rules(program):

@@ -13,8 +13,8 @@ class KeepingBoard(Board):
     """A board that takes in events which its script does not have, and is kept as it is and returned to."""
 
     def add(self, line):
-        """Has an event come in, by its line of a script, after those of its time; or gives the word of the script's
-        rule that is broken, and nothing changes."""
+        """Has an event come in, by its line of a script, after those of its time; or gives the word of the rule that
+        this line breaks by itself, and nothing changes."""
         try:
             self.ask("add", line)
         except NotDone as answer:
@@ -24,7 +24,7 @@ class KeepingBoard(Board):
         return None
 
     def keep(self, place):
-        """Keeps the board at a place, in place of what was kept there."""
+        """Keeps the board at a place, in place of what was kept there; at a place before it something is kept."""
         self.ask("keep", place)
 
     def return_to(self, place, told):

@@ -12,6 +12,8 @@ from session.present import MOST_STEPS, BrokenRule, Present
 from session.recorded import HEADING, Event, Recorded, write_whole
 
 TOOLS = os.path.dirname(os.path.dirname(os.path.abspath(__file__)))
+# A script's lines `at` and bytes at most, and how many of them the line in front may have.
+MOST_EVENTS, MOST_BYTES, MOST_HEADING = 4096, 262144, 100
 DURATION = re.compile(r"(\d{1,10})(ms|s|)$")
 # A board without a script has buttons.
 FIRST = "buttons 4\n"
@@ -114,6 +116,11 @@ class Sitting:
     def change(self, events, now):
         """The script has these events, and the board is at a time; tells where it is to be saved and cannot."""
         try:
+            # The board knows of an event by itself, and not of the whole script.
+            if len(events) > MOST_EVENTS:
+                raise BrokenRule(events[MOST_EVENTS], "too-many")
+            if len(self.recorded.text(events)) > MOST_BYTES - MOST_HEADING:
+                raise Refused("the script would be too long: it has at most %d bytes" % MOST_BYTES)
             self.present.bring(events, now)
         except BrokenRule as broken:
             number = self.recorded.line_number(events, broken.event)
