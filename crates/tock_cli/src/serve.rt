@@ -19,6 +19,7 @@ use script_text::Script;
 use std::alloc::Global;
 use tk_outside::{Shelf, Sink};
 use tool_answers::{ServeOutcome, finish_image, finish_list, refuse};
+use tool_tasks::Generator;
 use tool_tasks::prepare::{Ready, prepare};
 use tool_words::Refusal;
 
@@ -95,20 +96,20 @@ fn finish<K: Sink>(
 }
 
 /// Does all of it, and says how it ended.
-fn act<H: Shelf, K: Sink>(
+fn act<H: Shelf, K: Sink, G: Generator>(
     alloc: Global,
     words: &[String],
     shelf: &mut H,
     out: &mut K,
     last: &mut Option<Board>,
 ) -> ServeOutcome
-    ensures { Happens (shelf_account H.tells shelf.old shelf.new) (sink_account K.tells out.old out.new)
-        (command_of words.now) last.new result }
+    ensures { Happens G.files (shelf_account H.tells shelf.old shelf.new)
+        (sink_account K.tells out.old out.new) (command_of words.now) last.new result }
 {
     drop(last.take());
     runs_from_boot_are_accounted_for();
     partitions_from_boot_see_themselves_alone();
-    match prepare(alloc, words, shelf) {
+    match prepare::<H, G>(alloc, words, shelf) {
         Ok(ready) => finish(alloc, ready, out, last),
         Err(refusal) => refuse(refusal, out),
     }
@@ -117,13 +118,14 @@ fn act<H: Shelf, K: Sink>(
 /// The program over the words of the command line, the first of which is its own name. `boot` runs
 /// the applications of a flash file on the board of a script, and writes what they print and then
 /// the report to `out`; `trace` makes the same run, and writes its system calls and denials beside
-/// what is printed; `soak` runs applications that are generated from a number, and writes how many
-/// bytes they print and the sum of these; `list` writes the list of the objects of a flash file.
-/// Four commands write a flash image and run nothing: `pack` the objects of 1 to 64 flash files one
-/// behind another; `enable`, `disable` and `rename` a flash file in which the object at an offset
-/// is enabled, disabled or has another package name. Else one line is written. What `last` held is
-/// dropped; afterwards it holds a board exactly at answer 0 of `boot`, `trace` and `soak`, and that
-/// board shows the last world of the run.
+/// what is printed; `soak` runs those of the flash image that the generator makes of a number, on
+/// the board of the script that it makes of it, and writes how many bytes they print and the sum of
+/// these; `list` writes the list of the objects of a flash file. Four commands write a flash image
+/// and run nothing: `pack` the objects of 1 to 64 flash files one behind another; `enable`,
+/// `disable` and `rename` a flash file in which the object at an offset is enabled, disabled or has
+/// another package name. Else one line is written. What `last` held is dropped; afterwards it holds
+/// a board exactly at answer 0 of `boot`, `trace` and `soak`, and that board shows the last world
+/// of the run.
 ///
 /// In the run that is told each byte of a process that changes has its cause. One below its kernel
 /// break is changed by an own permitted act, also by the command that has it shown the clock, lies
@@ -149,15 +151,15 @@ fn act<H: Shelf, K: Sink>(
 /// | 6 | the sink's count of faults rose; a part of the text, image or line was written that lacks at least one byte |
 /// | 7 | `memory` alone was written, of words that are a command; that it comes for want of memory alone is tested |
 /// | 8 | no image is made: the line names the first reason in the order of [`ImageFault`](tool_words::ImageFault); the first file that is refused decides |
-pub fn serve<H: Shelf, K: Sink>(
+pub fn serve<H: Shelf, K: Sink, G: Generator>(
     alloc: Global,
     words: &[String],
     shelf: &mut H,
     out: &mut K,
     last: &mut Option<Board>,
 ) -> u8
-    ensures serves { Serves H.tells shelf.old shelf.new K.tells out.old out.new words.now last.new
-        result }
+    ensures serves { Serves G.files H.tells shelf.old shelf.new K.tells out.old out.new words.now
+        last.new result }
 {
-    act(alloc, words, shelf, out, last).answer()
+    act::<H, K, G>(alloc, words, shelf, out, last).answer()
 }

@@ -6,7 +6,7 @@ use Rattle.tool_words.specs.declared.refusal.Refusal.{Refusal}
 use Rattle.tool_words.specs.declared.refusal.Refusal.TheVariants.{Usage, Memory}
 use Rattle.tool_words.specs.Refusals.{refusal_line}
 use Rattle.tool_words.specs.Words.{Command, Runs}
-use Rattle.tool_tasks.specs.Comes.{Running, IsTask}
+use Rattle.tool_tasks.specs.Comes.{Running, IsTaskOf}
 use Rattle.tool_tasks.specs.Causes.{ShelfAccount, CauseOf}
 use Rattle.tool_answers.specs.Served.{SinkAccount, All, Part}
 use Rattle.tool_answers.specs.declared.outcome.ServeOutcome.{ServeOutcome}
@@ -26,7 +26,7 @@ runs looking = Runs Boot looking.flash looking.script 0
 
 -- the world that they open, by what the shelf tells
 abbrev pub Opens : ShelfAccount → Looking → World → Type 0
-Opens told looking world = IsTask told.before.bytes (Some (runs looking)) (Running Boot 0 world)
+Opens told looking world = IsTaskOf told.before.bytes (runs looking) (Running Boot 0 world)
 
 -- what was written of the answers before there was no memory for another board: a front of them
 pub record IsFront (text front : List ℕ) : Type 0 where

@@ -7,7 +7,7 @@ use Rattle.tool_words.specs.declared.refusal.Refusal.{Refusal}
 use Rattle.tool_words.specs.declared.refusal.Refusal.TheVariants.{Memory}
 use Rattle.tool_words.specs.Words.{Command}
 use Rattle.tool_words.specs.Refusals.{refusal_line, status_of}
-use Rattle.tool_tasks.specs.Comes.{Task, world_left_by, task_text}
+use Rattle.tool_tasks.specs.Comes.{Generated, Task, world_left_by, task_text}
 use Rattle.tool_tasks.specs.Causes.{ShelfAccount}
 use Rattle.tool_answers.specs.declared.outcome.ServeOutcome.{ServeOutcome}
 use Rattle.tool_answers.specs.declared.outcome.ServeOutcome.TheVariants.{Done, Refused, SinkFailed}
@@ -30,10 +30,11 @@ abbrev pub IsUnhindered : ShelfAccount → List ℕ → Type 0
 IsUnhindered told name = told.before.is_sound name ⊎ ¬ told.rose
 
 -- what each outcome says
-abbrev pub Happens : ShelfAccount → SinkAccount → Option Command → Option World → ServeOutcome → Type 0
-Happens told sent words last Done = TaskIsDone told sent words last
-Happens told sent words last (Refused refusal) = TaskIsRefused told sent words refusal × (last ≡ None)
-Happens told sent words last SinkFailed = SinkFault told sent words × (last ≡ None)
+abbrev pub Happens : (ℕ → Generated) → ShelfAccount → SinkAccount → Option Command → Option World → ServeOutcome
+    → Type 0
+Happens makes told sent words last Done = TaskIsDone makes told sent words last
+Happens makes told sent words last (Refused refusal) = TaskIsRefused told sent words refusal × (last ≡ None)
+Happens makes told sent words last SinkFailed = SinkFault makes told sent words × (last ≡ None)
 
 -- the program's answer to an outcome
 abbrev pub exit_status_of : ServeOutcome → ℕ

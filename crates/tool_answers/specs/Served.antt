@@ -13,7 +13,7 @@ use Rattle.tool_words.specs.declared.refusal.Refusal.{Refusal}
 use Rattle.tool_words.specs.declared.refusal.Refusal.TheVariants.{Usage, Fault, TooLong, Script, Image, Memory}
 use Rattle.tool_words.specs.Words.{Command, Runs, Soaks, command_of}
 use Rattle.tool_words.specs.Refusals.{refusal_line, status_of}
-use Rattle.tool_tasks.specs.Comes.{Named, Task, IsTask, files_of, world_left_by, refused_at, task_text}
+use Rattle.tool_tasks.specs.Comes.{Generated, Named, Task, IsTask, files_of, world_left_by, refused_at, task_text}
 use Rattle.tool_tasks.specs.Causes.{ShelfAccount, Cause, shelf_account}
 use Rattle.tool_answers.specs.Accounts.{IsAccountedTask}
 
@@ -35,10 +35,10 @@ Part sent text = WrotePart sent.tells sent.old sent.new text
 -- The command's task was done, its whole text written: the text of the run from the opening world of the files, which
 -- are read or generated, the list of the flash file, or an image. The board that a run leaves shows its last world, and
 -- the run is accounted for.
-abbrev pub TaskIsDone : ShelfAccount → SinkAccount → Option Command → Option World → Type 0
-TaskIsDone told sent words last =
-    (task : Task) × IsTask told.before.bytes words task × All sent (task_text task) × (last ≡ world_left_by task)
-    × IsAccountedTask task
+abbrev pub TaskIsDone : (ℕ → Generated) → ShelfAccount → SinkAccount → Option Command → Option World → Type 0
+TaskIsDone makes told sent words last =
+    (task : Task) × IsTask makes told.before.bytes words task × All sent (task_text task)
+    × (last ≡ world_left_by task) × IsAccountedTask task
 
 -- a refusal: its cause holds, and its line was written
 abbrev pub TaskIsRefused : ShelfAccount → SinkAccount → Option Command → Refusal → Type 0
@@ -46,9 +46,9 @@ TaskIsRefused told sent words refusal = Cause told words refusal × All sent (re
 
 -- The sink failed: its count of faults rose, and a proper part was written of the text of the command's task, which is
 -- accounted for where it is a run, or of the line of a refusal whose cause holds.
-abbrev pub SinkFault : ShelfAccount → SinkAccount → Option Command → Type 0
-SinkFault told sent words =
-    ((task : Task) × IsTask told.before.bytes words task × Part sent (task_text task) × IsAccountedTask task)
+abbrev pub SinkFault : (ℕ → Generated) → ShelfAccount → SinkAccount → Option Command → Type 0
+SinkFault makes told sent words =
+    ((task : Task) × IsTask makes told.before.bytes words task × Part sent (task_text task) × IsAccountedTask task)
     ⊎ ((refusal : Refusal) × Cause told words refusal × Part sent (refusal_line refusal))
 
 -- an answer is this one, or 7 for want of memory
@@ -82,14 +82,14 @@ LeavesBoard (Some (Soaks number turns)) = Unit {0}
 LeavesBoard other = ⊥
 
 -- What the program does: the answer with its cause, what was written, and the board that is left.
-pub record ProgramDoes (told : ShelfAccount) (sent : SinkAccount) (words : Option Command) (last : Option World)
-    (answer : ℕ) : Type 0 where
-  pub done : answer ≡ 0 → TaskIsDone told sent words last
+pub record ProgramDoes (makes : ℕ → Generated) (told : ShelfAccount) (sent : SinkAccount) (words : Option Command)
+    (last : Option World) (answer : ℕ) : Type 0 where
+  pub done : answer ≡ 0 → TaskIsDone makes told sent words last
   pub usage : answer ≡ 2 → TaskIsRefused told sent words Usage
   pub fault : answer ≡ 3 → (file : File) × TaskIsRefused told sent words (Fault file)
   pub too_long : answer ≡ 4 → (file : File) × TaskIsRefused told sent words (TooLong file)
   pub script : answer ≡ 5 → (line : ℕ) × (rule : ScriptRule) × TaskIsRefused told sent words (Script line rule)
-  pub sink : answer ≡ 6 → SinkFault told sent words
+  pub sink : answer ≡ 6 → SinkFault makes told sent words
   pub memory : answer ≡ 7 → TaskIsRefused told sent words Memory
   pub image : answer ≡ 8 → (fault : ImageFault) × TaskIsRefused told sent words (Image fault)
   -- there is no other answer
@@ -99,10 +99,10 @@ pub record ProgramDoes (told : ShelfAccount) (sent : SinkAccount) (words : Optio
   -- so it is where the sink's count of faults did not rise
   pub decided : ¬ Rose (sent.tells sent.old).faults (sent.tells sent.new).faults → Decided told words answer
 
--- What the program does with the words of its command line, over a shelf and a sink that were the first of each two and
--- are now the second.
-abbrev pub Serves : {H K Z : Type 0} → (H → ShelfFacts) → H → H → (K → SinkFacts) → K → K → List (String Z)
-    → Option World → ℕ → Type 0
-Serves shelf shelf_old shelf_new sink sink_old sink_new words last answer =
-    ProgramDoes (shelf_account shelf shelf_old shelf_new)
+-- What the program does with the words of its command line, over a generator that makes such files of each number, and
+-- a shelf and a sink that were the first of each two and are now the second.
+abbrev pub Serves : {H K Z : Type 0} → (ℕ → Generated) → (H → ShelfFacts) → H → H → (K → SinkFacts) → K → K
+    → List (String Z) → Option World → ℕ → Type 0
+Serves makes shelf shelf_old shelf_new sink sink_old sink_new words last answer =
+    ProgramDoes makes (shelf_account shelf shelf_old shelf_new)
     (record { Sink = _; tells = sink; old = sink_old; new = sink_new }) (command_of words) last answer

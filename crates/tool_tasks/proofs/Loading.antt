@@ -5,11 +5,11 @@ use Rattle.std.proofs.Common.{refl, sym, subst, ap, ◌∙◌, arith}
 use Rattle.std.proofs.Math.Seq.{take-append_seam}
 use Rattle.std.proofs.lemmas.Bool.Decides.{nat_tests}
 use Rattle.std.proofs.lemmas.List.{length-replicate}
+use Rattle.std.specs.Result.{is_ok}
 use Rattle.tk_base.specs.declared.limits.TheConstants.{FLASH_LIMIT, SCRIPT_LIMIT}
 use Rattle.script_text.specs.Settings.{ScriptSettings}
 use Rattle.script_text.specs.Reading.{Fault as BadLine, reading}
 use Rattle.image_make.specs.declared.edits.EditFault.{EditFault}
-use Rattle.image_make.specs.Generator.{soak_flash, soak_script}
 use Rattle.tk_outside.specs.Shelf.{ShelfFacts}
 use Rattle.board_opening.specs.Opening.{opening}
 use Rattle.tool_words.specs.declared.refusal.File.{File}
@@ -20,8 +20,8 @@ use Rattle.run_text.specs.declared.mode.Mode.TheVariants.{Soak}
 use Rattle.tool_words.specs.Words.{Command, Lists, Soaks}
 use Rattle.tool_words.specs.Parts.{RunWords, EditWords, editing, running}
 use Rattle.tool_words.specs.Refusals.{limit_of, edit_refused}
-use Rattle.tool_tasks.specs.Comes.{Named, Task, Running, Listing, Making, comes_to}
-use Rattle.tool_tasks.specs.Parts.{IsTaskOf, IsText, edit_made}
+use Rattle.tool_tasks.specs.Comes.{Generated, Named, Task, Running, Listing, Making, IsTask, IsTaskOf, comes_to}
+use Rattle.tool_tasks.specs.Parts.{IsText, edit_made}
 use Rattle.tool_tasks.specs.Comes.{edited_by, flash_named, refused_at, run_under}
 use Rattle.tool_tasks.specs.Parts.{script_named, refusal_of_task}
 use Rattle.tool_tasks.specs.Causes.{ShelfAccount, CauseOf, IsRefusedFor, shelf_account}
@@ -187,12 +187,25 @@ run_unread_flash told words refusal u =
     not_read told (running words) (flash_named words.flash) refusal (λ Holds h. inl (h [])) u
 
 -- `soak`
-pub soak_task : (bytes : List ℕ → Option (List ℕ)) (number turns : ℕ) (settings : ScriptSettings)
-    → reading (soak_script number) ≡ Ok settings
-    → IsTaskOf bytes (Soaks number turns) (Running Soak turns (opening settings (soak_flash number)))
-unfolding comes_to
-soak_task bytes number turns settings is =
-    ap (λ (r : Result ScriptSettings BadLine). Some (run_under Soak turns (soak_flash number) r)) is
+pub soak_task : (makes : ℕ → Generated) (bytes : List ℕ → Option (List ℕ)) (number turns : ℕ)
+    (settings : ScriptSettings) → reading (makes number).script ≡ Ok settings
+    → IsTask makes bytes (Some (Soaks number turns)) (Running Soak turns (opening settings (makes number).flash))
+soak_task makes bytes number turns settings is =
+    ap (λ (r : Result ScriptSettings BadLine). run_under Soak turns (makes number).flash r) is
+
+ok_is_no_error : (r : Result ScriptSettings BadLine) (fault : BadLine) → is_ok r ≡ true → r ≡ Err fault → ⊥
+ok_is_no_error (Ok said) fault o e = cc
+ok_is_no_error (Err bad) fault o e = cc
+
+-- the one reason for which a script that has a reading is not read
+pub only_memory : (script : List ℕ) (refusal : Refusal) → is_ok (reading script) ≡ true → HasNoReading script refusal
+    → refusal ≡ Memory
+only_memory script Usage o h = absurd h
+only_memory script (Fault file) o h = absurd h
+only_memory script (TooLong file) o h = absurd h
+only_memory script (Script line rule) o h = absurd (ok_is_no_error (reading script) _ o h)
+only_memory script (Image fault) o h = absurd h
+only_memory script Memory o h = refl
 
 -- the edits
 module _ (words : EditWords) (flash : List ℕ) (short : length flash ≤ FLASH_LIMIT) where

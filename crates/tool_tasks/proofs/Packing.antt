@@ -19,8 +19,8 @@ use Rattle.tool_words.specs.declared.refusal.Refusal.TheVariants.{Image, Memory}
 use Rattle.tool_words.specs.Words.{Packs}
 use Rattle.tool_words.specs.Parts.{argument_bytes}
 use Rattle.tool_words.specs.Refusals.{pack_refused}
-use Rattle.tool_tasks.specs.Comes.{Named, Making, Passes, ReadsAll, ReadsUpTo, comes_to}
-use Rattle.tool_tasks.specs.Parts.{IsTaskOf, IsText}
+use Rattle.tool_tasks.specs.Comes.{Named, Making, Passes, IsTaskOf, ReadsAll, ReadsUpTo, comes_to}
+use Rattle.tool_tasks.specs.Parts.{IsText}
 use Rattle.tool_tasks.specs.Comes.{flash_named, refused_at}
 use Rattle.tool_tasks.specs.Parts.{pack_made, refusal_of_task}
 use Rattle.tool_tasks.specs.Causes.{CauseOf, IsRefusedFor, shelf_account}

@@ -1,19 +1,15 @@
 -- The script of a soak run has a reading.
 use Rattle.std.proofs.Common.{◌≡◌, ℕ, zero, suc, ◌+◌, ◌/◌, ◌^◌, ◌*◌, ◌%◌, ◌<◌, inl, inr, Bool, true, false, ◌&&◌, ◌++◌}
-use Rattle.std.proofs.Common.{codes, decimal, Result, Ok, Err, refl, ap, ◌∙◌, arith}
+use Rattle.std.proofs.Common.{codes, decimal, refl, ap, ◌∙◌, arith}
 use Rattle.std.proofs.lemmas.Bool.{cases_lt}
 use Rattle.std.specs.Fmt.{digits}
 use Rattle.std.specs.Result.{is_ok}
-use Rattle.script_text.specs.Settings.{ScriptSettings}
-use Rattle.script_text.specs.Reading.{Fault as BadLine, reading, faults}
+use Rattle.script_text.specs.Reading.{reading, faults}
 use Rattle.script_text.specs.Text.{lines, words}
 use Rattle.script_text.specs.Rules.{broken}
 use Rattle.script_text.specs.Said.{lines_of}
 use Rattle.script_text.specs.Table.{line_of}
 use Rattle.image_make.specs.Generator.{next_draw, soak_script}
-use Rattle.tool_words.specs.declared.refusal.Refusal.{Refusal}
-use Rattle.tool_words.specs.declared.refusal.Refusal.TheVariants.{Usage, Fault, TooLong, Script, Image, Memory}
-use Rattle.tool_tasks.specs.Ready.{HasNoReading}
 
 -- whether a test passes at each number below another
 passes_below : ℕ → (ℕ → Bool) → Bool
@@ -47,20 +43,7 @@ draw_below : (x : ℕ) → x % 2 ^ 32 / 2 ^ 26 < 64
 draw_below x = omega arith
 
 -- so that of every number has a reading
-soak_reads : (number : ℕ) → is_ok (reading (soak_script number)) ≡ true
+pub soak_reads : (number : ℕ) → is_ok (reading (soak_script number)) ≡ true
 unfolding is_read
 soak_reads number =
     passes_at 64 (next_draw number / 2 ^ 26) is_read each_is_read (draw_below (number * 1664525 + 1013904223))
-
-ok_is_no_error : (r : Result ScriptSettings BadLine) (fault : BadLine) → is_ok r ≡ true → r ≡ Err fault → ⊥
-ok_is_no_error (Ok said) fault o e = cc
-ok_is_no_error (Err bad) fault o e = cc
-
--- the one reason for which the script of a soak run is not read
-pub only_memory : (number : ℕ) (refusal : Refusal) → HasNoReading (soak_script number) refusal → refusal ≡ Memory
-only_memory number Usage h = absurd h
-only_memory number (Fault file) h = absurd h
-only_memory number (TooLong file) h = absurd h
-only_memory number (Script line rule) h = absurd (ok_is_no_error (reading (soak_script number)) _ (soak_reads number) h)
-only_memory number (Image fault) h = absurd h
-only_memory number Memory h = refl

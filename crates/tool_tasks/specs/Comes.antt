@@ -5,7 +5,6 @@ use Rattle.std.specs.Result.{result_err, result_map_both}
 use Rattle.script_text.specs.Settings.{ScriptSettings}
 use Rattle.script_text.specs.Reading.{Fault as BadLine, reading}
 use Rattle.image_make.specs.declared.edits.EditFault.{EditFault}
-use Rattle.image_make.specs.Generator.{soak_flash, soak_script}
 use Rattle.image_make.specs.Outcomes.{enabling, renaming}
 use Rattle.image_make.specs.Packs.{pack_from}
 use Rattle.kernel_model.specs.World.{World}
@@ -68,11 +67,10 @@ edited_by (Enables on) offset flash = enabling on offset flash
 edited_by (Renames name) offset flash = renaming name offset flash
 
 -- what a command comes to with the bytes of its files so far: its task, or why it is refused; nothing yet where more
--- files are to be read. An image that is edited or packed is to be written.
+-- files are to be read, and of `soak`, which reads none. An image that is edited or packed is to be written.
 unfoldable pub comes_to : Command → List (List ℕ) → Option (Result Task Refusal)
 comes_to (Runs mode first second turns) (flash ∷ script ∷ []) = Some (run_under mode turns flash (reading script))
 comes_to (Lists name) (flash ∷ []) = Some (Ok (Listing flash))
-comes_to (Soaks number turns) [] = Some (run_under Soak turns (soak_flash number) (reading (soak_script number)))
 comes_to (Packs names) files = Some (result_map_both Making pack_refused (pack_from 0 [] files))
 comes_to (Edits name offset edit) (flash ∷ []) =
     Some (result_map_both Making (λ fault. Image (edit_refused fault)) (edited_by edit offset flash))
@@ -110,8 +108,20 @@ ReadsUpTo bytes command Holds before [] = ⊥
 ReadsUpTo bytes command Holds before (f ∷ files) =
     Holds before f ⊎ Passes bytes command before f (λ texts. ReadsUpTo bytes command Holds texts files)
 
--- the task of the words, by the bytes under each name; words that are no command give none
-abbrev pub IsTask : ByName → Option Command → Task → Type 0
-IsTask bytes None task = ⊥
-IsTask bytes (Some command) task =
+-- the task of a command that names its files, by the bytes under each name
+abbrev pub IsTaskOf : ByName → Command → Task → Type 0
+IsTaskOf bytes command task =
     ReadsAll bytes command (λ texts. comes_to command texts ≡ Some (Ok task)) [] (files_of command)
+
+-- the two files that a generator makes of a number
+pub record Generated : Type 0 where
+  pub flash : List ℕ
+  pub script : List ℕ
+
+-- The task of the words, by what a generator makes of each number and by the bytes under each name. That of `soak` is
+-- the run of the flash image under the script that are made of its number. Words that are no command give none.
+abbrev pub IsTask : (ℕ → Generated) → ByName → Option Command → Task → Type 0
+IsTask makes bytes None task = ⊥
+IsTask makes bytes (Some (Soaks number turns)) task =
+    run_under Soak turns (makes number).flash (reading (makes number).script) ≡ Ok task
+IsTask makes bytes (Some command) task = IsTaskOf bytes command task

@@ -3,3 +3,4 @@ pub mod Comes
 pub mod Ready
 pub mod Parts
 pub mod RunFiles
+pub mod Soak

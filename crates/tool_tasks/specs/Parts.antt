@@ -1,5 +1,5 @@
 -- Only proofs use this: parts of what a command comes to by name, for the contracts of inner functions.
-use Rattle.std.specs.Prelude.{◌≡◌, ℕ, List, [], Option, Some, option_and_then, IfSome, Result, Ok}
+use Rattle.std.specs.Prelude.{◌≡◌, ℕ, List, [], Option, option_and_then, IfSome, Result}
 use Rattle.std.specs.Result.{result_err, result_map_both}
 use Rattle.image_make.specs.declared.edits.EditFault.{EditFault}
 use Rattle.image_make.specs.declared.packs.PackFault.{PackFault}
@@ -9,7 +9,7 @@ use Rattle.tool_words.specs.declared.refusal.Refusal.{Refusal}
 use Rattle.tool_words.specs.declared.refusal.Refusal.TheVariants.{Image}
 use Rattle.tool_words.specs.Refusals.{edit_refused, pack_refused}
 use Rattle.tool_words.specs.Words.{Command}
-use Rattle.tool_tasks.specs.Comes.{ByName, Named, ReadsAll, ReadsUpTo, Task, Making, comes_to, files_of}
+use Rattle.tool_tasks.specs.Comes.{ByName, Named, ReadsUpTo, Task, Making, files_of}
 use Rattle.tool_tasks.specs.Causes.{ShelfAccount}
 
 -- a script of that name
@@ -31,11 +31,6 @@ refusal_of_task come = option_and_then result_err come
 -- a text is the whole of the file of that name, where its bytes are told
 abbrev pub IsText : ByName → List ℕ → List ℕ → Type 0
 IsText bytes name text = IfSome (bytes name) (λ b. text ≡ b)
-
--- the task of a command, by the bytes under each name
-abbrev pub IsTaskOf : ByName → Command → Task → Type 0
-IsTaskOf bytes command task =
-    ReadsAll bytes command (λ texts. comes_to command texts ≡ Some (Ok task)) [] (files_of command)
 
 -- a file that a line names, and that is not sound
 abbrev pub IsUnsound : ShelfAccount → File → List (List ℕ) → Named → Type 0

@@ -1,5 +1,5 @@
 -- What is left to do once the files are read.
-use Rattle.std.specs.Prelude.{◌≡◌, ℕ, ◌<◌, ◌≤◌, List, length, Option, None, unwrap_or}
+use Rattle.std.specs.Prelude.{◌≡◌, ℕ, ◌<◌, ◌≤◌, List, length, Option, None, Some, unwrap_or}
 use Rattle.std.specs.Prelude.{IfSome, Err, ◌⊎◌}
 use Rattle.tk_base.specs.declared.limits.TheConstants.{FLASH_LIMIT, OBJECT_LIMIT}
 use Rattle.script_text.specs.Reading.{reading}
@@ -19,8 +19,8 @@ use Rattle.tool_tasks.specs.declared.prepare.Ready.TheVariants as ready
 use Rattle.tool_words.specs.Refusals.{limit_of, pack_refused}
 use Rattle.tool_words.specs.declared.words.TheConstants.{MOST_TURNS}
 use Rattle.tool_words.specs.Words.{Command, Soaks}
-use Rattle.tool_tasks.specs.Comes.{ByName, Task, Running, Listing, Making, IsTask}
-use Rattle.tool_tasks.specs.Parts.{IsTaskOf, IsText}
+use Rattle.tool_tasks.specs.Comes.{ByName, Generated, Task, Running, Listing, Making, IsTask, IsTaskOf}
+use Rattle.tool_tasks.specs.Parts.{IsText}
 use Rattle.tool_tasks.specs.Causes.{ShelfAccount}
 
 abbrev pub refusal_of : IntakeError → File → Refusal
@@ -38,13 +38,13 @@ task_of (ready.Image flash) = Making flash.items
 abbrev pub IsReadyFor : ShelfFacts → Command → Ready → Type 0
 IsReadyFor shelf command ready = IsTaskOf shelf.bytes command (task_of ready)
 
--- and the same of words that are a command
-abbrev pub IsReady : ShelfFacts → Option Command → Ready → Type 0
-IsReady shelf words ready = IsTask shelf.bytes words (task_of ready)
+-- what is ready is the task of words, by what a generator makes and what the shelf tells
+abbrev pub IsReady : (ℕ → Generated) → ShelfFacts → Option Command → Ready → Type 0
+IsReady makes shelf words ready = IsTask makes shelf.bytes words (task_of ready)
 
 -- what is ready is the task of `soak`, which no file has to do with
-abbrev pub IsSoak : ℕ → ℕ → Ready → Type 0
-IsSoak number turns ready = IsTaskOf (λ name. None) (Soaks number turns) (task_of ready)
+abbrev pub IsSoak : (ℕ → Generated) → ℕ → ℕ → Ready → Type 0
+IsSoak makes number turns ready = IsTask makes (λ name. None) (Some (Soaks number turns)) (task_of ready)
 
 -- the image of a run or of a list is within its limit, and so are the steps to make
 abbrev pub IsWithinLimits : Ready → Type 0

@@ -9,8 +9,7 @@ use Rattle.board_opening.specs.Opening.{opening}
 use Rattle.tool_words.specs.declared.words.RunCommand.{RunCommand}
 use Rattle.tool_words.specs.Words.{runs_of}
 use Rattle.tool_tasks.specs.declared.prepare.RunFiles.{RunFiles}
-use Rattle.tool_tasks.specs.Comes.{Running}
-use Rattle.tool_tasks.specs.Parts.{IsTaskOf}
+use Rattle.tool_tasks.specs.Comes.{Running, IsTaskOf}
 
 -- the opening world of a flash image under a script, if the script has a reading
 abbrev pub opening_of_files : List ℕ → List ℕ → Option World

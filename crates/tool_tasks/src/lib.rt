@@ -2,4 +2,9 @@
 //! here needs a board.
 #![tactic(auto)]
 
+mod generator;
 pub mod prepare;
+mod soak;
+
+pub use generator::Generator;
+pub use soak::{SoakGenerator, soak_files_are_generated};

@@ -18,7 +18,8 @@ ghost use Rattle.tool_tasks.specs.Ready.{IsNotPacked, IsPackedFile, IsUnread, Is
 ghost use Rattle.tool_tasks.specs.Ready.{KeepsShelf, refusal_of};
 ghost use Rattle.tool_tasks.specs.RunFiles.{AreFilesOf, AreWithinLimits};
 
-use image_make::{EditFault, PackFault, image_of, pack_one, rename, set_enabled};
+use crate::generator::Generator;
+use image_make::{EditFault, PackFault, pack_one, rename, set_enabled};
 use run_text::Mode;
 use script_text::{Script, ScriptError, read_script};
 use std::alloc::Global;
@@ -134,13 +135,13 @@ pub fn load_files<H: Shelf>(
 }
 
 /// Generates the two files of a soak run.
-fn load_soak(alloc: Global, number: u32, turns: u32) -> Result<Ready, Refusal>
+fn load_soak<G: Generator>(alloc: Global, number: u32, turns: u32) -> Result<Ready, Refusal>
     requires { turns ≤ MOST_TURNS }
-    ensures task { IfOk result (IsSoak number turns) }
+    ensures task { IfOk result (IsSoak G.files number turns) }
     ensures within { IfOk result IsWithinLimits }
     ensures refused { IfErr result (λ refusal. refusal ≡ Memory) }
 {
-    let Ok((flash, script)) = image_of(alloc, number) else {
+    let Ok(RunFiles { flash, script }) = G::generate(alloc, number) else {
         return Err(Refusal::Memory);
     };
     let said = said_in(alloc, &script)?;
@@ -243,11 +244,15 @@ fn load_pack<H: Shelf>(alloc: Global, files: &[String], shelf: &mut H) -> Result
 }
 
 /// Does all that comes before any text, but for a run's board: the words, the flash file, and for a
-/// run the script file and the script's reading; `soak` has generated files in place of those that
-/// the words name, and `pack` packs each file before it reads the next one. A refusal names the
+/// run the script file and the script's reading; `soak` has the generator's files in place of those
+/// that the words name, and `pack` packs each file before it reads the next one. A refusal names the
 /// first cause in this order.
-pub fn prepare<H: Shelf>(alloc: Global, words: &[String], shelf: &mut H) -> Result<Ready, Refusal>
-    ensures task { IfOk result (IsReady (H.tells shelf.old) (command_of words.now)) }
+pub fn prepare<H: Shelf, G: Generator>(
+    alloc: Global,
+    words: &[String],
+    shelf: &mut H,
+) -> Result<Ready, Refusal>
+    ensures task { IfOk result (IsReady G.files (H.tells shelf.old) (command_of words.now)) }
     ensures within { IfOk result IsWithinLimits }
     ensures refused { IfErr result
         (Cause (shelf_account H.tells shelf.old shelf.new) (command_of words.now)) }
@@ -257,7 +262,7 @@ pub fn prepare<H: Shelf>(alloc: Global, words: &[String], shelf: &mut H) -> Resu
         Some(Command::List { flash }) => load_list(alloc, flash, shelf),
         Some(Command::Pack { files }) => load_pack(alloc, files, shelf),
         Some(Command::Edit(words)) => load_edit(alloc, words, shelf),
-        Some(Command::Soak { number, turns }) => load_soak(alloc, number, turns),
+        Some(Command::Soak { number, turns }) => load_soak::<G>(alloc, number, turns),
         None => Err(Refusal::Usage),
     }
 }

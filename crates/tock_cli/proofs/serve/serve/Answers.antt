@@ -3,4 +3,4 @@ use Rattle.tock_cli.proofs.serve.serve.Goals as goal
 
 pub returns : goal.returns
 returns g c =
-    record { serves = answers _ _ _ c.act.new.last c.act.result c.answer.result c.answer.ensures c.act.ensures }
+    record { serves = answers _ _ _ _ c.act.new.last c.act.result c.answer.result c.answer.ensures c.act.ensures }

@@ -3,8 +3,7 @@ use Rattle.tool_words.specs.declared.refusal.Refusal.TheVariants.{Image}
 use Rattle.tool_words.specs.declared.refusal.ImageFault.{ImageFault}
 use Rattle.tool_words.specs.Words.{edit_given, edits_of}
 use Rattle.tool_words.specs.Parts.{edit_words}
-use Rattle.tool_tasks.specs.Comes.{Making, edited_by}
-use Rattle.tool_tasks.specs.Parts.{IsTaskOf}
+use Rattle.tool_tasks.specs.Comes.{Making, IsTaskOf, edited_by}
 use Rattle.tool_tasks.specs.Causes.{CauseOf, shelf_account}
 use Rattle.tool_tasks.proofs.Loading.{edit_no_task, edit_task, edit_unread, whole_back}
 use Rattle.tool_tasks.proofs.prepare.load_edit.Goals as goal
