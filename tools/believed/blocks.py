@@ -87,15 +87,11 @@ def with_titles(found):
 
 
 class Pages:
-    """All blocks: those of the headline's sections; and on the other page those that it needs for one command alone,
-    and those that each further part adds."""
+    """All blocks: those of the headline's sections; and on the other page those that each further part adds."""
 
     def __init__(self, plan, reached):
-        apart = {id(found) for found in reached.apart}
-        main = [found for found in reached.under.definitions if id(found) not in apart]
-        self.sections = [blocks(HEADLINE, files) for files in in_sections(plan, main)]
-        self.apart = blocks(LAWS, by_file(reached.apart))
+        self.sections = [blocks(HEADLINE, files) for files in in_sections(plan, reached.under.definitions)]
         self.added = {id(part): blocks(LAWS, by_file(part.definitions)) for part in reached.parts[1:]}
         on_headline = with_titles([block for listed in self.sections for block in listed])
-        on_laws = with_titles(self.apart + [block for listed in self.added.values() for block in listed])
+        on_laws = with_titles([block for listed in self.added.values() for block in listed])
         self.block_of = {id(found): block for block in on_headline + on_laws for found in block.definitions}

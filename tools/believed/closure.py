@@ -149,10 +149,10 @@ def type_meanings(names, of, reads):
     return names.in_contract(module, model) + (names.in_code(module, code) if of.kind != "type" else [])
 
 
-def closure(names, starts, reads=None, without=()):
+def closure(names, starts, reads=None):
     """All that these rest on, each before what it first names itself. Types with a model are opened where it is told
-    which fields are read. Some definitions, and what these alone rest on, may be left out."""
-    reached, seen, waiting = Closure(), {id(left_out) for left_out in without}, list(reversed(starts))
+    which fields are read."""
+    reached, seen, waiting = Closure(), set(), list(reversed(starts))
     while waiting:
         now = waiting.pop()
         key = now if isinstance(now, tuple) else id(now)
@@ -200,6 +200,11 @@ class Contract:
     def code(self):
         """Its lines."""
         return self.text.split("\n")
+
+    @property
+    def key(self):
+        """By what sections name it: its file, as crate/file.rt, and its name."""
+        return ("%s/%s" % (self.module.crate, self.module.file), self.name)
 
     @property
     def premises(self):

@@ -30,16 +30,20 @@ def with_numbers(document, reached):
 
 def unplaced(plan, reached):
     """Files that no section has, and entries of sections of which nothing is reached."""
-    apart = {id(found) for found in reached.apart}
-    files = {found.place: found for found in reached.under.definitions
-             if section_of(plan, found) is None and id(found) not in apart}
+    files = {found.place: found for found in reached.under.definitions if section_of(plan, found) is None}
     reaches = {entry for found in reached.under.definitions
                for entry in (found.crate, found.place, key(found))}
     missing = ["%s is in no section of tools/believed/sections.py" % place for place in files]
     idle = ["tools/believed/sections.py: nothing is reached of %s" % entry
-            for listed in [*(listed for _, listed in plan.SECTIONS), plan.APART] for entry in listed
-            if entry not in reaches]
+            for _, listed in plan.SECTIONS for entry in listed if entry not in reaches]
     return missing + idle
+
+
+def uncited(plan, reached):
+    """Whether no document cites the law of what the program is given."""
+    cited = [contract.key for _, laws in reached.laws for contract, _ in laws]
+    is_cited = plan.GIVEN is None or plan.GIVEN in cited
+    return [] if is_cited else ["tools/believed/sections.py: no document cites the law %s" % plan.GIVEN[1]]
 
 
 def unexplained(reached):
@@ -94,7 +98,7 @@ def too_long(plan, reached):
 
 def source_faults(sources, plan, reached, library=LIBRARY):
     """What is wrong with the sources themselves, and with the sentences on words of the library."""
-    return (unplaced(plan, reached) + unexplained(reached) + without_source(sources, reached)
+    return (unplaced(plan, reached) + uncited(plan, reached) + unexplained(reached) + without_source(sources, reached)
             + for_proofs_only(sources, plan, reached) + untold_words(reached, library)
             + unknown_parts(plan, reached) + too_long(plan, reached))
 

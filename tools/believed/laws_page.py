@@ -1,21 +1,8 @@
-"""Makes the page of what stands beside the headline: what one command alone needs, what a board shows, the other
-guarantees, steps that somebody else chooses, and laws."""
+"""Makes the page of what stands beside the headline: what a board shows, the other guarantees, steps that somebody else
+chooses, and laws."""
 
 from blocks import HEADLINE
 from layout import contents_text
-
-
-def apart_title(plan):
-    """The heading of what one command alone needs."""
-    return "What `%s` alone needs" % plan.APART_FOR
-
-
-def apart_text(layout):
-    """What one command alone needs."""
-    ways = " and ".join("`%s`" % name.split(":")[1] for name in layout.plan.APART)
-    lines = ["## " + apart_title(layout.plan), "", "The contract of `%s` rests on these only by way of %s."
-             % (layout.reached.headline.name, ways)]
-    return lines + layout.blocks_text(layout.pages.apart) if layout.pages.apart else []
 
 
 def group_text(layout, title, told, group):
@@ -30,7 +17,7 @@ def first_text():
     """What the page is."""
     return ["# Laws, and what else stands beside the headline", "",
             "`tools/headline` makes this page from the sources; do not edit it. It has what stands beside [the "
-            "headline](%s): what one command alone needs, and what a board shows; the contracts of the other "
+            "headline](%s): what a board shows, the contracts of the other "
             "guarantees, and each law that the README and [claims.md](claims.md) cite, each with the definitions that "
             "it adds to those before it, and to those of the headline. How definitions are written, the words of the "
             "library, and the links below each file are told [there](%s#how-definitions-are-written)."
@@ -46,7 +33,7 @@ def board_text(layout):
 def laws_page(layout):
     """The page of the laws."""
     reached = layout.reached
-    lines = apart_text(layout) + board_text(layout)
+    lines = board_text(layout)
     lines += group_text(layout, "The other guarantees", "The contracts of guarantees 1 to 4 of the README, each before "
                         "what it adds.", reached.guarantees)
     lines += group_text(layout, "Steps that somebody else chooses", "The contract of any list of choices.",

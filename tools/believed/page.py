@@ -2,7 +2,6 @@
 
 from aliases import OF_LIBRARY
 from blocks import HEADLINE, LAWS, anchor
-from laws_page import apart_title
 from layout import contents_text, counted, fenced, size_text, types_text
 from library import LIBRARY, NOTATION
 from standards import STANDARDS
@@ -12,8 +11,8 @@ def first_text(plan, reached):
     """What the page is, the headline in a sentence, which names have its parts, and what is not promised."""
     told = ("`tools/headline` makes this page from the sources; do not edit it. It has the contract of `%s`, which is "
             "what is proved of the whole program, with every definition under it, its comment and the standard that it "
-            "comes from. On [another page](%s) stand what `%s` alone needs, what a board shows, the contracts of the "
-            "other guarantees, and each law that is cited." % (reached.headline.name, LAWS, plan.APART_FOR))
+            "comes from. On [another page](%s) stand what a board shows, the contracts of the other guarantees, and "
+            "each law that is cited." % (reached.headline.name, LAWS))
     lines = ["# The headline in full", "", told, "", "## The headline", "", "**%s**" % plan.SENTENCE, "",
              "Where each part of it stands:", ""]
     lines += ["- " + part for part in plan.PARTS] + ["", "## What is not promised", ""]
@@ -34,10 +33,9 @@ def numbers_text(plan, reached):
     one, five = sum(reached.lines()), sum(reached.lines_of_guarantees())
     table = ["| %s | %s | %s |" % (of, format(here, ","), format(there, ",")) for of, here, there in rows]
     told = "Under `%s` there are %s" % (reached.headline.name, size_text(reached.under.definitions))
-    if reached.apart:
-        told += (" Of these %s, on %s, are for `%s` alone, and stand [on the other page](%s#%s)."
-                 % (counted(len(reached.apart), "definition"), counted(sum(of.size for of in reached.apart), "line"),
-                    plan.APART_FOR, LAWS, anchor(apart_title(plan))))
+    told += "".join(" What the program is given beside that is not among them: [`%s`](%s#%s) says it, with %s"
+                    % (contract.name, LAWS, anchor(contract.name), size_text(added.definitions))
+                    for _, laws in reached.laws for contract, added in laws if contract.key == plan.GIVEN)
     return ["## How much there is to believe", "",
             "Lines as they are printed here, without blank ones and comments.", "",
             "| Of | `%s` | All five guarantees |" % reached.headline.name, "|---|---|---|"] + table + [
@@ -48,8 +46,8 @@ def numbers_text(plan, reached):
 def premises_text(plan, contract):
     """What the contract asks of its caller, and what a reader assumes beside it, with how that could fail."""
     asks = ["The contract asks of its caller:", ""] + fenced("rust", "\n".join(contract.premises)) + [""]
-    none = ["The contract asks nothing of its caller: it holds for all words, and for all shelves and sinks, each of "
-            "which is proved to keep the contract of its trait.", ""]
+    none = ["The contract asks nothing of its caller: it holds for all words, and for all generators, shelves and "
+            "sinks, each of which is proved to keep the contract of its trait.", ""]
     rows = ["| %d | %s | %s | %s |" % (number, *row) for number, row in enumerate(plan.ASSUMPTIONS, 1)]
     return (["## Assumptions", ""] + (asks if contract.premises else none)
             + ["Beside what is printed here a reader assumes:", "",

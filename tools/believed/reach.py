@@ -2,19 +2,16 @@
 
 from dataclasses import dataclass, field
 
-from blocks import key
 from cited import cited_functions, is_law
 from closure import Closure, closure, contract_of, opened
 
 
 @dataclass
 class Reach:
-    """The headline's contract with all under it, and which definitions of these one command alone needs; what a board
-    shows beyond that, and further contracts, each with what it adds to those before it. Laws stand under the heading of
-    the document that cites them."""
+    """The headline's contract with all under it; what a board shows beyond that, and further contracts, each with what
+    it adds to those before it. Laws stand under the heading of the document that cites them."""
     headline: object
     under: Closure
-    apart: list
     board: Closure
     guarantees: list = field(default_factory=list)
     steps: list = field(default_factory=list)
@@ -59,13 +56,6 @@ def size_of_types(types, is_open):
     return sum(len(of.code()) if is_open or not of.value else 1 for of in types)
 
 
-def apart_of(names, plan, starts, under):
-    """The definitions on which a contract rests only by way of those that are to stand apart."""
-    ways = [found for found in under.definitions if key(found) in plan.APART]
-    rest = {id(found) for found in closure(names, starts, without=ways).definitions}
-    return [found for found in under.definitions if id(found) not in rest]
-
-
 def added_to(seen, reached):
     """What is reached and was not seen; it is seen then."""
     new = Closure([found for found in reached.definitions if id(found) not in seen],
@@ -105,5 +95,5 @@ def reach(names, plan, documents):
         contracts = [contract_of(names, place, function) for place, function in listed]
         return [(contract, added_to(seen, closure(names, contract.starts))) for contract in contracts]
     laws = laws_cited(names.sources, plan, documents)
-    return Reach(headline, under, apart_of(names, plan, headline.starts, under), board, followed(plan.GUARANTEES),
-                 followed(plan.STEPS), [(heading, followed(listed)) for heading, listed in laws.items()])
+    return Reach(headline, under, board, followed(plan.GUARANTEES), followed(plan.STEPS),
+                 [(heading, followed(listed)) for heading, listed in laws.items()])

@@ -114,7 +114,7 @@ impl Model for Seen {
 def plan(**other):
     """A table of sections for the small sources."""
     usual = dict(HEADLINE=("top/lib.rt", "keep"), LIMIT=100, LINES=1000, BOARD=("top/state.rt", "Seen"), STEPS=[],
-                 SECTIONS=[("First", ["top"]), ("Then", ["base"])], GUARANTEES=[], APART=[], APART_FOR="twice",
+                 SECTIONS=[("First", ["top"]), ("Then", ["base"])], GUARANTEES=[], GIVEN=None,
                  ASSUMPTIONS=[("Trust this.", "a fault", "a test"), ("And that.", "a flaw", "a look")],
                  SENTENCE="It keeps its promise.", PARTS=["*Promise*: `Promises`."], NOT_PROMISED=["That it is fast."],
                  PICTURE="State -> Way", ARROWS=[("->", "it `Promises`", "1")],
@@ -255,12 +255,10 @@ class Page(unittest.TestCase):
         made, _ = pages_of(small(top, BASE + more))
         self.assertEqual(made.count(" and 2 more"), 1)
 
-    def test_what_stands_apart(self):
-        made, laws = pages_of(self.sources, APART=["base/Sums:double"])
-        self.assertIn("Of these 1 definition, on 2 lines, are for `twice` alone", made)
-        self.assertNotIn("abbrev pub double", made)
-        self.assertIn("## What `twice` alone needs\n", laws)
-        self.assertIn("abbrev pub double", laws)
+    def test_what_is_given(self):
+        made, _ = pages_of(self.sources, [CLAIMS], GIVEN=("top/law.rt", "it_idles"))
+        self.assertIn(" [`it_idles`](laws.md#it_idles) says it, with 1 definition in 1 file, 2 lines.", made)
+        self.assertNotIn("says it, with", self.made)
 
     def test_short_definitions_stand_close(self):
         found = list(self.sources.specs["base", "Sums"].definitions.values())
@@ -386,9 +384,9 @@ class Faults(unittest.TestCase):
         self.assertEqual(faults.too_many_lines(plan(), made), [])
         self.assertEqual(len(faults.too_many_lines(plan(LINES=10), made)), 1)
 
-    def test_nothing_that_stands_apart(self):
-        self.assertEqual(faults_of(small(self.sound()), APART=["base/Sums:gone"]),
-                         ["tools/believed/sections.py: nothing is reached of base/Sums:gone"])
+    def test_a_law_of_what_is_given_that_none_cites(self):
+        self.assertEqual(faults_of(small(self.sound()), GIVEN=("top/law.rt", "it_idles")),
+                         ["tools/believed/sections.py: no document cites the law it_idles"])
 
     def test_functions_that_are_gone(self):
         with self.assertRaisesRegex(Unread, "no public function lose"):

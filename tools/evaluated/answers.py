@@ -8,6 +8,7 @@ from compiling import Compiler
 # An example of more steps is not evaluated; one of more than these is not asked for each process by itself.
 MOST_STEPS, MOST_ALONE = 2000, 300
 COMMANDS, TASKS, REFUSALS = "tool_words/Words", "tool_tasks/Comes", "tool_words/Refusals"
+GENERATOR, SCRIPTS = "image_make/Generator", "script_text/Reading"
 NONE = ("None",)
 
 
@@ -63,6 +64,11 @@ class Answers:
             wrong += [slot] if own != ("Some", last[slot]) else []
         return wrong
 
+    def soaking(self, number, turns):
+        """The task of `soak`, as by `IsTask`: the run of what its generator makes, as by `AreSoakFiles`."""
+        flash, script = (self.function(GENERATOR, name)(number) for name in ("soak_flash", "soak_script"))
+        return self.function(TASKS, "run_under")(("Soak",), turns, flash, self.function(SCRIPTS, "reading")(script))
+
     def to_command(self, command, files, is_short):
         """The answer to a command: the first file for which it is refused decides, as by `DecidedBy`. In a short run
         each process is what it is by itself."""
@@ -75,7 +81,9 @@ class Answers:
             if refused != NONE:
                 return self.refusal(refused[1])
             before.append(list(text))
-        task = self.function(TASKS, "comes_to")(command, before)[1][1]
+        is_soak = command[0] == "Soaks"
+        came = self.soaking(*command[1:]) if is_soak else self.function(TASKS, "comes_to")(command, before)[1]
+        task = came[1]
         wrong = self.not_alone(task) if is_short and task[0] == "Running" else []
         return 0, b"slots %a are not alone" % wrong if wrong else bytes(self.function(TASKS, "task_text")(task))
 

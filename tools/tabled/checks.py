@@ -389,7 +389,7 @@ def answers(facts):
         listed = {status["Usage"], status["Memory"], 6}
         listed |= {status["Fault"], status["TooLong"]} if files[form] != "[]" else set()
         listed |= {status["Script"]} if "ScriptFile" in files[form] else set()
-        listed |= {status["Image"]} if "refused" in comes[form] else set()
+        listed |= {status["Image"]} if "refused" in comes.get(form, "") else set()
         found.append((command, sorted(listed)))
     return found
 

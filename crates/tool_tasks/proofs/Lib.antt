@@ -2,3 +2,4 @@ pub mod Files
 pub mod Loading
 pub mod Packing
 pub mod Soak
+pub mod Worked
