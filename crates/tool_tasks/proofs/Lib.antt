@@ -1,5 +1,5 @@
 pub mod Files
 pub mod Loading
 pub mod Packing
-pub mod Soak
+pub mod SoakScripts
 pub mod Worked
