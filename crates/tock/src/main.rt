@@ -23,5 +23,11 @@ fn main(rt: HostRuntime) -> ExitCode {
     let mut shelf = FileShelf::new(&rt);
     let mut out = OutSink::new(&rt);
     let mut last = None;
-    ExitCode::from(serve::<_, _, SoakGenerator>(rt.alloc(), &words, &mut shelf, &mut out, &mut last))
+    ExitCode::from(serve::<_, _, SoakGenerator>(
+        rt.alloc(),
+        &words,
+        &mut shelf,
+        &mut out,
+        &mut last,
+    ))
 }

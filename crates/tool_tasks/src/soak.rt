@@ -1,5 +1,4 @@
 //! The generator of the program's soak runs.
-ghost use Rattle.std.specs.Prelude.{◌≡◌, IfOk};
 ghost use Rattle.tool_tasks.specs.Soak.{MakesSoakFiles};
 
 use crate::generator::Generator;
@@ -19,10 +18,7 @@ impl Generator for SoakGenerator {
       script = soak_script number;
     } };
 
-    fn generate(alloc: Global, number: u32) -> Result<RunFiles, NoMemory>
-        ensures flash { IfOk result (λ made. made.flash.items ≡ soak_flash number) }
-        ensures script { IfOk result (λ made. made.script.items ≡ soak_script number) }
-    {
+    fn generate(alloc: Global, number: u32) -> Result<RunFiles, NoMemory> {
         let (flash, script) = image_of(alloc, number)?;
         Ok(RunFiles { flash, script })
     }

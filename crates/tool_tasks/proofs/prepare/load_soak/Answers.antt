@@ -1,5 +1,4 @@
-use Rattle.std.proofs.Common.{◌∙◌, ◌≡◌, rules, subst, sym, ap, List, ℕ, Some, None, true}
-use Rattle.std.specs.Result.{is_ok}
+use Rattle.std.proofs.Common.{◌∙◌, rules, subst, sym, ap, List, ℕ, Some, None}
 use Rattle.script_text.specs.Reading.{reading}
 use Rattle.board_opening.specs.Opening.{opening}
 use Rattle.run_text.specs.declared.mode.Mode.TheVariants.{Soak}

@@ -6,4 +6,5 @@ use Rattle.tool_tasks.proofs.soak.SoakGeneratorGenerator.generate.Goals as goal
 
 pub returns-clause-reads : goal.returns-clause-reads
 returns-clause-reads c =
-    subst (λ (script : List ℕ). is_ok (reading script) ≡ true) (sym c.in_ok.ensures.script) (soak_reads c.args.number)
+    subst (λ (script : List ℕ). is_ok (reading script) ≡ true) (sym c.in_ok-flash.ensures.script)
+    (soak_reads c.args.number)
