@@ -4,6 +4,7 @@ mod Texts
 mod TurnCounts
 mod Turning
 mod Seeking
+mod Finding
 mod Watching
 mod Granted
 mod Timing

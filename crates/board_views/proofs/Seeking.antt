@@ -1,8 +1,8 @@
 -- A board that goes on to a goal, and one that is asked for the last place of its way.
-use Rattle.std.proofs.Common.{◌≡◌, ℕ, zero, suc, ◌-◌, ◌<◌, ◌≤◌, nat_lt, Bool, true, false, cond, List}
-use Rattle.std.proofs.Common.{Option, None, Some}
-use Rattle.std.proofs.Common.{refl, sym, ap, subst, ◌∙◌, arith}
-use Rattle.std.proofs.lemmas.Bool.{false≢true}
+use Rattle.std.proofs.Common.{◌≡◌, ◌⊎◌, inl, inr, ℕ, zero, suc, ◌-◌, ◌<◌, ◌≤◌, nat_lt, ◌||◌, Bool, true, false, cond}
+use Rattle.std.proofs.Common.{List, Option, None, Some, option_and_then, unwrap_or}
+use Rattle.std.proofs.Common.{refl, sym, ap, ap₂, subst, ◌∙◌, arith}
+use Rattle.std.proofs.lemmas.Bool.{false≢true, le-ltb, lt-ltb, ltb-false, ltb-true}
 use Rattle.tk_base.specs.declared.limits.TheConstants.{STEP_LIMIT}
 use Rattle.tk_base.specs.declared.process.Choice.{Choice}
 use Rattle.process_record.specs.declared.emit.Emit.{Emit}
@@ -13,17 +13,17 @@ use Rattle.kernel_model.specs.Parts.{on_choice}
 use Rattle.board_views.specs.declared.goal.Goal.{Goal}
 use Rattle.board_views.specs.declared.going.Stop.{Stop}
 use Rattle.board_views.specs.declared.searches.Found.{Found}
-use Rattle.board_views.specs.Goals.{before_stop, changed_at, step_stop, stop_after, watched_bytes}
+use Rattle.board_views.specs.Goals.{before_stop, changed_at, or_else, step_stop, stop_after, watched_bytes}
 use Rattle.board_views.specs.Searches.{PassesNothing, Reached, Searched, by_choice, choice_in, finds, after_one_step}
 use Rattle.board_views.specs.Searches.{halts}
-use Rattle.board_views.specs.Searches.{kept_after, last_before, search, search_step, seen_after}
-use Rattle.board_views.specs.Searches.{seen_before, stop_before}
+use Rattle.board_views.specs.Searches.{kept_after, last_before, last_stop, search, search_step, seen_after}
+use Rattle.board_views.specs.Searches.{seen_before, stop_ahead, stop_before, stop_in_step}
 use Rattle.board_views.specs.Searches.{until, until_goal}
 use Rattle.board_views.specs.Stops.{stop_at}
 use Rattle.board_views.proofs.Stretches.{lead-step, lead-zero}
 
 -- a choice that may be made is the next one
-chosen_is_next : (w : World) (c : Choice) → choice_in w ≡ Some c → next w ≡ Some c
+pub chosen_is_next : (w : World) (c : Choice) → choice_in w ≡ Some c → next w ≡ Some c
 chosen_is_next w c e = by_test (nat_lt w.clock.steps STEP_LIMIT) e
   where
     by_test : (b : Bool) → cond b (next w) None ≡ Some c → next w ≡ Some c
@@ -124,6 +124,79 @@ module _ {most : ℕ} {goal : Goal} {kept : List ℕ} {left : ℕ} {begun : Bool
             ∙ ap (until (left - 1) goal kept true) (sym f);
       }
 
+-- what stops it before the next step, which may be the first one where it has begun
+abbrev next_stop_by : ℕ → Goal → Bool → World → ℕ → Option Stop
+next_stop_by n goal begun from made =
+    cond (nat_lt made n) (stop_ahead goal (begun || nat_lt 0 made) (round made from).world) None
+
+abbrev first_stop : ℕ → Goal → List ℕ → Bool → World → ℕ → Option Stop
+first_stop n goal kept begun from made = or_else (last_stop goal kept from made) (next_stop_by n goal begun from made)
+
+-- why it stopped, likewise
+record Stopped (n : ℕ) (goal : Goal) (kept : List ℕ) (begun : Bool) (from : World) (made : ℕ) (stop : Stop)
+    : Type 0 where
+  why : stop ≡ unwrap_or (first_stop n goal kept begun from made) (stop_at (round made from).world)
+  over : first_stop n goal kept begun from made ≡ None → (made ≡ n) ⊎ (choice_in (round made from).world ≡ None)
+
+-- tests of numbers, each one more
+more_left : (n : ℕ) → nat_lt zero (suc n) ≡ true
+more_left n = lt-ltb zero (suc n) (omega arith)
+
+same_left : (m n : ℕ) → nat_lt (suc m) (suc n) ≡ nat_lt m n
+same_left m n = by_test (nat_lt m n) refl
+  where
+    by_test : (b : Bool) → nat_lt m n ≡ b → nat_lt (suc m) (suc n) ≡ b
+    by_test true e = let less = ltb-true m n e in lt-ltb (suc m) (suc n) (omega (arith, less))
+    by_test false e = let least = ltb-false m n e in le-ltb (suc m) (suc n) (omega (arith, least))
+
+-- it stops for this
+for_this : (stop : Stop) (o : Option Stop) (other : Stop) → o ≡ Some stop → stop ≡ unwrap_or o other
+for_this stop o other e = sym (ap (λ (x : Option Stop). unwrap_or x other) e)
+
+-- nothing stops it
+for_none : (stop : Stop) (o : Option Stop) (other : Stop) → o ≡ None → stop ≡ other → stop ≡ unwrap_or o other
+for_none stop o other e s = s ∙ sym (ap (λ (x : Option Stop). unwrap_or x other) e)
+
+-- something does
+not_none : {P : Type 0} (stop : Stop) (o : Option Stop) → o ≡ Some stop → o ≡ None → P
+not_none stop o e n = absurd (cc)
+
+module _ (goal : Goal) (kept : List ℕ) (begun : Bool) (w : World) where
+  -- before the first step, by the choice that may be made
+  ahead : (n : ℕ) (o : Option Choice) → choice_in w ≡ o
+      → first_stop (suc n) goal kept begun w zero ≡ option_and_then (stop_before goal begun w) o
+  ahead n o e =
+      ap (λ (b : Bool). cond b (stop_ahead goal (begun || nat_lt 0 zero) (round zero w).world) None) (more_left n)
+      ∙ ap (stop_ahead goal (begun || nat_lt 0 zero)) (lead-zero w)
+      ∙ ap (λ (b : Bool). stop_ahead goal b w) (or_false begun)
+      ∙ ap (option_and_then (stop_before goal begun w)) e
+    where
+      or_false : (b : Bool) → (b || false) ≡ b
+      or_false true = refl
+      or_false false = refl
+
+  -- no steps might be made
+  why_none : Stopped zero goal kept begun w zero (stop_at w)
+  why_none = record {
+    why = for_none _ _ _ refl (sym (ap stop_at (lead-zero w)));
+    over = λ none. inl refl;
+  }
+
+  -- no step is left
+  why_over : (n : ℕ) → choice_in w ≡ None → Stopped (suc n) goal kept begun w zero (stop_at w)
+  why_over n e = record {
+    why = for_none _ _ _ (ahead n None e) (sym (ap stop_at (lead-zero w)));
+    over = λ none. inr (ap choice_in (lead-zero w) ∙ e);
+  }
+
+  -- it stops before the first one
+  why_before : (n : ℕ) (c : Choice) (stop : Stop) → choice_in w ≡ Some c → stop_before goal begun w c ≡ Some stop
+      → Stopped (suc n) goal kept begun w zero stop
+  why_before n c stop e s = record {
+    why = for_this stop _ _ (ahead n (Some c) e ∙ s);
+    over = not_none stop _ (ahead n (Some c) e ∙ s);
+  }
+
 -- it passes nothing; the first step may be before a place at which it stops, unless it has begun
 record Passes (n : ℕ) (goal : Goal) (kept : List ℕ) (begun : Bool) (from : World) (r : Reached) : Type 0 where
   made : ℕ
@@ -133,16 +206,18 @@ record Passes (n : ℕ) (goal : Goal) (kept : List ℕ) (begun : Bool) (from : W
       → before_stop goal (round i from).world choice ≡ None
   after_step : (i : ℕ) (choice : Choice) → suc i < made → next (round i from).world ≡ Some choice
       → step_stop goal kept (round i from).world choice ≡ None
+  stopped : Stopped n goal kept begun from made r.stop
 
 -- no step is made
 stays_there : (n : ℕ) (goal : Goal) (kept : List ℕ) (begun : Bool) (w : World) (stop : Stop)
-    → Passes n goal kept begun w (record { world = w; stop = stop })
-stays_there n goal kept begun w stop = record {
+    → Stopped n goal kept begun w zero stop → Passes n goal kept begun w (record { world = w; stop = stop })
+stays_there n goal kept begun w stop s = record {
   made = zero;
   within = omega arith;
   reached = sym (lead-zero w);
   before = λ i choice b l e. absurd (none i l);
   after_step = λ i choice l e. absurd (none (suc i) l);
+  stopped = s;
 }
   where
     none : (i : ℕ) → i < 0 → ⊥
@@ -166,13 +241,19 @@ module _ (n : ℕ) (goal : Goal) (kept : List ℕ) (begun : Bool) (w : World) (c
       ap (λ (v : World). before_stop goal v d) (lead-zero w)
       ∙ ap (before_stop goal w) (sym (same_choice d f)) ∙ none_before b
 
-  makes : (stop : Stop) → Passes (suc n) goal kept begun w (record { world = after w c; stop = stop })
-  makes stop = record {
+  -- what stops it after this step
+  in_first : last_stop goal kept w 1 ≡ step_stop goal kept w c
+  in_first = ap (stop_in_step goal kept) (lead-zero w) ∙ ap (option_and_then (step_stop goal kept w)) e
+
+  makes : (stop : Stop) → step_stop goal kept w c ≡ Some stop
+      → Passes (suc n) goal kept begun w (record { world = after w c; stop = stop })
+  makes stop t = record {
     made = 1;
     within = omega arith;
     reached = sym (lead-step zero w c e ∙ lead-zero (after w c));
     before = first;
     after_step = λ i choice l f. absurd (none i l);
+    stopped = record { why = for_this stop _ _ this; over = not_none stop _ this };
   }
     where
       none : (i : ℕ) → suc i < 1 → ⊥
@@ -183,6 +264,42 @@ module _ (n : ℕ) (goal : Goal) (kept : List ℕ) (begun : Bool) (w : World) (c
       first zero d b l f = at_first d (b refl) f
       first (suc i) d b l f = absurd (none i l)
 
+      this : first_stop (suc n) goal kept begun w 1 ≡ Some stop
+      this = ap (λ (o : Option Stop). or_else o (next_stop_by (suc n) goal begun w 1)) (in_first ∙ t)
+
+  -- what stops it after more steps is what stops it after those that follow this one
+  last_on : (m : ℕ) → step_stop goal kept w c ≡ None
+      → last_stop goal kept w (suc m) ≡ last_stop goal kept (after w c) m
+  last_on zero t = in_first ∙ t
+  last_on (suc i) t = ap (stop_in_step goal kept) (lead-step i w c e)
+
+  next_on : (m : ℕ) → next_stop_by (suc n) goal begun w (suc m) ≡ next_stop_by n goal true (after w c) m
+  next_on m =
+      ap₂ (λ (b : Bool) (v : World). cond b (stop_ahead goal (begun || nat_lt 0 (suc m)) v) None) (same_left m n)
+      (lead-step m w c e)
+      ∙ ap (λ (b : Bool). cond (nat_lt m n) (stop_ahead goal b (round m (after w c)).world) None)
+      (ap (λ (b : Bool). begun || b) (more_left m) ∙ or_true begun)
+    where
+      or_true : (b : Bool) → (b || true) ≡ true
+      or_true true = refl
+      or_true false = refl
+
+  first_on : (m : ℕ) → step_stop goal kept w c ≡ None
+      → first_stop (suc n) goal kept begun w (suc m) ≡ first_stop n goal kept true (after w c) m
+  first_on m t = ap₂ or_else (last_on m t) (next_on m)
+
+  stops_on : (m : ℕ) (stop : Stop) → step_stop goal kept w c ≡ None → Stopped n goal kept true (after w c) m stop
+      → Stopped (suc n) goal kept begun w (suc m) stop
+  stops_on m stop t p = record {
+    why = p.why ∙ sym (ap₂ unwrap_or (first_on m t) (ap stop_at (lead-step m w c e)));
+    over = λ none. one_more (p.over (sym (first_on m t) ∙ none));
+  }
+    where
+      one_more : (m ≡ n) ⊎ (choice_in (round m (after w c)).world ≡ None)
+          → (suc m ≡ suc n) ⊎ (choice_in (round (suc m) w).world ≡ None)
+      one_more (inl all) = inl (ap suc all)
+      one_more (inr none) = inr (ap choice_in (lead-step m w c e) ∙ none)
+
   goes_further : (r : Reached) → step_stop goal kept w c ≡ None → Passes n goal kept true (after w c) r
       → Passes (suc n) goal kept begun w r
   goes_further r t p = record {
@@ -191,6 +308,7 @@ module _ (n : ℕ) (goal : Goal) (kept : List ℕ) (begun : Bool) (w : World) (c
     reached = p.reached ∙ sym (lead-step p.made w c e);
     before = before;
     after_step = after_step;
+    stopped = stops_on p.made r.stop t p.stopped;
   }
     where
       before : (i : ℕ) (d : Choice) → (i ≡ 0 → begun ≡ true) → i < suc p.made → next (round i w).world ≡ Some d
@@ -217,7 +335,8 @@ passes_as {n} {goal} {kept} {begun} {w} e p = subst (λ (x : Reached). Passes n 
 passing : (n : ℕ) (goal : Goal) (kept : List ℕ) (begun : Bool) (w : World)
     → Passes n goal kept begun w (until n goal kept begun w)
 passing zero goal kept begun w =
-    passes_as (until-none zero goal kept begun w refl) (stays_there zero goal kept begun w (stop_at w))
+    passes_as (until-none zero goal kept begun w refl)
+    (stays_there zero goal kept begun w (stop_at w) (why_none goal kept begun w))
 passing (suc n) goal kept begun w = by_next (choice_in w) refl (λ v. passing n goal kept true v)
   where
     by_after : (c : Choice) → next w ≡ Some c → stop_before goal begun w c ≡ None
@@ -229,24 +348,27 @@ passing (suc n) goal kept begun w = by_next (choice_in w) refl (λ v. passing n 
         (goes_further n goal kept begun w c e s (until n goal kept true (after w c)) t (later (after w c)))
     by_after c e s later (Some stop) t =
         passes_as (by-after (until n goal kept true) goal kept begun w c stop s t)
-        (makes n goal kept begun w c e s stop)
+        (makes n goal kept begun w c e s stop t)
 
-    by_before : (c : Choice) → next w ≡ Some c → ((v : World) → Passes n goal kept true v (until n goal kept true v))
+    by_before : (c : Choice) → choice_in w ≡ Some c
+        → ((v : World) → Passes n goal kept true v (until n goal kept true v))
         → (o : Option Stop) → stop_before goal begun w c ≡ o
         → Passes (suc n) goal kept begun w (by_choice (until n goal kept true) goal kept begun w c)
-    by_before c e later None s = by_after c e s later (step_stop goal kept w c) refl
+    by_before c e later None s =
+        by_after c (chosen_is_next w c e) s later (step_stop goal kept w c) refl
     by_before c e later (Some stop) s =
         passes_as (by-before (until n goal kept true) goal kept begun w c stop s)
-        (stays_there (suc n) goal kept begun w stop)
+        (stays_there (suc n) goal kept begun w stop (why_before goal kept begun w n c stop e s))
 
     by_next : (o : Option Choice) → choice_in w ≡ o → ((v : World)
         → Passes n goal kept true v (until n goal kept true v))
         → Passes (suc n) goal kept begun w (until (suc n) goal kept begun w)
     by_next None e later =
-        passes_as (until-halt (suc n) goal kept begun w e) (stays_there (suc n) goal kept begun w (stop_at w))
+        passes_as (until-halt (suc n) goal kept begun w e)
+        (stays_there (suc n) goal kept begun w (stop_at w) (why_over goal kept begun w n e))
     by_next (Some c) e later =
         passes_as (until-step n goal kept begun w c e)
-        (by_before c (chosen_is_next w c e) later (stop_before goal begun w c) refl)
+        (by_before c e later (stop_before goal begun w c) refl)
 
 pub passes_nothing : (n : ℕ) (goal : Goal) (w : World)
     → PassesNothing n goal (watched_bytes w goal.watched.items) w (until_goal n goal w)
@@ -258,26 +380,27 @@ passes_nothing n goal w =
       reached = p.reached;
       before = λ i choice h l e. p.before i choice (λ z. absurd (some i h z)) l e;
       after_step = p.after_step;
+      stopped = record { why = p.stopped.why; over = p.stopped.over };
     }
   where
     some : (i : ℕ) → 0 < i → i ≡ 0 → ⊥
     some i h z = omega (arith, h, z)
 
 -- The search for the last place: where no choice may be made, where one is, and where no steps are left.
-search-halt : (n : ℕ) (goal : Goal) (kept : List ℕ) (found : Option Found) (w : World) → choice_in w ≡ None
+pub search-halt : (n : ℕ) (goal : Goal) (kept : List ℕ) (found : Option Found) (w : World) → choice_in w ≡ None
     → search n goal kept found w ≡ finds w found
 unfolding search
 search-halt zero goal kept found w e = refl
 search-halt (suc n) goal kept found w e =
     ap (λ (o : Option Choice). on_choice (finds w found) (search_step (search n goal) goal kept found w) o) e
 
-search-step : (n : ℕ) (goal : Goal) (kept : List ℕ) (found : Option Found) (w : World) (c : Choice)
+pub search-step : (n : ℕ) (goal : Goal) (kept : List ℕ) (found : Option Found) (w : World) (c : Choice)
     → choice_in w ≡ Some c → search (suc n) goal kept found w ≡ search_step (search n goal) goal kept found w c
 unfolding search
 search-step n goal kept found w c e =
     ap (λ (o : Option Choice). on_choice (finds w found) (search_step (search n goal) goal kept found w) o) e
 
-search-none : (n : ℕ) (goal : Goal) (kept : List ℕ) (found : Option Found) (w : World) → n ≡ zero
+pub search-none : (n : ℕ) (goal : Goal) (kept : List ℕ) (found : Option Found) (w : World) → n ≡ zero
     → search n goal kept found w ≡ finds w found
 unfolding search
 search-none n goal kept found w e = ap (λ (k : ℕ). search k goal kept found w) e

@@ -36,7 +36,7 @@ unready_if_refused true e = sym (e refl)
 unready_if_refused false e = refl
 
 -- nor does a run whose next choice is not ready
-lead-unready : (n : ℕ) (w : World) (c : Choice) → next w ≡ Some c → is_ready w c ≡ false → (round n w).world ≡ w
+pub lead-unready : (n : ℕ) (w : World) (c : Choice) → next w ≡ Some c → is_ready w c ≡ false → (round n w).world ≡ w
 lead-unready zero w c e u = lead-zero w
 lead-unready (suc n) w c e u =
     lead-step n w c e ∙ ap (λ (v : World). (round n v).world) (unready w c u) ∙ lead-unready n w c e u

@@ -1,11 +1,12 @@
 -- A board that goes on until a process had so many turns.
-use Rattle.std.proofs.Common.{◌≡◌, ℕ, zero, suc, ◌+◌, ◌-◌, ◌<◌, ◌≤◌, nat_le, min, Bool, true, false, cond, Option, None}
-use Rattle.std.proofs.Common.{Some, refl, sym, ap, ◌∙◌, arith}
+use Rattle.std.proofs.Common.{◌≡◌, ◌⊎◌, inl, inr, ℕ, zero, suc, ◌+◌, ◌-◌, ◌<◌, ◌≤◌, nat_le, min, Bool, true, false}
+use Rattle.std.proofs.Common.{cond, Option, None, Some, refl, sym, ap, subst, ◌∙◌, arith}
+use Rattle.std.proofs.lemmas.Bool.{leb-false, leb-true}
 use Rattle.std.proofs.lemmas.Bool.Decides.{nat_tests}
 use Rattle.tk_base.specs.declared.process.Choice.{Choice}
 use Rattle.kernel_model.specs.World.{World, after}
 use Rattle.kernel_model.specs.Run.{next, round}
-use Rattle.board_views.specs.Stops.{turns_of, until_turns}
+use Rattle.board_views.specs.Stops.{IsFirstWithTurns, turns_of, until_turns}
 use Rattle.board_views.proofs.Stretches.{lead-step, lead-stop, lead-zero}
 use Rattle.board_views.proofs.TurnCounts.{one_turn}
 
@@ -119,3 +120,62 @@ module _ {most slot turns left : ℕ} {from here : World} (r : TurnsOn most slot
 
       within : (n k m : ℕ) → k ≡ min n m → k ≤ m
       within n k m e = omega (arith, e)
+
+-- The world that it comes to is the first one in which as many were had: as they were at first, or after one step and
+-- then more.
+comes_at_once : (n slot turns : ℕ) (w : World) → turns ≤ turns_of w slot → IsFirstWithTurns n slot turns w w
+comes_at_once n slot turns w h = record {
+  made = zero;
+  few = omega arith;
+  reached = sym (lead-zero w);
+  none_before = λ i l. absurd (none i l);
+  ended = inl h;
+}
+  where
+    none : (i : ℕ) → i < 0 → ⊥
+    none i l = omega (arith, l)
+
+comes_later : (n slot turns : ℕ) (w v : World) → turns_of w slot < turns
+    → IsFirstWithTurns n slot turns (round 1 w).world v → IsFirstWithTurns (suc n) slot turns w v
+comes_later n slot turns w v h f = record {
+  made = suc f.made;
+  few = omega (arith, f.few);
+  reached = f.reached ∙ one_then f.made w;
+  none_before = before;
+  ended = ended f.ended;
+}
+  where
+    before : (i : ℕ) → i < suc f.made → turns_of (round i w).world slot < turns
+    before zero l = subst (λ (u : World). turns_of u slot < turns) (sym (lead-zero w)) h
+    before (suc i) l =
+        subst (λ (u : World). turns_of u slot < turns) (one_then i w) (f.none_before i (omega (arith, l)))
+
+    ended : (turns ≤ turns_of v slot) ⊎ (f.made ≡ n) → (turns ≤ turns_of v slot) ⊎ (suc f.made ≡ suc n)
+    ended (inl has) = inl has
+    ended (inr all) = inr (ap suc all)
+
+comes_first : (n slot turns : ℕ) (w : World) → IsFirstWithTurns n slot turns w (until_turns n slot turns w)
+unfolding until_turns
+comes_first zero slot turns w = record {
+  made = zero;
+  few = omega arith;
+  reached = sym (lead-zero w);
+  none_before = λ i l. absurd (none i l);
+  ended = inr refl;
+}
+  where
+    none : (i : ℕ) → i < 0 → ⊥
+    none i l = omega (arith, l)
+comes_first (suc n) slot turns w =
+    by_test (nat_le turns (turns_of w slot)) refl (comes_first n slot turns (round 1 w).world)
+  where
+    by_test : (b : Bool) → nat_le turns (turns_of w slot) ≡ b
+        → IsFirstWithTurns n slot turns (round 1 w).world (until_turns n slot turns (round 1 w).world)
+        → IsFirstWithTurns (suc n) slot turns w (cond b w (until_turns n slot turns (round 1 w).world))
+    by_test true e later = comes_at_once (suc n) slot turns w (leb-true turns (turns_of w slot) e)
+    by_test false e later = comes_later n slot turns w _ (leb-false turns (turns_of w slot) e) later
+
+pub first_with_turns : (n slot turns : ℕ) (w v : World) → v ≡ until_turns n slot turns w
+    → IsFirstWithTurns n slot turns w v
+first_with_turns n slot turns w v e =
+    subst (λ (u : World). IsFirstWithTurns n slot turns w u) (sym e) (comes_first n slot turns w)

@@ -4,7 +4,7 @@ ghost use Rattle.tk_base.specs.declared.limits.TheConstants.{STEP_LIMIT};
 ghost use Rattle.tk_outside.specs.Writes.{Writes};
 ghost use Rattle.kernel_model.specs.Run.{next, round};
 ghost use Rattle.run_text.specs.RunText.{trace_lines};
-ghost use Rattle.board_views.specs.Stops.{stop_at, turns_of, turns_stop, until_turns, within};
+ghost use Rattle.board_views.specs.Stops.{IsFirstWithTurns, stop_at, turns_of, turns_stop, until_turns, within};
 
 use board_core::Board;
 use kernel_laws::rounds_join;
@@ -173,9 +173,10 @@ fn turns_stop(board: &Board, slot: Slot, turns: u32) -> Stop
 
 /// Makes steps of the round robin until the process of a slot had so many turns since its board
 /// opened, at most so many steps, and tells why the board stopped. A slot without a process has had
-/// 0 turns.
+/// 0 turns. Before each of these steps it had fewer.
 pub fn go_turns(board: &mut Board, slot: Slot, turns: u32, most: u32) -> Stop
     ensures led { board.new ≡ until_turns most slot turns board.old }
+    ensures first { IsFirstWithTurns most slot turns board.old board.new }
     ensures stop { result ≡ turns_stop (until_turns most slot turns board.old) slot turns }
 {
     make_turns(board, slot, turns, most);

@@ -2,9 +2,11 @@
 //! goal would stop it.
 ghost use Rattle.std.specs.Prelude.{◌≡◌, false, IfOk, IfSome, IsTrue, OnErr, OnOk};
 ghost use Rattle.kernel_model.specs.Shown.{shown_by};
+ghost use Rattle.kernel_model.specs.Run.{round};
 ghost use Rattle.kernel_model.specs.World.{after, is_ready, labels};
 ghost use Rattle.board_views.specs.Goals.{watched_bytes};
-ghost use Rattle.board_views.specs.Searches.{PassesNothing, choice_in, finds, kept_after, last_before, search};
+ghost use Rattle.board_views.specs.Searches.{IsLastFound, PassesNothing, choice_in, finds, kept_after, last_before};
+ghost use Rattle.board_views.specs.Searches.{search};
 ghost use Rattle.board_views.specs.Searches.{seen_after, seen_before, stop_before, until, until_goal};
 
 use crate::goal::{Goal, before_stop, change_of, keep_watched, stop_after};
@@ -94,8 +96,9 @@ fn until(board: &mut Board, goal: &Goal, kept: &[u8], most: u32) -> Stop
 
 /// Makes steps of the round robin until the goal stops it, at most so many, and no more than a
 /// board may make in all, and tells why the board stopped. It passes nothing: before none but the
-/// first of these steps the goal stops it, and after none but the last. The one error is want of
-/// memory, and nothing has changed then.
+/// first of these steps the goal stops it, and after none but the last. Why it stopped is what stops
+/// the goal after the last of them, or else before the next one, or else that as many were made or
+/// none is left. The one error is want of memory, and nothing has changed then.
 pub fn go_until(alloc: Global, board: &mut Board, goal: &Goal, most: u32) -> Result<Stop, NoMemory>
     ensures led { OnOk result (board.new ≡ (until_goal most goal.now board.old).world) }
     ensures stop { IfOk result (λ stop. stop ≡ (until_goal most goal.now board.old).stop) }
@@ -149,15 +152,18 @@ fn kept_after(
 
 /// Makes at most so many steps of the round robin, and no more than a board may make in all, and
 /// finds the last place where the goal stops it before one of them, or where one changes a watched
-/// byte. The one error is want of memory; the board has made some of these steps then, and no more
-/// is known of it.
+/// byte: no later one of them does. The one error is want of memory; the board has made some of
+/// these steps then, and no more is known of it.
 pub fn find_last(
     alloc: Global,
     board: &mut Board,
     goal: &Goal,
     most: u32,
 ) -> Result<Option<Found>, NoMemory>
-    ensures { IfOk result (λ found. last_before most goal.now board.old ≡ finds board.new found) }
+    ensures found { IfOk result (λ found. last_before most goal.now board.old ≡ finds board.new found) }
+    ensures led { OnOk result (board.new ≡ (round most board.old).world) }
+    ensures last { IfOk result (λ found. IsLastFound most goal.now
+        (watched_bytes board.old goal.now.watched.items) board.old found) }
 {
     let mut emit = Emit::new();
     let mut found = None;
