@@ -9,3 +9,4 @@ mod Watching
 mod Granted
 mod Timing
 mod Agreeing
+mod Worked

@@ -16,7 +16,7 @@ use Rattle.kernel_model.specs.Run.{next, round}
 use Rattle.kernel_model.specs.Shown.{shown_by}
 use Rattle.kernel_model.specs.Turn.{turned}
 use Rattle.kernel_model.specs.Worked.{board, standing}
-use Rattle.kernel_model.specs.World.{World, after, carried_out, may_be_made, stepped}
+use Rattle.kernel_model.specs.World.{Clock, World, after, carried_out, may_be_made, stepped}
 use Rattle.board_views.specs.declared.goal.Goal.{Goal}
 use Rattle.board_views.specs.declared.going.Stop.TheVariants.{Address, Most}
 use Rattle.board_views.specs.declared.searches.Found.{Found}
@@ -52,10 +52,22 @@ unfolding round next choice ready_device next_slot due_slot stepped carried_out 
     executed fetched instr_of decoding instruction_table denied ram_after
 steps_are = (refl, refl, refl, refl, refl, refl)
 
+-- one that is two steps on made two steps at least
+two_on : (made : ℕ) → twice ≡ (round made walking).world → 2 ≤ made
+two_on zero reached =
+    let none : 2 ≡ 0 = sym (ap (λ (c : Clock). c.steps) steps_are.3)
+        ∙ ap (λ (w : World). w.clock.steps) (reached ∙ steps_are.0) in
+    absurd (omega (arith, none))
+two_on (suc zero) reached =
+    let one : 2 ≡ 1 = sym (ap (λ (c : Clock). c.steps) steps_are.3)
+        ∙ ap (λ (w : World). w.clock.steps) (reached ∙ steps_are.1) ∙ ap (λ (c : Clock). c.steps) steps_are.2 in
+    absurd (omega (arith, one))
+two_on (suc (suc made)) reached = omega arith
+
 -- A board stopped after one of five steps, since its process was at an address; one that tells that as many steps were
 -- made as might be, there or where nothing stopped it.
 abbrev second : Goal
-second = at_addresses (FLASH_START + 4 ∷ [])
+second = at_addresses ((FLASH_START + 4) ∷ [])
 
 stops_at_address : IsWhyItStopped 5 second [] walking 1 (Address 0)
 unfolding round next choice ready_device next_slot due_slot stepped carried_out may_be_made turned user_turn on_word
@@ -78,7 +90,7 @@ none_stops_early stopped = by_end (stopped.over refl)
 
 -- Two instructions at addresses of a goal, of which the second one is the last; the first one, and none.
 abbrev first_two : Goal
-first_two = at_addresses (FLASH_START ∷ FLASH_START + 4 ∷ [])
+first_two = at_addresses (FLASH_START ∷ (FLASH_START + 4) ∷ [])
 
 abbrev place : ℕ → Found
 place steps = record { steps = steps; stop = Address 0 }
@@ -94,21 +106,26 @@ finds_second = record { made = 1; within = omega arith; stops = places.1; none_l
     none : (i : ℕ) → 2 ≤ i → i < 2 → ⊥
     none i h l = omega (arith, h, l)
 
+same_steps : (x y : Found) → Some x ≡ Some y → x.steps ≡ y.steps
+same_steps x y e = let same : x ≡ y = cc in ap (λ (f : Found). f.steps) same
+
+is_there : (x : Found) → Some x ≡ None → ⊥
+is_there x e = cc
+
 none_finds_first : IsLastFound 2 first_two [] walking (Some (place 0)) → ⊥
 none_finds_first last = by_made last.made last.within last.stops last.none_later
   where
     by_made : (made : ℕ) → made < 2 → place_at first_two [] walking made ≡ Some (place 0)
         → NoneStops first_two [] walking (suc made) 2 → ⊥
     by_made zero within stops none =
-        let later : Some (place 1) ≡ None = sym places.1 ∙ none 1 (omega arith) (omega arith) in cc
+        is_there (place 1) (sym places.1 ∙ none 1 (omega arith) (omega arith))
     by_made (suc zero) within stops none =
-        let same : Some (place 1) ≡ Some (place 0) = sym places.1 ∙ stops in
-        cc
+        let same = same_steps (place 1) (place 0) (sym places.1 ∙ stops) in
+        omega (arith, same)
     by_made (suc (suc made)) within stops none = omega (arith, within)
 
 none_finds_none : IsLastFound 2 first_two [] walking None → ⊥
-none_finds_none none =
-    let found : Some (place 1) ≡ None = sym places.1 ∙ none 1 (omega arith) (omega arith) in cc
+none_finds_none none = is_there (place 1) (sym places.1 ∙ none 1 (omega arith) (omega arith))
 
 -- A process comes to its first turn in one step; a board that goes on to its second one.
 comes_to_one : IsFirstWithTurns 5 0 1 walking once
@@ -129,15 +146,30 @@ comes_to_one = record {
         none i l = omega (arith, l)
 
 none_comes_to_two : IsFirstWithTurns 5 0 1 walking twice → ⊥
-none_comes_to_two first = by_made first.made first.reached first.none_before
-  where
-    by_made : (made : ℕ) → twice ≡ (round made walking).world
-        → ((i : ℕ) → i < made → turns_of (round i walking).world 0 < 1) → ⊥
-    by_made made reached before = ?
+none_comes_to_two first =
+    let two = two_on first.made first.reached in
+    let fewer = first.none_before 1 (omega (arith, two)) in
+    let had : turns_of (round 1 walking).world 0 ≡ 1 = ap (λ (w : World). turns_of w 0) steps_are.1 ∙ steps_are.5 in
+    omega (arith, fewer, had)
 
 -- One step is made before the time 1, and ends at it; a board that makes another one, which begins then.
+are_within : (is_some (choice_within 1 walking) ≡ true) × (is_some (choice_within 1 once) ≡ false)
+unfolding next choice ready_device next_slot due_slot stepped carried_out may_be_made turned user_turn on_word
+    executed fetched instr_of decoding instruction_table denied ram_after
+are_within = (refl, refl)
+
 comes_within_one : ComesWithin 5 1 walking once
-comes_within_one = ?
+comes_within_one = record { made = 1; few = omega arith; reached = sym steps_are.1; within = within }
+  where
+    within : (i : ℕ) → i < 1 → is_some (choice_within 1 (round i walking).world) ≡ true
+    within zero l = ap (λ (w : World). is_some (choice_within 1 w)) steps_are.0 ∙ are_within.0
+    within (suc i) l = absurd (none i l)
+      where
+        none : (i : ℕ) → suc i < 1 → ⊥
+        none i l = omega (arith, l)
 
 none_comes_later : ComesWithin 5 1 walking twice → ⊥
-none_comes_later within = ?
+none_comes_later comes =
+    let two = two_on comes.made comes.reached in
+    false≢true (sym are_within.1 ∙ sym (ap (λ (w : World). is_some (choice_within 1 w)) steps_are.1)
+    ∙ comes.within 1 (omega (arith, two)))
