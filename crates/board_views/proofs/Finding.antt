@@ -120,12 +120,16 @@ module _ (n : ℕ) (goal : Goal) (kept : List ℕ) (w : World) (c : Choice) (e :
       all zero h l = place_first ∙ f
       all (suc i) h l = none_after 0 none (suc i) (omega arith) l
   this_or_none (Some place) f before found g none =
-      inr (place, g ∙ is_now before ∙ ap (λ (x : Option Found). option_or x before) f, record {
-        made = zero;
-        within = omega arith;
-        stops = place_first ∙ f;
-        none_later = none_after 0 none;
-      })
+      inr (
+        place,
+        g ∙ is_now before ∙ ap (λ (x : Option Found). option_or x before) f,
+        record {
+          made = zero;
+          within = omega arith;
+          stops = place_first ∙ f;
+          none_later = none_after 0 none;
+        },
+      )
 
   found_on : (before found : Option Found) → LastOr n goal later (after w c) (now_found before) found
       → LastOr (suc n) goal kept w before found

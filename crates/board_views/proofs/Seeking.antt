@@ -2,7 +2,7 @@
 use Rattle.std.proofs.Common.{◌≡◌, ◌⊎◌, inl, inr, ℕ, zero, suc, ◌-◌, ◌<◌, ◌≤◌, nat_lt, ◌||◌, Bool, true, false, cond}
 use Rattle.std.proofs.Common.{List, Option, None, Some, option_and_then, unwrap_or}
 use Rattle.std.proofs.Common.{refl, sym, ap, ap₂, subst, ◌∙◌, arith}
-use Rattle.std.proofs.lemmas.Bool.{false≢true, le-ltb, lt-ltb, ltb-false, ltb-true}
+use Rattle.std.proofs.lemmas.Bool.{le-ltb, lt-ltb, ltb-false, ltb-true}
 use Rattle.tk_base.specs.declared.limits.TheConstants.{STEP_LIMIT}
 use Rattle.tk_base.specs.declared.process.Choice.{Choice}
 use Rattle.process_record.specs.declared.emit.Emit.{Emit}

@@ -1,7 +1,7 @@
 -- Worked cases, computed from the definitions alone: of each relation of a board that goes on an instance that it has,
 -- and one of a wrong board that it refuses. Words were put together by hand from the unprivileged RISC-V manual.
-use Rattle.std.proofs.Common.{◌≡◌, ◌⊎◌, inl, inr, ◌<◌, ◌≤◌, ℕ, zero, suc, ◌+◌, Bool, true, false, List, [], ◌∷◌}
-use Rattle.std.proofs.Common.{Option, None, Some, is_some, refl, sym, ap, subst, ◌∙◌, arith}
+use Rattle.std.proofs.Common.{◌≡◌, ◌⊎◌, inl, inr, ◌<◌, ◌≤◌, ℕ, zero, suc, ◌+◌, true, false, List, [], ◌∷◌}
+use Rattle.std.proofs.Common.{None, Some, is_some, refl, sym, ap, subst, ◌∙◌, arith}
 use Rattle.std.proofs.lemmas.Bool.{false≢true}
 use Rattle.tk_base.specs.declared.access.TheConstants.{FLASH_START}
 use Rattle.tk_base.specs.declared.process.Choice.TheVariants.{Run}
@@ -23,7 +23,7 @@ use Rattle.board_views.specs.declared.searches.Found.{Found}
 use Rattle.board_views.specs.Agreeing.{ComesWithin}
 use Rattle.board_views.specs.Goals.{stop_after}
 use Rattle.board_views.specs.Searches.{IsLastFound, IsWhyItStopped, NoneStops, choice_in, kept_at, place_at}
-use Rattle.board_views.specs.Stops.{IsFirstWithTurns, stop_at, turns_of}
+use Rattle.board_views.specs.Stops.{IsFirstWithTurns, turns_of}
 use Rattle.board_views.specs.Times.{choice_within}
 
 -- A process at the first of three instructions, each an `addi` of a register and 0, before its first turn.
@@ -56,11 +56,11 @@ steps_are = (refl, refl, refl, refl, refl, refl)
 two_on : (made : ℕ) → twice ≡ (round made walking).world → 2 ≤ made
 two_on zero reached =
     let none : 2 ≡ 0 = sym (ap (λ (c : Clock). c.steps) steps_are.3)
-        ∙ ap (λ (w : World). w.clock.steps) (reached ∙ steps_are.0) in
+    ∙ ap (λ (w : World). w.clock.steps) (reached ∙ steps_are.0) in
     absurd (omega (arith, none))
 two_on (suc zero) reached =
     let one : 2 ≡ 1 = sym (ap (λ (c : Clock). c.steps) steps_are.3)
-        ∙ ap (λ (w : World). w.clock.steps) (reached ∙ steps_are.1) ∙ ap (λ (c : Clock). c.steps) steps_are.2 in
+    ∙ ap (λ (w : World). w.clock.steps) (reached ∙ steps_are.1) ∙ ap (λ (c : Clock). c.steps) steps_are.2 in
     absurd (omega (arith, one))
 two_on (suc (suc made)) reached = omega arith
 
