@@ -6,7 +6,6 @@ use std::io::ErrorKind;
 use std::process::ExitCode;
 use tk_outside::{FileShelf, OutSink};
 use tock_cli::serve::serve;
-use tool_tasks::SoakGenerator;
 
 /// Takes the arguments, and ends with the answer of [`serve`]; 7 where there was no memory for the arguments. Where
 /// one of them is not UTF-8 the words are none at all, and no command has none: so that command line is answered by 2
@@ -23,11 +22,5 @@ fn main(rt: HostRuntime) -> ExitCode {
     let mut shelf = FileShelf::new(&rt);
     let mut out = OutSink::new(&rt);
     let mut last = None;
-    ExitCode::from(serve::<_, _, SoakGenerator>(
-        rt.alloc(),
-        &words,
-        &mut shelf,
-        &mut out,
-        &mut last,
-    ))
+    ExitCode::from(serve(rt.alloc(), &words, &mut shelf, &mut out, &mut last))
 }

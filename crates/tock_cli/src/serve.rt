@@ -19,8 +19,8 @@ use script_text::Script;
 use std::alloc::Global;
 use tk_outside::{Shelf, Sink};
 use tool_answers::{ServeOutcome, finish_image, finish_list, refuse};
-use tool_tasks::Generator;
 use tool_tasks::prepare::{Ready, prepare};
+use tool_tasks::{Generator, SoakGenerator};
 use tool_words::Refusal;
 
 /// Makes a run of a board, and leaves the board where the whole text was written.
@@ -118,7 +118,7 @@ fn act<H: Shelf, K: Sink, G: Generator>(
 /// The program over the words of the command line, the first of which is its own name. `boot` runs
 /// the applications of a flash file on the board of a script, and writes what they print and then
 /// the report to `out`; `trace` makes the same run, and writes its system calls and denials beside
-/// what is printed; `soak` runs those of the flash image that the generator makes of a number, on
+/// what is printed; `soak` runs those of the flash image that [`SoakGenerator`] makes of a number, on
 /// the board of the script that it makes of it, and writes how many bytes they print and the sum of
 /// these; `list` writes the list of the objects of a flash file. Four commands write a flash image
 /// and run nothing: `pack` the objects of 1 to 64 flash files one behind another; `enable`,
@@ -151,15 +151,15 @@ fn act<H: Shelf, K: Sink, G: Generator>(
 /// | 6 | the sink's count of faults rose; a part of the text, image or line was written that lacks at least one byte |
 /// | 7 | `memory` alone was written, of words that are a command; that it comes for want of memory alone is tested |
 /// | 8 | no image is made: the line names the first reason in the order of [`ImageFault`](tool_words::ImageFault); the first file that is refused decides |
-pub fn serve<H: Shelf, K: Sink, G: Generator>(
+pub fn serve<H: Shelf, K: Sink>(
     alloc: Global,
     words: &[String],
     shelf: &mut H,
     out: &mut K,
     last: &mut Option<Board>,
 ) -> u8
-    ensures serves { Serves G.files H.tells shelf.old shelf.new K.tells out.old out.new words.now
-        last.new result }
+    ensures serves { Serves ⟦<SoakGenerator as Generator>⟧.files H.tells shelf.old shelf.new
+        K.tells out.old out.new words.now last.new result }
 {
-    act::<H, K, G>(alloc, words, shelf, out, last).answer()
+    act::<H, K, SoakGenerator>(alloc, words, shelf, out, last).answer()
 }

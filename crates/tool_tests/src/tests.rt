@@ -6,7 +6,6 @@ use std::process::Abort;
 use std::test::Fail;
 use tk_outside::{MemShelf, MemSink, are_distinct, put_pieces};
 use tock_cli::serve::serve;
-use tool_tasks::SoakGenerator;
 
 /// An application that exits with the completion code 7: `li a4, 6`, `li a0, 0`, `li a1, 7`, `ecall`.
 const EXIT_7: [u8; 64] = [
@@ -67,7 +66,7 @@ fn served(rt: &impl Abort, alloc: Global, outside: &Outside<'_>) -> Result<(u8, 
     let mut shelf = shelf_of(rt, alloc, outside)?;
     let mut sink = MemSink::new(alloc, 1, outside.room, vec![in alloc; outside.sink]?)?;
     let mut last = None;
-    let status = serve::<_, _, SoakGenerator>(alloc, &words, &mut shelf, &mut sink, &mut last);
+    let status = serve(alloc, &words, &mut shelf, &mut sink, &mut last);
     assert_eq!(rt; last.is_some(), status == 0);
     Ok((status, sink))
 }
