@@ -46,8 +46,8 @@ def numbers_text(plan, reached):
 def premises_text(plan, contract):
     """What the contract asks of its caller, and what a reader assumes beside it, with how that could fail."""
     asks = ["The contract asks of its caller:", ""] + fenced("rust", "\n".join(contract.premises)) + [""]
-    none = ["The contract asks nothing of its caller: it holds for all words, and for all generators, shelves and "
-            "sinks, each of which is proved to keep the contract of its trait.", ""]
+    none = ["The contract asks nothing of its caller: it holds for all words, and for all shelves and sinks, each of "
+            "which is proved to keep the contract of its trait.", ""]
     rows = ["| %d | %s | %s | %s |" % (number, *row) for number, row in enumerate(plan.ASSUMPTIONS, 1)]
     return (["## Assumptions", ""] + (asks if contract.premises else none)
             + ["Beside what is printed here a reader assumes:", "",

@@ -20,7 +20,7 @@ kernel under round-robin turns; there a process's byte changes only by its own p
 allowed, every denial names its address and rule, and a process's record is the replay of its own turns and device
 answers alone, whatever others do."""
 PARTS = [
-    "*For every*: any words, generator, shelf and sink; of the words `command_of`, of the files' bytes `comes_to`. A file that "
+    "*For every*: any words, shelf and sink; of the words `command_of`, of the files' bytes `comes_to`. A file that "
     "is too long and a script that has no reading are refused. The limit counts steps: turns, steps of devices and "
     "passes of time.",
     "*Writes exactly*: at answer 0, `ProgramDoes`, field `done`; the text is `run_text`, for `boot` in mode `Boot`. "
@@ -100,8 +100,8 @@ SECTIONS = [
         "process_record/Summary", "process_record/Lines"]),
 ]
 
-# The law of what `main` gives the program beside files and an output, which claims.md cites: which two files the
-# generator of `soak` makes.
+# The law of what the contract names and is not printed with it, which claims.md cites: which two files the generator
+# of `soak` makes.
 GIVEN = ("tool_tasks/soak.rt", "soak_files_are_generated")
 
 # The type of a board, and the contracts that stand beside the headline: those of the five guarantees, and one more of
@@ -153,10 +153,9 @@ ASSUMPTIONS = [
      "bytes, these tell none, so that what a file holds and what was written through them is the host's to keep.",
      "a file that changes while it is read; a disk that keeps other bytes",
      "tests of the adapters, worked examples; a second run of the same words, whose text is the same"),
-    ("*`main`* gives `serve` the two, the words and [the generator of `soak`](laws.md#soak_files_are_generated), and "
-     "ends with its answer: it is proved safe, and has no other contract.",
-     "other words, another generator, another status", "its stored run and worked examples, which compare statuses "
-     "and texts"),
+    ("*`main`* gives `serve` the two and the words, and ends with its answer: it is proved safe, and has no other "
+     "contract.",
+     "other words, another status", "its stored run and worked examples, which compare statuses"),
     ("*The stack* is large enough: contracts say nothing of it. No function of `tock` calls itself, nor by way of "
      "others, by its sources and by the machine code of an unproved build; so how much it takes is bounded, whatever "
      "the files and the steps. Of the largest image, the longest script, 64 files and a soak none took more than "
