@@ -3,10 +3,10 @@
 from debugger.board import Board, NotDone
 
 # How many boards tock_look keeps.
-PLACES = 128
+PLACES = 256
 # After multiples of how many steps boards are kept about the present, and all over the run. In between doubles of the
 # first number count, each up to so many times itself away from the present.
-NEAREST, FARTHEST, AROUND = 312500, 10000000, 4
+NEAREST, FARTHEST, AROUND = 312500, 5000000, 4
 
 
 class KeepingBoard(Board):

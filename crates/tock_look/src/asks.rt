@@ -19,7 +19,7 @@ use tk_base::{NoMemory, Slot};
 const LAST_SLOT: u64 = 15;
 
 /// The number of the last place at which a board may be kept.
-const LAST_PLACE: u64 = 127;
+const LAST_PLACE: u64 = 255;
 
 /// How many bytes a line may have that is added.
 pub const LINE_LIMIT: usize = 256;
@@ -61,7 +61,7 @@ pub enum Ask {
     /// `add LINE`: the event of an `at` line of a script is still to come in. The line has at most
     /// [`LINE_LIMIT`] bytes.
     Add { line: ArrayVec<u8, LINE_LIMIT> },
-    /// `keep K`: the board is kept at a place, 0 to 127.
+    /// `keep K`: the board is kept at a place, 0 to 255.
     Keep { place: usize },
     /// `return K`: the board is as it was kept at a place.
     Return { place: usize },
