@@ -1,12 +1,13 @@
 -- Worked cases, computed from the definitions alone: of each relation of a board that goes on an instance that it has,
 -- and one of a wrong board that it refuses. Words were put together by hand from the unprivileged RISC-V manual.
 use Rattle.std.proofs.Common.{◌≡◌, ◌⊎◌, inl, inr, ◌<◌, ◌≤◌, ℕ, zero, suc, ◌+◌, true, false, List, [], ◌∷◌}
-use Rattle.std.proofs.Common.{None, Some, is_some, refl, sym, ap, subst, ◌∙◌, arith}
+use Rattle.std.proofs.Common.{length, None, Some, is_some, refl, sym, ap, subst, ◌∙◌, arith}
 use Rattle.std.proofs.lemmas.Bool.{false≢true}
 use Rattle.tk_base.specs.declared.access.TheConstants.{FLASH_START}
 use Rattle.tk_base.specs.declared.process.Choice.TheVariants.{Run}
 use Rattle.rv32_model.specs.Instructions.{decoding, instruction_table}
 use Rattle.rv32_model.specs.UserTurn.{user_turn, on_word, executed, fetched, instr_of}
+use Rattle.script_text.specs.Settings.{Press, ScriptEvent}
 use Rattle.process_model.specs.Instruction.{ram_after}
 use Rattle.process_model.specs.Permission.{denied}
 use Rattle.process_record.specs.Parts.{cleared}
@@ -17,10 +18,11 @@ use Rattle.kernel_model.specs.Shown.{shown_by}
 use Rattle.kernel_model.specs.Turn.{turned}
 use Rattle.kernel_model.specs.Worked.{board, standing}
 use Rattle.kernel_model.specs.World.{Clock, World, after, carried_out, may_be_made, stepped}
+use Rattle.board_core.specs.Expecting.{expecting}
 use Rattle.board_views.specs.declared.goal.Goal.{Goal}
 use Rattle.board_views.specs.declared.going.Stop.TheVariants.{Address, Most}
 use Rattle.board_views.specs.declared.searches.Found.{Found}
-use Rattle.board_views.specs.Agreeing.{ComesWithin}
+use Rattle.board_views.specs.Agreeing.{ComesWithin, IsAsAdded}
 use Rattle.board_views.specs.Goals.{stop_after}
 use Rattle.board_views.specs.Searches.{IsLastFound, IsWhyItStopped, NoneStops, choice_in, kept_at, place_at}
 use Rattle.board_views.specs.Stops.{IsFirstWithTurns, turns_of}
@@ -173,3 +175,15 @@ none_comes_later comes =
     let two = two_on comes.made comes.reached in
     false≢true (sym are_within.1 ∙ sym (ap (λ (w : World). is_some (choice_within 1 w)) steps_are.1)
     ∙ comes.within 1 (omega (arith, two)))
+
+-- A button that is pressed at time 5, added to a board for which nothing was to come; a board that lost it.
+abbrev press : ScriptEvent
+press = record { time = 5; kind = Press 0 }
+
+comes_besides : IsAsAdded press walking (expecting press walking)
+comes_besides = refl
+
+none_is_lost : IsAsAdded press walking walking → ⊥
+none_is_lost lost =
+    let none : 0 ≡ 1 = ap (λ (w : World). length w.devices.arrivals) lost in
+    absurd (omega (arith, none))
