@@ -2,11 +2,16 @@
 
 from debugger.board import Board, NotDone
 
+# As many steps as `tock boot` makes at most.
+MOST_STEPS = 1000000000
 # How many boards tock_look keeps.
 PLACES = 256
 # After multiples of how many steps boards are kept about the present, and all over the run. In between doubles of the
 # first number count, each up to so many times itself away from the present.
 NEAREST, FARTHEST, AROUND = 312500, 5000000, 4
+# How many bytes the boards kept all over a run may take, and one of them at most; and how often it has its flash,
+# with what is known of each instruction there.
+MOST_MEMORY, EACH, TIMES_FLASH = 1 << 29, 400000, 5
 
 
 class KeepingBoard(Board):
@@ -58,11 +63,13 @@ def in_order(events):
 
 
 class KeptBoards:
-    """The boards of a run that are kept, by their steps."""
+    """The boards of a run that are kept, by their steps; of an image of so many bytes."""
 
-    def __init__(self, board):
-        self.board, self.found = board, {}
+    def __init__(self, board, flash=0):
+        self.board, self.found, self.back_at = board, {}, None
         self.nearest, self.farthest = NEAREST, FARTHEST
+        while MOST_STEPS // self.farthest * (EACH + TIMES_FLASH * flash) > MOST_MEMORY:
+            self.farthest *= 2
 
     def next_steps(self, steps):
         """After how many steps a board is kept next."""
@@ -83,6 +90,14 @@ class KeptBoards:
         place = min(set(range(PLACES)) - {kept.place for kept in self.found.values()})
         self.board.keep(place)
         self.found[now] = Kept(self.board.told, events, place)
+
+    def keep_here(self, events):
+        """Keeps the board where the present went back to, so that what is done there needs no run, whatever it drops;
+        of such boards the last one."""
+        if self.back_at is not None and self.back_at % self.nearest:
+            self.found.pop(self.back_at, None)
+        self.back_at = self.board.steps
+        self.keep(events)
 
     def last_before(self, time, most, events):
         """The last one before a time, after at most so many steps, that can have these events, and those that it

@@ -5,11 +5,10 @@ at the present, or one tick later where the board's own time is the present alre
 that were made. A pass that would end later than the present is not made yet: it ends sooner where an event comes.
 """
 
-from debugger.board import MOST, Refused
-from session.kept import Kept, KeepingBoard, KeptBoards, in_order
+import os
 
-# As many steps as `tock boot` makes at most.
-MOST_STEPS = 1000000000
+from debugger.board import MOST, Refused
+from session.kept import MOST_STEPS, Kept, KeepingBoard, KeptBoards, in_order
 
 
 class BrokenRule(Exception):
@@ -27,11 +26,11 @@ class Present:
     def __init__(self, look, flash, script):
         self.board, self.events = KeepingBoard(look, flash, script, is_apart=True), []
         self.now, self.lines = 0, []
-        self.kept = KeptBoards(self.board)
         try:
             self.board.moved(self.board.ask("to", 0, 0, 0))
             if self.board.told is None:
                 raise Refused("no slot has a process: `./tock list` tells why")
+            self.kept = KeptBoards(self.board, os.path.getsize(flash))
         except BaseException:
             self.end()
             raise
@@ -82,14 +81,20 @@ class Present:
             kept, missing = self.kept.last_before(now, most, events)
             self.board.return_to(kept.place, kept.told)
             self.events = kept.events
-        for number, event in enumerate(missing):
+            self.add_all([event for event in missing if event.time < now])
+            self.move("to", now, most - self.steps)
+            self.kept.keep_here(self.events)
+            missing = [event for event in missing if event.time >= now]
+        self.add_all(missing)
+        self.now = now
+
+    def add_all(self, missing):
+        """Has these events come in besides, one after another."""
+        for event in missing:
             rule = self.board.add(event.lines[-1].rstrip("\n"))
             if rule:
-                self.events = in_order(self.events + missing[:number])
                 raise BrokenRule(event, rule)
-        self.events = events
-        self.move("to", now, most - self.steps)
-        self.now = now
+            self.events = in_order(self.events + [event])
 
     def go_to(self, now):
         """Goes to a time, which becomes the present: back, or on as far as the board goes."""
