@@ -6,7 +6,7 @@ use crate::access::Addr;
 use std::marker::Model;
 
 /// The integer registers x0 to x31 and the program counter (RISC-V unprivileged manual,
-/// "Programmers' Model for Base Integer ISA"). x0 is 0 at all times, so it is read and written as the others are.
+/// "Programmers' Model for Base Integer ISA"). x0 is 0 at all times, so it is read as the others are, and never written.
 #[derive(Clone, Copy, Debug, PartialEq, Eq)]
 pub struct Regs {
     x: [u32; 32],
@@ -65,9 +65,8 @@ impl Regs {
         ensures { self.new ≡ with_register self.old n value }
     {
         let n = n as usize;
-        if n < 32 {
+        if n > 0 && n < 32 {
             self.x[n] = value;
-            self.x[0] = 0;
         }
     }
 }
