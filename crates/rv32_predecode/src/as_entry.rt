@@ -1,15 +1,35 @@
 //! The entry of an instruction.
+ghost use Rattle.std.specs.Prelude.{Some};
+ghost use Rattle.rv32_model.specs.declared.instr.Instr.TheVariants as instrs;
+ghost use Rattle.rv32_predecode.specs.Entries.{IsEntryOf};
+
 use crate::decoded::Entry;
-use crate::register::Register;
+use crate::register::{Register, Target};
 use rv32_model::{BranchTest, InstrVisitor, LoadKind, Op};
 use tk_base::Width;
 
 /// The visitor that answers the entry of an instruction of a length. A jump by an odd offset, which no bits mean, has
-/// none.
+/// none; nor has what names x0 as the register to set, but a jump and what does nothing.
 #[derive(Clone, Copy)]
 pub struct ToEntry {
     /// How many bytes the instruction has.
     pub length: u8,
+}
+
+impl ToEntry {
+    /// The entry of an operation that sets no register: only that which does nothing, `addi x0, x0, 0`, has one.
+    fn setting_none(self, op: Op, rs1: u8, imm: u32) -> Entry
+        ensures { IsEntryOf self.length (Some (instrs.OpImm op 0 rs1 imm)) result }
+    {
+        if !matches!(op, Op::Add) || rs1 != 0 || imm != 0 {
+            return Entry::Cold;
+        }
+        match self.length {
+            4 => Entry::Nop,
+            2 => Entry::CNop,
+            _ => Entry::Cold,
+        }
+    }
 }
 
 impl InstrVisitor for ToEntry {
@@ -20,7 +40,7 @@ impl InstrVisitor for ToEntry {
     ghost handles = { λ before instr entry _. IsEntryOf before.length instr entry };
 
     fn lui(&mut self, rd: u8, imm: u32) -> Entry {
-        let Some(rd) = Register::of(rd) else {
+        let Some(rd) = Target::of(rd) else {
             return Entry::Cold;
         };
         match self.length {
@@ -31,7 +51,7 @@ impl InstrVisitor for ToEntry {
     }
 
     fn auipc(&mut self, rd: u8, imm: u32) -> Entry {
-        let Some(rd) = Register::of(rd) else {
+        let Some(rd) = Target::of(rd) else {
             return Entry::Cold;
         };
         match self.length {
@@ -44,7 +64,14 @@ impl InstrVisitor for ToEntry {
         if offset % 2 != 0 {
             return Entry::Cold;
         }
-        let Some(rd) = Register::of(rd) else {
+        if rd == 0 {
+            return match self.length {
+                4 => Entry::J { offset },
+                2 => Entry::CJ { offset },
+                _ => Entry::Cold,
+            };
+        }
+        let Some(rd) = Target::of(rd) else {
             return Entry::Cold;
         };
         match self.length {
@@ -55,10 +82,17 @@ impl InstrVisitor for ToEntry {
     }
 
     fn jalr(&mut self, rd: u8, rs1: u8, offset: u32) -> Entry {
-        let Some(rd) = Register::of(rd) else {
+        let Some(rs1) = Register::of(rs1) else {
             return Entry::Cold;
         };
-        let Some(rs1) = Register::of(rs1) else {
+        if rd == 0 {
+            return match self.length {
+                4 => Entry::Jr { rs1, offset },
+                2 => Entry::CJr { rs1, offset },
+                _ => Entry::Cold,
+            };
+        }
+        let Some(rd) = Target::of(rd) else {
             return Entry::Cold;
         };
         match self.length {
@@ -97,7 +131,7 @@ impl InstrVisitor for ToEntry {
     }
 
     fn load(&mut self, kind: LoadKind, rd: u8, rs1: u8, offset: u32) -> Entry {
-        let Some(rd) = Register::of(rd) else {
+        let Some(rd) = Target::of(rd) else {
             return Entry::Cold;
         };
         let Some(rs1) = Register::of(rs1) else {
@@ -141,7 +175,10 @@ impl InstrVisitor for ToEntry {
     }
 
     fn op_imm(&mut self, op: Op, rd: u8, rs1: u8, imm: u32) -> Entry {
-        let Some(rd) = Register::of(rd) else {
+        if rd == 0 {
+            return self.setting_none(op, rs1, imm);
+        }
+        let Some(rd) = Target::of(rd) else {
             return Entry::Cold;
         };
         let Some(rs1) = Register::of(rs1) else {
@@ -173,7 +210,7 @@ impl InstrVisitor for ToEntry {
     }
 
     fn op(&mut self, op: Op, rd: u8, rs1: u8, rs2: u8) -> Entry {
-        let Some(rd) = Register::of(rd) else {
+        let Some(rd) = Target::of(rd) else {
             return Entry::Cold;
         };
         let Some(rs1) = Register::of(rs1) else {

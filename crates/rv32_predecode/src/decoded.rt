@@ -1,28 +1,38 @@
 //! An instruction that was decoded before, with one variant for each thing to do.
-use crate::register::Register;
+use crate::register::{Register, Target};
 
 /// An instruction, and by its variant its length; or nothing known of what stands at a place. No variant groups several
 /// operations or lengths, so that one look tells what to do, and what comes next does not wait for memory to tell it.
-/// Those of two bytes begin with C. Offsets and immediates are numbers modulo 2^32, as in [`rv32_model::Instr`].
+/// Those of two bytes begin with C. None names x0 as a register to set: a jump that keeps no link has a variant of its
+/// own, and so has what does nothing. Offsets and immediates are numbers modulo 2^32, as in [`rv32_model::Instr`].
 #[derive(Clone, Copy)]
 pub enum Entry {
-    /// Nothing is known: bits that are no instruction, a breakpoint, half an instruction, or a place that was not
-    /// decoded.
+    /// Nothing is known: bits that are no instruction, a breakpoint, half an instruction, one that sets x0 and has no
+    /// variant here, or a place that was not decoded.
     Cold,
     Lui {
-        rd: Register,
+        rd: Target,
         imm: u32,
     },
     Auipc {
-        rd: Register,
+        rd: Target,
         imm: u32,
     },
     Jal {
-        rd: Register,
+        rd: Target,
+        offset: u32,
+    },
+    /// A jump that keeps no link.
+    J {
         offset: u32,
     },
     Jalr {
-        rd: Register,
+        rd: Target,
+        rs1: Register,
+        offset: u32,
+    },
+    /// A jump to where a register tells, which keeps no link.
+    Jr {
         rs1: Register,
         offset: u32,
     },
@@ -57,27 +67,27 @@ pub enum Entry {
         offset: u32,
     },
     Lb {
-        rd: Register,
+        rd: Target,
         rs1: Register,
         offset: u32,
     },
     Lh {
-        rd: Register,
+        rd: Target,
         rs1: Register,
         offset: u32,
     },
     Lw {
-        rd: Register,
+        rd: Target,
         rs1: Register,
         offset: u32,
     },
     Lbu {
-        rd: Register,
+        rd: Target,
         rs1: Register,
         offset: u32,
     },
     Lhu {
-        rd: Register,
+        rd: Target,
         rs1: Register,
         offset: u32,
     },
@@ -97,152 +107,161 @@ pub enum Entry {
         offset: u32,
     },
     Addi {
-        rd: Register,
+        rd: Target,
         rs1: Register,
         imm: u32,
     },
     Slti {
-        rd: Register,
+        rd: Target,
         rs1: Register,
         imm: u32,
     },
     Sltiu {
-        rd: Register,
+        rd: Target,
         rs1: Register,
         imm: u32,
     },
     Xori {
-        rd: Register,
+        rd: Target,
         rs1: Register,
         imm: u32,
     },
     Ori {
-        rd: Register,
+        rd: Target,
         rs1: Register,
         imm: u32,
     },
     Andi {
-        rd: Register,
+        rd: Target,
         rs1: Register,
         imm: u32,
     },
     Slli {
-        rd: Register,
+        rd: Target,
         rs1: Register,
         imm: u32,
     },
     Srli {
-        rd: Register,
+        rd: Target,
         rs1: Register,
         imm: u32,
     },
     Srai {
-        rd: Register,
+        rd: Target,
         rs1: Register,
         imm: u32,
     },
     Add {
-        rd: Register,
+        rd: Target,
         rs1: Register,
         rs2: Register,
     },
     Sub {
-        rd: Register,
+        rd: Target,
         rs1: Register,
         rs2: Register,
     },
     Sll {
-        rd: Register,
+        rd: Target,
         rs1: Register,
         rs2: Register,
     },
     Slt {
-        rd: Register,
+        rd: Target,
         rs1: Register,
         rs2: Register,
     },
     Sltu {
-        rd: Register,
+        rd: Target,
         rs1: Register,
         rs2: Register,
     },
     Xor {
-        rd: Register,
+        rd: Target,
         rs1: Register,
         rs2: Register,
     },
     Srl {
-        rd: Register,
+        rd: Target,
         rs1: Register,
         rs2: Register,
     },
     Sra {
-        rd: Register,
+        rd: Target,
         rs1: Register,
         rs2: Register,
     },
     Or {
-        rd: Register,
+        rd: Target,
         rs1: Register,
         rs2: Register,
     },
     And {
-        rd: Register,
+        rd: Target,
         rs1: Register,
         rs2: Register,
     },
     Mul {
-        rd: Register,
+        rd: Target,
         rs1: Register,
         rs2: Register,
     },
     Mulh {
-        rd: Register,
+        rd: Target,
         rs1: Register,
         rs2: Register,
     },
     Mulhsu {
-        rd: Register,
+        rd: Target,
         rs1: Register,
         rs2: Register,
     },
     Mulhu {
-        rd: Register,
+        rd: Target,
         rs1: Register,
         rs2: Register,
     },
     Div {
-        rd: Register,
+        rd: Target,
         rs1: Register,
         rs2: Register,
     },
     Divu {
-        rd: Register,
+        rd: Target,
         rs1: Register,
         rs2: Register,
     },
     Rem {
-        rd: Register,
+        rd: Target,
         rs1: Register,
         rs2: Register,
     },
     Remu {
-        rd: Register,
+        rd: Target,
         rs1: Register,
         rs2: Register,
     },
     Fence,
+    /// `addi x0, x0, 0`, which does nothing.
+    Nop,
     Ecall,
     CLui {
-        rd: Register,
+        rd: Target,
         imm: u32,
     },
     CJal {
-        rd: Register,
+        rd: Target,
+        offset: u32,
+    },
+    CJ {
         offset: u32,
     },
     CJalr {
-        rd: Register,
+        rd: Target,
+        rs1: Register,
+        offset: u32,
+    },
+    CJr {
         rs1: Register,
         offset: u32,
     },
@@ -257,7 +276,7 @@ pub enum Entry {
         offset: u32,
     },
     CLw {
-        rd: Register,
+        rd: Target,
         rs1: Register,
         offset: u32,
     },
@@ -266,53 +285,54 @@ pub enum Entry {
         rs2: Register,
         offset: u32,
     },
+    CNop,
     CAddi {
-        rd: Register,
+        rd: Target,
         rs1: Register,
         imm: u32,
     },
     CAndi {
-        rd: Register,
+        rd: Target,
         rs1: Register,
         imm: u32,
     },
     CSlli {
-        rd: Register,
+        rd: Target,
         rs1: Register,
         imm: u32,
     },
     CSrli {
-        rd: Register,
+        rd: Target,
         rs1: Register,
         imm: u32,
     },
     CSrai {
-        rd: Register,
+        rd: Target,
         rs1: Register,
         imm: u32,
     },
     CAdd {
-        rd: Register,
+        rd: Target,
         rs1: Register,
         rs2: Register,
     },
     CSub {
-        rd: Register,
+        rd: Target,
         rs1: Register,
         rs2: Register,
     },
     CXor {
-        rd: Register,
+        rd: Target,
         rs1: Register,
         rs2: Register,
     },
     COr {
-        rd: Register,
+        rd: Target,
         rs1: Register,
         rs2: Register,
     },
     CAnd {
-        rd: Register,
+        rd: Target,
         rs1: Register,
         rs2: Register,
     },

@@ -1,11 +1,12 @@
 //! What is done with an instruction that was decoded before.
 ghost use Rattle.std.specs.Prelude.{◌≡◌, Some};
-ghost use Rattle.rv32_predecode.specs.Registers.{index_of};
+ghost use Rattle.rv32_predecode.specs.Registers.{index_of, target_index};
 ghost use Rattle.rv32_model.specs.declared.instr.Instr.TheVariants as instrs;
+ghost use Rattle.rv32_model.specs.declared.instr.Op.TheVariants as ops;
 ghost use Rattle.rv32_predecode.specs.Entries.{entry_instr, entry_length, entry_reach, HandsOver};
 
 use crate::decoded::Entry;
-use crate::register::Register;
+use crate::register::{Register, Target};
 use rv32_model::{BranchTest, InstrVisitor, LoadKind, Op};
 use tk_base::Width;
 
@@ -22,8 +23,8 @@ pub trait SizedVisitor: InstrVisitor {
 }
 
 #[inline(always)]
-fn lui<H: SizedVisitor>(handler: &mut H, length: u8, rd: Register, imm: u32) -> Option<H::Answer>
-    ensures { HandsOver (Some (instrs.Lui (index_of rd) imm))
+fn lui<H: SizedVisitor>(handler: &mut H, length: u8, rd: Target, imm: u32) -> Option<H::Answer>
+    ensures { HandsOver (Some (instrs.Lui (target_index rd) imm))
         H.handles (H.sized handler.old length) result handler.old handler.new }
 {
     handler.begin(length);
@@ -31,8 +32,8 @@ fn lui<H: SizedVisitor>(handler: &mut H, length: u8, rd: Register, imm: u32) -> 
 }
 
 #[inline(always)]
-fn auipc<H: SizedVisitor>(handler: &mut H, length: u8, rd: Register, imm: u32) -> Option<H::Answer>
-    ensures { HandsOver (Some (instrs.Auipc (index_of rd) imm))
+fn auipc<H: SizedVisitor>(handler: &mut H, length: u8, rd: Target, imm: u32) -> Option<H::Answer>
+    ensures { HandsOver (Some (instrs.Auipc (target_index rd) imm))
         H.handles (H.sized handler.old length) result handler.old handler.new }
 {
     handler.begin(length);
@@ -40,8 +41,8 @@ fn auipc<H: SizedVisitor>(handler: &mut H, length: u8, rd: Register, imm: u32) -
 }
 
 #[inline(always)]
-fn jal<H: SizedVisitor>(handler: &mut H, length: u8, rd: Register, offset: u32) -> Option<H::Answer>
-    ensures { HandsOver (Some (instrs.Jal (index_of rd) offset))
+fn jal<H: SizedVisitor>(handler: &mut H, length: u8, rd: Target, offset: u32) -> Option<H::Answer>
+    ensures { HandsOver (Some (instrs.Jal (target_index rd) offset))
         H.handles (H.sized handler.old length) result handler.old handler.new }
 {
     handler.begin(length);
@@ -49,18 +50,41 @@ fn jal<H: SizedVisitor>(handler: &mut H, length: u8, rd: Register, offset: u32) 
 }
 
 #[inline(always)]
+fn jump<H: SizedVisitor>(handler: &mut H, length: u8, offset: u32) -> Option<H::Answer>
+    ensures { HandsOver (Some (instrs.Jal 0 offset))
+        H.handles (H.sized handler.old length) result handler.old handler.new }
+{
+    handler.begin(length);
+    Some(handler.jal(0, offset))
+}
+
+#[inline(always)]
 fn jalr<H: SizedVisitor>(
     handler: &mut H,
     length: u8,
-    rd: Register,
+    rd: Target,
     rs1: Register,
     offset: u32,
 ) -> Option<H::Answer>
-    ensures { HandsOver (Some (instrs.Jalr (index_of rd) (index_of rs1) offset))
+    ensures { HandsOver (Some (instrs.Jalr (target_index rd) (index_of rs1) offset))
         H.handles (H.sized handler.old length) result handler.old handler.new }
 {
     handler.begin(length);
     Some(handler.jalr(rd.number(), rs1.number(), offset))
+}
+
+#[inline(always)]
+fn jump_by_register<H: SizedVisitor>(
+    handler: &mut H,
+    length: u8,
+    rs1: Register,
+    offset: u32,
+) -> Option<H::Answer>
+    ensures { HandsOver (Some (instrs.Jalr 0 (index_of rs1) offset))
+        H.handles (H.sized handler.old length) result handler.old handler.new }
+{
+    handler.begin(length);
+    Some(handler.jalr(0, rs1.number(), offset))
 }
 
 #[inline(always)]
@@ -84,11 +108,11 @@ fn load<H: SizedVisitor>(
     handler: &mut H,
     length: u8,
     kind: LoadKind,
-    rd: Register,
+    rd: Target,
     rs1: Register,
     offset: u32,
 ) -> Option<H::Answer>
-    ensures { HandsOver (Some (instrs.Load kind (index_of rd) (index_of rs1) offset))
+    ensures { HandsOver (Some (instrs.Load kind (target_index rd) (index_of rs1) offset))
         H.handles (H.sized handler.old length) result handler.old handler.new }
 {
     handler.begin(length);
@@ -116,11 +140,11 @@ fn op_imm<H: SizedVisitor>(
     handler: &mut H,
     length: u8,
     op: Op,
-    rd: Register,
+    rd: Target,
     rs1: Register,
     imm: u32,
 ) -> Option<H::Answer>
-    ensures { HandsOver (Some (instrs.OpImm op (index_of rd) (index_of rs1) imm))
+    ensures { HandsOver (Some (instrs.OpImm op (target_index rd) (index_of rs1) imm))
         H.handles (H.sized handler.old length) result handler.old handler.new }
 {
     handler.begin(length);
@@ -128,15 +152,24 @@ fn op_imm<H: SizedVisitor>(
 }
 
 #[inline(always)]
+fn nop<H: SizedVisitor>(handler: &mut H, length: u8) -> Option<H::Answer>
+    ensures { HandsOver (Some (instrs.OpImm ops.Add 0 0 0))
+        H.handles (H.sized handler.old length) result handler.old handler.new }
+{
+    handler.begin(length);
+    Some(handler.op_imm(Op::Add, 0, 0, 0))
+}
+
+#[inline(always)]
 fn op<H: SizedVisitor>(
     handler: &mut H,
     length: u8,
     op: Op,
-    rd: Register,
+    rd: Target,
     rs1: Register,
     rs2: Register,
 ) -> Option<H::Answer>
-    ensures { HandsOver (Some (instrs.Op op (index_of rd) (index_of rs1) (index_of rs2)))
+    ensures { HandsOver (Some (instrs.Op op (target_index rd) (index_of rs1) (index_of rs2)))
         H.handles (H.sized handler.old length) result handler.old handler.new }
 {
     handler.begin(length);
@@ -170,9 +203,10 @@ impl Entry {
     {
         match self {
             Entry::Cold => 0,
-            Entry::CJal { .. } | Entry::CJalr { .. } => 2,
+            Entry::CJal { .. } | Entry::CJ { .. } | Entry::CJalr { .. } | Entry::CJr { .. } => 2,
             Entry::CBeq { .. } | Entry::CBne { .. } => 2,
-            Entry::Jal { .. } | Entry::Jalr { .. } | Entry::Ecall => 4,
+            Entry::Jal { .. } | Entry::J { .. } | Entry::Jalr { .. } | Entry::Jr { .. } => 4,
+            Entry::Ecall | Entry::CNop => 4,
             Entry::Beq { .. } | Entry::Bne { .. } | Entry::Blt { .. } => 4,
             Entry::Bge { .. } | Entry::Bltu { .. } | Entry::Bgeu { .. } => 4,
             Entry::CLui { .. } | Entry::CLw { .. } | Entry::CSw { .. } => 4,
@@ -196,7 +230,9 @@ pub fn handle_entry<H: SizedVisitor>(entry: Entry, handler: &mut H) -> Option<H:
         Entry::Lui { rd, imm } => lui(handler, 4, rd, imm),
         Entry::Auipc { rd, imm } => auipc(handler, 4, rd, imm),
         Entry::Jal { rd, offset } => jal(handler, 4, rd, offset),
+        Entry::J { offset } => jump(handler, 4, offset),
         Entry::Jalr { rd, rs1, offset } => jalr(handler, 4, rd, rs1, offset),
+        Entry::Jr { rs1, offset } => jump_by_register(handler, 4, rs1, offset),
         Entry::Beq { rs1, rs2, offset } => branch(handler, 4, BranchTest::Beq, rs1, rs2, offset),
         Entry::Bne { rs1, rs2, offset } => branch(handler, 4, BranchTest::Bne, rs1, rs2, offset),
         Entry::Blt { rs1, rs2, offset } => branch(handler, 4, BranchTest::Blt, rs1, rs2, offset),
@@ -239,14 +275,18 @@ pub fn handle_entry<H: SizedVisitor>(entry: Entry, handler: &mut H) -> Option<H:
         Entry::Rem { rd, rs1, rs2 } => op(handler, 4, Op::Rem, rd, rs1, rs2),
         Entry::Remu { rd, rs1, rs2 } => op(handler, 4, Op::Remu, rd, rs1, rs2),
         Entry::Fence => fence(handler, 4),
+        Entry::Nop => nop(handler, 4),
         Entry::Ecall => ecall(handler, 4),
         Entry::CLui { rd, imm } => lui(handler, 2, rd, imm),
         Entry::CJal { rd, offset } => jal(handler, 2, rd, offset),
+        Entry::CJ { offset } => jump(handler, 2, offset),
         Entry::CJalr { rd, rs1, offset } => jalr(handler, 2, rd, rs1, offset),
+        Entry::CJr { rs1, offset } => jump_by_register(handler, 2, rs1, offset),
         Entry::CBeq { rs1, rs2, offset } => branch(handler, 2, BranchTest::Beq, rs1, rs2, offset),
         Entry::CBne { rs1, rs2, offset } => branch(handler, 2, BranchTest::Bne, rs1, rs2, offset),
         Entry::CLw { rd, rs1, offset } => load(handler, 2, LoadKind::Lw, rd, rs1, offset),
         Entry::CSw { rs1, rs2, offset } => store(handler, 2, Width::Word, rs1, rs2, offset),
+        Entry::CNop => nop(handler, 2),
         Entry::CAddi { rd, rs1, imm } => op_imm(handler, 2, Op::Add, rd, rs1, imm),
         Entry::CAndi { rd, rs1, imm } => op_imm(handler, 2, Op::And, rd, rs1, imm),
         Entry::CSlli { rd, rs1, imm } => op_imm(handler, 2, Op::Sll, rd, rs1, imm),

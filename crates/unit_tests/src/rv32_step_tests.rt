@@ -220,6 +220,16 @@ fn pc_and_link_follow_the_manual(rt: HostRuntime) {
         (0x0000_557d, 2, 10, 0xffff_ffff),
         // c.jalr x5: the link is pc + 2
         (0x0000_9282, 0xffff_fffe, 1, 2),
+        // jal x0, 8 and jalr x0, 20(x0): no link is kept
+        (0x0080_006f, 8, 0, 0),
+        (0x0140_0067, 20, 0, 0),
+        // c.j 8 and c.jr x5
+        (0x0000_a021, 8, 0, 0),
+        (0x0000_8282, 0xffff_fffe, 0, 0),
+        // addi x0, x0, 0, addi x0, x5, 1 and c.nop
+        (0x0000_0013, 4, 0, 0),
+        (0x0012_8013, 4, 0, 0),
+        (0x0000_0001, 2, 0, 0),
     ];
     for (word, pc, n, value) in rows {
         for is_known in [false, true] {
