@@ -1,3 +1,4 @@
+pub mod AfterCalls
 pub mod Guards
 pub mod Turning
 pub mod Quiet

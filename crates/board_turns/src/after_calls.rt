@@ -1,6 +1,7 @@
 //! Which calls may change an alarm or ask anything of the devices.
 ghost use Rattle.std.specs.Prelude.{◌≡◌, true, None};
-ghost use Rattle.kernel_alarms.specs.Acting.{may_have_acted, may_have_armed};
+ghost use Rattle.kernel_alarms.specs.Acting.{may_have_acted};
+ghost use Rattle.board_turns.specs.AfterCalls.{is_for_alarm};
 
 use grant_values::Driver;
 use process_record::Emit;
@@ -35,12 +36,12 @@ pub(crate) fn may_have_acted(emit: &Emit) -> bool
     }
 }
 
-/// Whether the call that a turn showed, which may have acted, may have changed what its process keeps
-/// for the alarm, or whether it lives: an exit or a command to the alarm.
+/// Whether the call that a turn showed, if it showed one, is for the alarm: a command of it, or a
+/// call of another class. Of calls that may have acted these are the ones that may have changed what
+/// their process keeps for the alarm, or whether it lives.
 #[inline(always)]
-pub(crate) fn may_have_armed(emit: &Emit) -> bool
-    requires acted { may_have_acted emit.now.made None ≡ true }
-    ensures { result ≡ may_have_armed emit.now.made None }
+pub(crate) fn is_for_alarm(emit: &Emit) -> bool
+    ensures { result ≡ is_for_alarm emit.now.made }
 {
     match &emit.made {
         Some(made) => made.class != COMMAND || made.args[0] == Driver::Alarm.number(),

@@ -13,7 +13,7 @@ ghost use Rattle.board_drivers.specs.Driven.{AreFreeSoon};
 ghost use Rattle.board_turns.specs.Machines.{IsCalmUntil, KeepsAlarms, KeepsOtherAlarms, work_now};
 ghost use Rattle.board_turns.specs.ReadySlots.{NoneBeyond, OtherTurnsTell, TurnsTell};
 
-use crate::after_calls::{may_have_acted, may_have_armed};
+use crate::after_calls::{is_for_alarm, may_have_acted};
 use crate::machine::Machine;
 use crate::ready_slots::can_run;
 use process_record::{Emit, Process};
@@ -84,7 +84,7 @@ impl Machine {
             self.alarms.forget(slot);
         }
         if may_have_acted(emit) {
-            if !denied && may_have_armed(emit) {
+            if !denied && is_for_alarm(emit) {
                 self.note_alarm(slot);
             }
             self.calm = self.look_ahead();
