@@ -1,4 +1,7 @@
--- What a board shows.
+-- What the world that a board shows has, read of the board's tables: each process's own and storage, which slots can
+-- have a turn, the summary, the next choice. Each record of that world is made of a resident (a process beside its own)
+-- at the same place, so what is read of all records is read of all residents; flags of slots go by induction on the
+-- table.
 use Rattle.std.proofs.Common.{◌≡◌, ℕ, zero, suc, ◌+◌, ◌-◌, ◌^◌, ◌<◌, ◌≤◌, Bool, true, false, List, [], ◌∷◌, ◌++◌}
 use Rattle.std.proofs.Common.{length, map, take, slice_get, slice_index_or, slice_set, nat_lt, ◌&&◌, ◌==◌}
 use Rattle.std.proofs.Common.{if◌then◌else◌, Option, None, Some, IfSome}

@@ -1,4 +1,6 @@
--- What a step changes of a board: its records, its world, and what always holds of it.
+-- What a step changes of a board: its records, its world, and what always holds of it. Where one resident alone changed
+-- (`ChangesSlot`) the tables are the old ones with one place set, so all others are as they were, a step later; and the
+-- world after a turn is the one before with that record, as its definition makes it.
 use Rattle.std.proofs.Common.{◌≡◌, ℕ, ◌+◌, ◌≤◌, Bool, List, [], length, map, slice_get, slice_set, All}
 use Rattle.std.proofs.Common.{Option, None, Some, sym, ap, subst, ◌∙◌}
 use Rattle.std.specs.List.{zip}

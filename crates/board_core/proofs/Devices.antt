@@ -1,4 +1,6 @@
--- Device steps of a board.
+-- A device's step that told one process something (`DeviceTold`) makes the step of the world that the board shows, and
+-- leaves a board. One resident changed, so layouts, losses and alarms of all others stay, and who was answered stands
+-- in its line as long as it has a request. A device that may not act is refused, and nothing changes.
 use Rattle.board_devices.specs.Buttons.{ButtonsView}
 use Rattle.board_devices.specs.Clock.{clock_at}
 use Rattle.alarm_capsule.proofs.KeptTimes.{others_tell}

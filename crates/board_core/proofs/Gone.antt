@@ -1,4 +1,6 @@
 -- What stays, where a process in a slot has no alarm armed any more and leaves all queues: less is ready than before.
+-- Whether one waits or is due is a search of a list of slots, and taking one slot from it, or its alarm, finds nobody
+-- where nobody was found, by induction on the list. So what was calm is calm.
 use Rattle.std.proofs.Common.{◌≡◌, ℕ, ◌==◌, ◌&&◌, Bool, true, false, cond, not, List, [], ◌∷◌, find, length, nat_le}
 use Rattle.std.proofs.Common.{option_and_then, option_map, slice_get, slice_set, is_some, Option, None, Some, refl}
 use Rattle.std.proofs.Common.{sym, ap, ap₂, subst, ◌∙◌}

@@ -1,4 +1,6 @@
--- What is seen of one process on a board is what its record has.
+-- What is seen of one process on a board is what its record has, whatever is read of it. A record stands at the place
+-- of its resident, so a look in the tables is one in the records, in range and beyond; and who waits in a line is
+-- there, as what is kept of each line says (`IsQueueOf`), and lives.
 use Rattle.std.proofs.Common.{◌≡◌, ℕ, ◌≤◌, ◌<◌, List, length, slice_get, slice_index_or, Option, None, Some, refl, sym}
 use Rattle.std.proofs.Common.{ap, ◌∙◌, zero, suc, [], ◌∷◌, Bool, true, false, cond, ◌||◌, ◌==◌, nat_lt, is_some, eq-eqb}
 use Rattle.std.proofs.Common.{arith, ◌&&◌, not}

@@ -1,4 +1,6 @@
--- An operator's act on a process that is there, as a step of the board.
+-- An operator's act on a process that is there makes the step of the world that the board shows, and leaves a board. To
+-- let the event in changes the list of what is to come alone (`lets_in`), so the act is one on that machine
+-- (`operates_in`). One resident changed then; who waits follows by what an act leaves of requests (`KeepsLines`).
 use Rattle.std.proofs.Common.{◌≡◌, Bool, ◌<◌, ◌≤◌, ℕ, ◌+◌, cond, List, [], ◌∷◌, drop, length, map, slice_get}
 use Rattle.std.proofs.Common.{All, slice_set, Option, None, Some, IfSome, refl, sym, ap, ap₂, subst, ◌∙◌, arith}
 use Rattle.std.specs.Prelude.{unwrap_or}

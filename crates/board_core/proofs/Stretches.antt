@@ -1,4 +1,7 @@
--- Quiet turns of a process, and what they leave of a board.
+-- Quiet turns of one process are steps of the round robin in the world that the board shows, and leave a board. Of what
+-- is a process's own, instructions change RAM alone, so nobody waits who did not, and no device step is ready on the
+-- way, up to the calm's end; so the slot has each next turn, in its slice or beyond it where it is alone, and the laws
+-- of the round robin make a stretch of the turns.
 use Rattle.board_devices.specs.Clock.{clock_at}
 use Rattle.alarm_capsule.proofs.KeptTimes.{all_later, kept_tell}
 use Rattle.driver_model.specs.Laws.{TimeBringsNearer}

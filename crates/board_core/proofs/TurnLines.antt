@@ -1,4 +1,6 @@
--- Who waits, once a process had its turn.
+-- A turn leaves a board: who waits has a request then, and no other, and what is kept of alarms and of the calm is
+-- true. One resident changed; `TurnsKeepLines` says how its requests follow what its turn asks of the drivers. Its
+-- alarm stays where the turn armed none, and a denied one has none and leaves all queues (`Gone`).
 use Rattle.board_devices.specs.Buttons.{ButtonsView}
 use Rattle.board_devices.specs.Clock.{clock_at}
 use Rattle.alarm_capsule.proofs.KeptTimes.{all_later, others_tell}

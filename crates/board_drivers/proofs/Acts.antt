@@ -1,4 +1,6 @@
--- What each device does where it is to act: it serves the first of those that wait, or may not act.
+-- What each device does where it is to act: it serves the first of those that wait and may be served, or may not act,
+-- and nothing changes. Each device is an instance of `acts_on`, by what its capsule promised of the first of its line;
+-- the slot that is served alone and its lane are put for those that the code computed.
 use Rattle.std.proofs.Common.{◌≡◌, ℕ, not}
 use Rattle.std.proofs.Common.{List, [], slice_set, Option, None}
 use Rattle.std.proofs.Common.{slice_index_or}

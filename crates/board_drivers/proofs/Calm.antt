@@ -1,4 +1,6 @@
--- As long as no device step is ready.
+-- No device step is ready before the nearest time at which one becomes so, nor before the window's end, where nobody is
+-- served at once. Device by device: its test at a later time is false by that time alone, since what it has does not
+-- change. Time, a change of one own that leaves its alarm, and drivers of which nothing is asked keep the calm.
 use Rattle.std.proofs.Common.{zero, suc, ◌*◌, ◌/◌}
 use Rattle.std.proofs.Common.{◌≡◌, ℕ, ◌+◌, ◌-◌, ◌%◌, ◌^◌, ◌<◌, ◌≤◌, ◌==◌, Bool, true, false, cond, not, ◌&&◌, nat_le}
 use Rattle.std.proofs.Common.{if◌then◌else◌, List, [], ◌∷◌, length, map, find, slice_get, slice_set, is_some}

@@ -1,4 +1,6 @@
 -- What comes in, as a step of the board: bytes tell nobody anything, and an edge of a button is told to each process.
+-- The code's map over owns is the world's map over records, by induction on the tables (`heard`); and what is told
+-- leaves life, requests and what drivers keep, so lines, alarms and seats stay true.
 use Rattle.std.proofs.Common.{◌≡◌, ℕ, zero, suc, ◌+◌, ◌^◌, ◌<◌, ◌≤◌, Bool, true, false}
 use Rattle.std.proofs.Common.{if◌then◌else◌, List, [], ◌∷◌, drop, length, map, slice_get, slice_index_or, All}
 use Rattle.std.proofs.Common.{Option, None, Some, refl, sym, ap, ap₂, subst, ◌∙◌, arith}

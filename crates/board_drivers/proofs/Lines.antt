@@ -1,4 +1,6 @@
--- Who waits, after what a turn or a device's step asks.
+-- Those that wait in a line are those with a request, after what a turn or a device's step asks. Each act puts its
+-- process at the end, takes it out, or leaves the line, so whether a slot waits follows the acts by induction, and all
+-- other slots wait as before; who waits is still there (`line_after`).
 use Rattle.std.proofs.Common.{◌≡◌, ◌≢◌, ◌<◌, ℕ, ◌==◌, ◌||◌, Bool, true, false, not, cond, List, [], ◌∷◌, ◌++◌, length}
 use Rattle.std.proofs.Common.{slice_get, slice_set, slice_index_or, Some, refl, sym, ap, subst, ◌∙◌, arith, eqb-true}
 use Rattle.std.specs.List.{AllByRecursion}

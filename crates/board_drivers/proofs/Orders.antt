@@ -1,4 +1,6 @@
--- Commands to each driver.
+-- A command to each driver is what its definition makes of it: `commands_by` makes one statement of each capsule's
+-- contract. What the capsule did to its line, or to the LEDs, is one of the few lists of acts that the driver may ask
+-- for, and all else of the drivers stays; so each is a case of a list (`by_list`).
 use Rattle.std.proofs.Common.{◌≡◌, inl, inr, ℕ, ◌==◌, Bool, true, false, cond, nat_lt, List, [], ◌∷◌, length, find}
 use Rattle.std.proofs.Common.{Option, Some, Ok, option_map, unwrap_or, refl, sym, ap, subst, ◌∙◌}
 use Rattle.std.specs.List.{AllByRecursion}

@@ -1,4 +1,7 @@
--- What each device tells the process that it serves, as a step of the board.
+-- What each device tells the process that it serves is that device's step of the world. A device is a value
+-- (`Answering`): its line, its answer to a process, the drivers after it, and what is printed; `acts_on` asks of it
+-- only that it serves whoever is first (`ServesWhoeverIsFirst`), which each device's lemma computes field by field,
+-- from the answer's definition.
 use Rattle.std.proofs.Common.{◌≡◌, ℕ, zero, suc, ◌+◌, ◌*◌, ◌^◌, ◌==◌, ◌<◌, ◌≤◌, Bool, true, false, not, ◌&&◌, nat_le}
 use Rattle.std.proofs.Common.{if◌then◌else◌, List, [], ◌∷◌, drop, take, length, slice_get, slice_set, Option, None}
 use Rattle.std.proofs.Common.{◌%◌, ◌||◌, is_none, nat_lt, slice_index_or}

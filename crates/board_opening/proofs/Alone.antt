@@ -1,4 +1,6 @@
--- The first record of each process in an opening world is a function of its own object and place.
+-- The first record of each process in an opening world is a function of its own object and place. Each application in
+-- the list asks for what its object says, by induction on the walk over objects; its place is what it asks for from
+-- some start, so its record can be made of object and place alone, whatever lies beside it.
 use Rattle.std.proofs.Common.{◌≡◌, ℕ, zero, suc, ◌+◌, nat_le, nat_lt, Bool, true, false, cond, List, [], ◌∷◌, slice_get}
 use Rattle.std.proofs.Common.{Option, None, Some, IfSome, Result, Ok, Err, OnOk, refl, sym, ap, subst, ◌∙◌}
 use Rattle.std.specs.List.{AllByRecursion, cons_option, filter_map}

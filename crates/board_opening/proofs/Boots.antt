@@ -1,4 +1,6 @@
--- What is so of the processes of an opening world.
+-- What is so of the processes of an opening world. Blocks are placed one behind another, so by induction on the
+-- applications each record is an opening record, in a block at or above the end of the one before (`AreOpened`). From
+-- this alone come all laws of the first record, and that any two blocks lie apart.
 use Rattle.std.proofs.Common.{◌≡◌, ◌≢◌, ◌≤◌, ℕ, zero, suc, ◌+◌, ◌-◌, ◌%◌, ◌==◌, nat_le, nat_lt, Bool, true, false, cond}
 use Rattle.std.proofs.Common.{not, ◌||◌, arith, List, [], ◌∷◌, slice_get, Option, None, Some, is_some, IfSome, Result}
 use Rattle.std.proofs.Common.{Ok, Err, All, length, replicate, ◌<◌, refl, sym, ap, subst, ◌∙◌}

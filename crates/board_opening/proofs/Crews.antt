@@ -1,4 +1,6 @@
--- An application in its place, and the processes of all of them.
+-- The processes that boot makes are those of the applications placed, in their order. An application's header has been
+-- read and found good, which gives all that its process's seat asks; and by induction on the applications, one without
+-- a place adds nobody, one with a place adds its process, its own and its record at the end (`IsCrew`).
 use Rattle.std.proofs.Common.{◌≡◌, ℕ, zero, suc, ◌+◌, ◌-◌, ◌*◌, ◌%◌, ◌<◌, ◌≤◌, ◌==◌, Bool, true, false, cond, ◌||◌}
 use Rattle.std.proofs.Common.{nat_lt, List, [], ◌∷◌, ◌++◌, length, map, take, get_or, slice_index, Option, None, Some}
 use Rattle.std.proofs.Common.{IfSome, IfOk, Result, Ok, Err, is_ok, All, refl, sym, ap, ap₂, subst, ◌∙◌, add-one}

@@ -1,4 +1,6 @@
--- A command that its driver answers.
+-- A command that its driver answers comes to what the definition serves. What the taker made of it is a value (`Came`),
+-- so the record after the call is that of the command, and the process is seated as before. A call that is left to no
+-- driver is the kernel's own: by the seven outcomes, of which two have it leave all queues.
 use Rattle.std.proofs.Common.{◌≡◌, ℕ, zero, suc, ◌&&◌, Bool, true, false, cond, List, [], ◌∷◌, slice_get}
 use Rattle.std.proofs.Common.{slice_index_or, Option, None, Some, is_some, Result, Ok, Err, refl, sym, ap, subst, ◌∙◌}
 use Rattle.std.proofs.Common.{◌≢◌, ◌⊎◌, inl, inr, arith}

@@ -1,4 +1,6 @@
--- The reply to a call stands in the registers of its process after it.
+-- The reply to a call stands in the registers of its process after it, by cases on the call: each part of the
+-- definition either puts one reply into the registers and changes them no more, or comes to an outcome that has no
+-- reply. memop's table goes row by row.
 use Rattle.std.proofs.Common.{◌≡◌, ℕ, ◌+◌, ◌%◌, ◌^◌, ◌==◌, Bool, true, false, cond, List, [], ◌∷◌, find, Option, None}
 use Rattle.std.proofs.Common.{Some, option_map}
 use Rattle.std.proofs.Common.{unwrap_or, Result, Ok, Err, refl, ap, sym, ◌∙◌, slice_get}

@@ -1,4 +1,6 @@
--- The turn of a process.
+-- The turn of a process, made of the instruction and of what follows it, is the one that the definitions make of its
+-- record. By the state of the process, and for one that runs by the end of its instruction: it went, it was denied, or
+-- it made a call. The instruction's relation is taken apart once, and each end adds what the drivers did.
 use Rattle.std.proofs.Common.{◌≡◌, ◌≤◌, ℕ, ◌+◌, ◌⊎◌, inl, inr, true, false, List, []}
 use Rattle.std.proofs.Common.{Option, None, Some, is_some, Result, Ok, Err, refl, sym, ap, subst, ◌∙◌, arith}
 use Rattle.std.proofs.lemmas.List.{length-set, set-set}

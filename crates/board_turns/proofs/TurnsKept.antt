@@ -1,4 +1,6 @@
--- What is kept of which processes can have a turn, as it is looked for again, and as processes change.
+-- What is kept of which processes can have a turn stays true. A change of one slot leaves what is kept of all others
+-- (`OtherTurnsTell`), and to look at that slot again makes it all. Where all are looked at, it holds slot by slot, up
+-- to the last, and beyond the last there is none.
 use Rattle.std.proofs.Common.{◌≡◌, ◌≢◌, ℕ, zero, suc, ◌+◌, ◌<◌, ◌≤◌, ◌==◌, Bool, true, false, List, [], ◌∷◌, length}
 use Rattle.std.proofs.Common.{replicate, slice_get, slice_set, slice_index_or, None, Some, refl, sym, ap, subst}
 use Rattle.std.proofs.Common.{◌∙◌, arith, eqb-true, eq-eqb}

@@ -1,4 +1,7 @@
--- Scripts that agree up to a time.
+-- Scripts that agree up to a time: an event that is still to come in changes neither what is chosen, where that ends in
+-- time, nor what it comes to. Part by part of a step, to insert the event before it or after it is the same
+-- (`stepped_besides`); since it is later than now, it is not what comes in. So many steps are the same by induction on
+-- their number.
 use Rattle.std.proofs.Common.{◌≡◌, ℕ, zero, suc, ◌+◌, ◌-◌, ◌*◌, ◌/◌, ◌<◌, ◌≤◌, nat_lt, nat_le, ◌&&◌, ◌||◌, min, Bool}
 use Rattle.std.proofs.Common.{true, false}
 use Rattle.std.proofs.Common.{cond, List, [], ◌∷◌, map, find, slice_get, Option, None, Some, is_some}

@@ -1,4 +1,6 @@
--- That what is found is the last place of a run at which a goal stops it.
+-- That what is found is the last place of a run at which a goal stops it: by induction on the steps that may be made.
+-- What is found from here on is what the rest of the run finds, with this step's place as what had been found
+-- (`LastOr`), and a place of the rest is one of the run, a step later.
 use Rattle.std.proofs.Common.{◌≡◌, ◌⊎◌, inl, inr, ℕ, zero, suc, ◌<◌, ◌≤◌, nat_lt, ◌&&◌, Bool, true, false, cond, List}
 use Rattle.std.proofs.Common.{Option, None, Some, option_map, option_and_then, refl, sym, ap, ap₂, subst, ◌∙◌, arith}
 use Rattle.std.specs.Option.{option_or}

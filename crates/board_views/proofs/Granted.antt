@@ -1,4 +1,7 @@
--- Grants whose lines are written area by area, from the kernel's bytes of a block.
+-- Grants whose lines are written area by area, from the kernel's bytes of a block. Since the bytes are those of the
+-- grants laid one after another, the first area is as long as its second word says, and is the first grant's; cutting
+-- it off leaves the bytes of the others (`FirstArea`). The loop keeps the lines written and the grants left
+-- (`LinesSoFar`).
 use Rattle.std.proofs.Common.{◌≡◌, ℕ, ◌+◌, ◌-◌, ◌<◌, ◌≤◌, List, [], ◌∷◌, ◌++◌, codes, length, take, drop}
 use Rattle.std.proofs.Common.{get_or, length-drop}
 use Rattle.std.proofs.Common.{refl, sym, ap, subst, ◌∙◌, arith, append_assoc, append-nil, length-append}

@@ -1,4 +1,6 @@
--- A board that goes on to a goal, and one that is asked for the last place of its way.
+-- A board that goes on to a goal, and one that is asked for the last place of its way. The loops keep 'from here, with
+-- so many steps left, it comes to where it would have come from the beginning' (`SearchesOn`, `FindsOn`). That it
+-- passes no place at which it should stop is an induction on the steps left, one step put before those that follow.
 use Rattle.std.proofs.Common.{◌≡◌, ◌⊎◌, inl, inr, ℕ, zero, suc, ◌-◌, ◌<◌, ◌≤◌, nat_lt, ◌||◌, Bool, true, false, cond}
 use Rattle.std.proofs.Common.{List, Option, None, Some, option_and_then, unwrap_or}
 use Rattle.std.proofs.Common.{refl, sym, ap, ap₂, subst, ◌∙◌, arith}

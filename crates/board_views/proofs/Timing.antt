@@ -1,4 +1,7 @@
--- A board that goes on to a time.
+-- A board that goes on to a time. Whether a step ends within it is seen before the step is made (`within-run` and its
+-- like), and k quiet steps may be made at once, since none of them ends later than all do and nothing is told of them:
+-- inductions on k (`leap`, `quiet_leap`). The loop keeps `GoesTo`: what was told so far was written, and from here it
+-- goes on as from the beginning.
 use Rattle.std.proofs.Common.{◌≡◌, ℕ, zero, suc, ◌+◌, ◌-◌, ◌<◌, ◌≤◌, nat_lt, nat_le, ◌==◌, ◌&&◌, ◌||◌, not, min, Bool}
 use Rattle.std.proofs.Common.{true, false, cond, List, [], ◌∷◌, ◌++◌, length, slice_get, Option, None, Some, is_some}
 use Rattle.std.proofs.Common.{All, codes}

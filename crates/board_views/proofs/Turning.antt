@@ -1,4 +1,6 @@
--- A board that goes on until a process had so many turns.
+-- A board that goes on until a process had so many turns. As many steps may be made at once as turns are wanted still,
+-- since each gives one turn at most (`leap`, by induction on them); the loop keeps that from here it comes to the same
+-- world (`TurnsOn`). That this is the first world with so many turns is an induction on the steps left.
 use Rattle.std.proofs.Common.{◌≡◌, ◌⊎◌, inl, inr, ℕ, zero, suc, ◌+◌, ◌-◌, ◌<◌, ◌≤◌, nat_le, min, Bool, true, false}
 use Rattle.std.proofs.Common.{cond, Option, None, Some, refl, sym, ap, subst, ◌∙◌, arith}
 use Rattle.std.proofs.lemmas.Bool.{leb-false, leb-true}

@@ -1,3 +1,6 @@
+-- An operator's act that is next to come in: the event is let in, and then what `operate_at` promised is an act on that
+-- machine (`OperatesOnce`). The step and the board follow from it (`Operating`); here stands that each thing kept
+-- beside the parts is true again once the process and its alarm were looked at.
 use Rattle.std.proofs.Common.{◌≡◌, ◌≤◌, ◌+◌, ◌*◌, ◌^◌, refl, true, Bool, List, length, ap, sym, subst, ◌∙◌, arith}
 use Rattle.std.specs.List.{zip}
 use Rattle.process_record.specs.declared.process.Process.{Process}

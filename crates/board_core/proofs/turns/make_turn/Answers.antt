@@ -1,3 +1,6 @@
+-- A turn of the process in a slot. That it is ready is what is kept of the slot, and what `turn_at` promised makes the
+-- step and the board (`Changes`, `TurnLines`). Here stands that each thing kept beside the parts is true again once the
+-- process was looked at: `looked` and `noted` say what these leave of the machine.
 use Rattle.std.specs.List.{zip}
 use Rattle.process_record.specs.declared.process.Process.{Process}
 use Rattle.std.proofs.Common.{◌≡◌, ◌≤◌, ◌+◌, ◌*◌, ◌^◌, ◌<◌, Bool, List, [], true, None, refl, ap, ap₂, sym, subst}

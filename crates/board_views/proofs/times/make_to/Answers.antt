@@ -1,3 +1,6 @@
+-- The loop that makes the steps within a time: it keeps `GoesTo`, and each exit is one of its lemmas of `Timing`: no
+-- turn can be made, no choice is left or within the time, no step is left, or the sink failed. The quiet turns before a
+-- step are put to it first (`stretched`).
 use Rattle.std.proofs.Common.{sym, ◌∙◌, arith}
 use Rattle.board_views.proofs.Timing.{begins, more, no_turn, none-late, none-over, none_left, part, stopped, stretched}
 use Rattle.board_views.proofs.times.make_to.Goals as goal

@@ -1,3 +1,6 @@
+-- What comes in is a step of the board. Where it is not its time nothing has changed, and the choice is refused; an act
+-- that means a process is `operate`'s; else what `Drivers::arrive` promised makes the parts of the board
+-- (`parts_then`), of which the rest follows: what looking again asks, and the board and the world after it.
 use Rattle.std.proofs.Common.{◌≡◌, ◌≤◌, ◌*◌, ◌^◌, List, length, None, true, sym, ap, subst, ◌∙◌, arith}
 use Rattle.std.specs.List.{zip}
 use Rattle.tk_base.specs.declared.limits.TheConstants.{SLOT_COUNT, STEP_LIMIT}

@@ -1,3 +1,6 @@
+-- The opening board. What `first_crew` and the placing promised of the applications gives what `Home::new` asks, and
+-- the invariant field by field: nobody waits, no alarm is armed, no registers are set. That its world is the opening
+-- one is `opening_shown`; that each first record stands for itself is then a law of that world.
 use Rattle.std.proofs.Common.{◌≡◌, ◌≤◌, List, [], ◌∷◌, ℕ, zero, suc, None, Some, All, ap, length, map, sym, subst, ◌∙◌}
 use Rattle.std.proofs.Common.{◌==◌, ◌*◌, ◌^◌, ap₂, arith, not}
 use Rattle.std.specs.Prelude.{unwrap_or}

@@ -1,3 +1,6 @@
+-- A part of a quiet stretch. What `turns_at` promised of the turns (`Quietly`) makes the board after them, the stretch
+-- of the world and how it ends, each by its lemma of `Stretches`. All that these ask is shown here: the slot is the
+-- next choice, its process runs, and the turns end with the slice or the slot is alone.
 use Rattle.std.proofs.Common.{◌≡◌, ◌+◌, ◌<◌, ℕ, List, [], ◌∷◌, Option, Some, true, false, All}
 use Rattle.std.proofs.Common.{slice_get, sym, ap, ap₂, subst, ◌∙◌, arith, refl, Bool, ◌⊎◌, inl, inr}
 use Rattle.std.specs.List.{zip}

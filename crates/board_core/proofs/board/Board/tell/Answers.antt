@@ -1,3 +1,6 @@
+-- A device's step: what `act` promised is taken apart once, into 'it may not act, and the machine is as it was' and
+-- `DeviceTold`. Of the latter follow the step and the board (`Devices`); here stands that each thing kept beside the
+-- parts (who is ready, the alarm's time, the calm) is true again once it was looked at.
 use Rattle.std.proofs.Common.{◌≡◌, ◌≤◌, ◌*◌, ◌^◌, Bool, List, length, None, Result, Err, ap, sym, subst, ◌∙◌, arith}
 use Rattle.std.specs.Prelude.{IfOk}
 use Rattle.std.specs.List.{zip}

@@ -1,3 +1,5 @@
+-- A command goes to the capsule of its driver: each arm hands what that capsule promised to `commands_by`, or to its
+-- driver's lemma of `Orders`. What a capsule asks of its own lines is what the command asks of every queue.
 use Rattle.std.proofs.Common.{◌≡◌, ℕ, Some, rules, ap, ap₂, sym, ◌∙◌}
 use Rattle.grant_values.specs.declared.drivers.Driver.TheVariants.{Alarm, Buttons, Console, Leds, Random, Storage}
 use Rattle.grant_values.specs.Drivers.{driver_of}

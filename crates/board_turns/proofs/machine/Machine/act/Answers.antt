@@ -1,3 +1,5 @@
+-- A device acts: the arm of each device hands what its capsule promised to that device's lemma of `Acts`, which makes
+-- `Acted` of it. What it asks is that whoever is first in the line may be told, which holds below the limit of steps.
 use Rattle.std.proofs.Common.{◌≡◌, ap, sym, subst, ◌∙◌}
 use Rattle.kernel_model.specs.Named.{lane_by}
 use Rattle.tk_base.specs.declared.process.Dev.TheVariants.{Alarm, Uart, Receive, Random, Store}

@@ -1,3 +1,6 @@
+-- A command to a driver: the taker is the one that the definition finds (`handler_of`), and the id that of the process
+-- in the slot. So what `Drivers::command` promised is what came of it there (`Came`), and the lemmas of `Commands` make
+-- the call, the seated process and 'this slot alone' of it.
 use Rattle.std.proofs.Common.{◌≡◌, ◌+◌, Some, ap, sym, subst, ◌∙◌}
 use Rattle.process_record.specs.declared.process.Process.{Process}
 use Rattle.syscall_abi.specs.Forms.{form_of}

@@ -1,3 +1,6 @@
+-- How an instruction ends: what `Home::instruct` promised of the slot's own bytes is the instruction of the record
+-- (`IsMade`), and the machine is as before but for that own and the registers. One that is known not to go is not
+-- executed; it is the one that counts the turn, and changes nothing else.
 use Rattle.std.proofs.Common.{◌≡◌, ap, ap₂, subst, sym, ◌∙◌}
 use Rattle.rv32_model.specs.UserTurn.{UserTurn}
 use Rattle.process_model.specs.Own.{Own}

@@ -1,3 +1,6 @@
+-- Up to when no device step is ready. Where one that acts at once is ready it is up to now, before which no time
+-- passes; else up to the nearer of the next time of a device and the window's end, before which nothing becomes ready
+-- (`calm_since`) and the window stays (`same_since`).
 use Rattle.std.proofs.Common.{◌≡◌, None, Some, ap, subst, sym, ◌∙◌}
 use Rattle.driver_model.specs.Alarm.{nearer}
 use Rattle.kernel_model.specs.World.{Work}

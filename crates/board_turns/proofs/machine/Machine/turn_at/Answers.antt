@@ -1,3 +1,6 @@
+-- A turn of the process in a slot, by its state: one that runs or yielded gets what `run_on` or `wake` promised, of the
+-- resident there. What they ask is what the turn asks of the slot (`may`). One that has ended has no turn, and nothing
+-- changes.
 use Rattle.std.proofs.Common.{◌≡◌, false, slice_set, refl, sym, subst}
 use Rattle.board_turns.specs.declared.turn.Shown.{Shown}
 use Rattle.board_drivers.specs.Residents.{resident}

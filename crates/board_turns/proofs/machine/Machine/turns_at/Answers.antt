@@ -1,3 +1,6 @@
+-- Quiet turns in a slot: the registers are brought in, and what `instruct_quietly` promised of the slot's own bytes
+-- (`MakesAll`) is so many instructions of its record. They changed RAM, registers and the count of turns alone, so the
+-- process is seated, so many steps later, and the machine's rest is as it was.
 use Rattle.std.proofs.Common.{arith, refl, sym, subst}
 use Rattle.process_model.specs.Own.{Own}
 use Rattle.process_record.specs.declared.process.Process.{Process}
