@@ -1,4 +1,7 @@
--- What a process's turn, and what a device's answer, leaves of the upcalls that wait for it.
+-- What a process's turn, and what a device's answer, leaves of the upcalls that wait for it (`Leaves`): some of what
+-- waited, one upcall more at most, and each is still the one that is held. By the call's class, made a literal, so that
+-- what its label leaves computes (`LeavesByCall`); a subscribe drops those of its key, a yield takes one, the end of a
+-- life drops all.
 use Rattle.std.proofs.Math.Bool.{and-false, and-true}
 use Rattle.std.proofs.Common.{◌+◌, suc, take, slice_get, slice_index_or, inl, inr, ◌⊎◌}
 use Rattle.std.proofs.Common.{◌≡◌, ◌||◌, ap₂, ne_eqb, ◌≢◌, ◌<◌, ◌≤◌, ℕ, ◌==◌, ◌-◌, Bool, true, false, not, cond, List}

@@ -1,4 +1,6 @@
--- Each edge of a button schedules one upcall for a process that is told of it, in every run.
+-- Each edge of a button schedules one upcall for a process that is told of it, in every run. One step schedules a value
+-- (`step_schedules`), of which those of edges are exactly the edge that the process hears (`step_happens`); in a run
+-- they follow one another, by induction on the choices.
 use Rattle.std.proofs.Common.{◌≡◌, ℕ, Bool, true, false, cond, List, [], ◌∷◌, ◌++◌, filter, slice_get, Option, None}
 use Rattle.std.proofs.Common.{Some}
 use Rattle.std.proofs.Common.{◌+◌, ◌==◌, IfSome, refl, sym, ap, subst, ◌∙◌, eq-eqb}

@@ -1,4 +1,6 @@
--- What a turn, an answer and an operator's act leave of what is scheduled, case by case.
+-- What a turn, an answer and an operator's act leave of what is scheduled, case by case: the inbox after is that which
+-- the label alone computes from the one before. By the class of the call, each with its registers (`ExactByCall`); then
+-- by the end of the instruction and by the state of the process, as the definition of a turn goes.
 use Rattle.std.proofs.Math.Bool.{and-false}
 use Rattle.std.proofs.Common.{◌≡◌, ℕ, ◌==◌, ◌||◌, ◌&&◌, Bool, true, false, cond, not, List, [], ◌∷◌, filter, slice_get}
 use Rattle.std.proofs.Common.{Option, None, Some, is_some, Result, Ok, Err, refl, sym, ap, ap₂, subst, ◌∙◌, eqb-true}

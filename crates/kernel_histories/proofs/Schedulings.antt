@@ -1,4 +1,6 @@
--- What waits after a run, step by step: it is what was scheduled, and neither delivered nor taken away.
+-- What waits after a run, step by step: it is what was scheduled, and neither delivered nor taken away. The invariant,
+-- by induction on the choices, is that the numbered schedulings are the upcalls that wait, each still held (`IsGood`),
+-- and that no step since took one away. So what a turn delivers is the one at the place that it takes.
 use Rattle.std.proofs.Common.{◌≡◌, ◌<◌, ◌≤◌, ℕ, ◌+◌, Bool, true, false, cond, not, List, [], ◌∷◌, ◌++◌, drop, length}
 use Rattle.std.proofs.Common.{slice_get, slice_index_or, Option, None, Some, IfSome, is_some, refl, sym, ap, subst, ◌∙◌}
 use Rattle.std.proofs.Common.{arith}

@@ -1,4 +1,6 @@
--- What each turn does to the pairs that its process has handed, and what a swap in it gives back.
+-- What each turn does to the pairs that its process has handed, and what a swap in it gives back. The invariant is
+-- `Knows`: each pair held is the one that the turns so far told last, as long as the process may have a turn. A swap
+-- hands one pair and leaves all others; other calls leave all; a new life has none.
 use Rattle.std.proofs.Common.{◌≡◌, ◌≢◌, ◌<◌, ◌≤◌, ℕ, ◌==◌, ◌&&◌, nat_lt, Bool, true, false, cond, List, [], ◌∷◌}
 use Rattle.std.proofs.Common.{length, slice_get, slice_set, Option, None, Some, is_none, is_some, unwrap_or, Result}
 use Rattle.std.proofs.Common.{Ok, Err, refl}

@@ -1,4 +1,6 @@
--- What a turn takes of the upcalls that wait for its process: the one walk over turns.
+-- What a turn takes of the upcalls that wait for its process: the one walk over turns. A law gives a case for each way
+-- of taking (`OfTakings`): nothing, the first or the first of one upcall by a yield, and the first as a process wakes
+-- that has yielded. What the registers tell of a yield is read off its number.
 use Rattle.std.proofs.Common.{◌≡◌, ℕ, ◌==◌, ◌&&◌, Bool, true, false, cond, List, [], Option, None, Some}
 use Rattle.std.proofs.Common.{slice_get, refl, sym, ap, subst, ◌∙◌, eqb-true}
 use Rattle.std.specs.Prelude.{All, is_none}

@@ -1,4 +1,6 @@
--- A process that waits for one upcall alone gets the arguments of the first scheduling of it.
+-- A process that waits for one upcall alone gets the arguments of the first scheduling of it. What it waits for is a
+-- fold over what is scheduled since (`over`), which the first of its upcall decides; each step without a turn of it
+-- adds to the fold, by induction on the choices, and it has no turn before.
 use Rattle.std.proofs.Common.{◌≡◌, ◌≢◌, ℕ, ◌+◌, ◌==◌, Bool, true, false, cond, List, [], ◌∷◌, ◌++◌, find, slice_get}
 use Rattle.std.proofs.Common.{Option, None, Some, IfSome, refl, sym, ap, ap₂, ◌∙◌, eqb-true, eq-eqb, subst, not, ◌&&◌}
 use Rattle.std.proofs.Common.{is_some}

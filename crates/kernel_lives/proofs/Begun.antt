@@ -1,4 +1,7 @@
--- That a request begins to wait by an accepted command to its driver alone.
+-- That a request begins to wait by an accepted command to its driver alone. A call asks the board to wait only where a
+-- driver takes the command, and then for a queue of that driver (`AskTheirOwn`); a refused one asks nothing. The walk
+-- over calls and turns shows it of what a turn tells, the walk over devices (`of_device`) that an answer adds no
+-- request.
 use Rattle.std.proofs.Common.{◌≡◌, inl, inr, ℕ, ◌+◌, ◌==◌, ◌&&◌, ◌||◌, not, Bool, true, false, cond, List, [], ◌∷◌}
 use Rattle.std.proofs.Common.{slice_get, slice_set, Option, None, Some, IfSome, Result, Ok, Err}
 use Rattle.std.proofs.Common.{refl, sym, ap, subst, ◌∙◌, unwrap_or, eqb-true, eq-eqb}

@@ -1,5 +1,7 @@
 -- What holds of a process after each thing that may happen to it: the one walk over turns and answers, and then over
--- any choices. Before a turn I holds of the process, and then J.
+-- any choices. Before a turn I holds of the process, and then J. A new law gives a field of `IsKept` for each primitive
+-- change of a record (registers, a wait, what drivers leave, an end, a start); `over_choices` is the induction on the
+-- choices.
 use Rattle.std.proofs.Common.{◌≡◌, ◌≤◌, ℕ, suc, ◌+◌, ◌%◌, ◌^◌, ◌==◌, Bool, true, false, cond, List, [], ◌∷◌, find}
 use Rattle.std.proofs.Common.{drop, length, slice_get, take, Option, None, Some, IfSome, is_some, Result, Ok, Err, refl}
 use Rattle.std.proofs.Common.{sym, ap, subst, arith, not, ◌&&◌, ◌∙◌}

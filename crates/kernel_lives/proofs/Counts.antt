@@ -1,4 +1,6 @@
--- Time, steps and turns add up, choice by choice.
+-- Time, steps and turns add up, by induction on the choices. One choice adds one step, and either a turn of one
+-- process, no time, or ticks (`OneMore`): a turn that is ready counts, by the walk of `Changes`, and answers and acts
+-- count nothing. That a ready device finds whom it serves needs that who waits is there, which each step keeps.
 use Rattle.std.proofs.Common.{◌≡◌, ◌<◌, ℕ, zero, suc, ◌+◌, ◌==◌, Bool, true, false, cond, not, ◌&&◌, nat_lt, List, []}
 use Rattle.std.proofs.Common.{◌∷◌}
 use Rattle.std.proofs.Common.{◌++◌, length, slice_get, slice_set, Option, None, Some, is_some, refl, sym, ap}

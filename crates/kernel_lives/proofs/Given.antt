@@ -1,4 +1,6 @@
--- That what a device tells of a process is what the process gets, device by device.
+-- That what a device tells of a process is what the process gets: event by event, computed from what the driver does
+-- with the request that waits, its bytes read back where they were put (`put_read`), which needs that the own is whole.
+-- The labels of a step come from the walk over devices (`of_device`).
 use Rattle.std.proofs.Common.{◌≡◌, inl, inr, ◌<◌, ◌≤◌, ℕ, ◌+◌, ◌-◌, Bool, true, false, cond, min, nat_le}
 use Rattle.std.proofs.Common.{not, List, [], length, take, Option, None, Some, IfSome, slice_get}
 use Rattle.std.proofs.Common.{slice_index, unwrap_or, refl, sym, ap, subst, ◌∙◌, arith}

@@ -1,4 +1,7 @@
--- Who stands in a waiting list after a step.
+-- Who stands in a waiting list after a step: each slot once where its request waits, and not otherwise. What is shown
+-- is an equation of counts (`times_in`): an act of the board adds one or takes all, so over a turn's acts the count
+-- follows the request by induction, and of other slots it stays. Devices go by `of_device`, runs by induction on the
+-- choices.
 use Rattle.std.proofs.Common.{◌≡◌, ◌≢◌, ℕ, ◌+◌, ◌==◌, Bool, true, false, cond, not, ◌&&◌, List, [], ◌∷◌, ◌++◌}
 use Rattle.std.proofs.Common.{slice_get, slice_set, Option, None, Some, IfSome, refl, sym, ap, subst, ◌∙◌}
 use Rattle.std.proofs.Common.{eqb-true, eq-eqb}

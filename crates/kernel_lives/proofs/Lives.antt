@@ -1,4 +1,6 @@
--- When a process lives, and what stays of it, by the one walk over what may happen to it.
+-- When a process lives, and what stays of it: each is a predicate on a record that the walk of `Changes` keeps
+-- (`IsKept`, and `IsActed` for an operator's acts), so of any choices (`stays`). So it lives as it runs, an ended one
+-- is left alone, its block, object and order of memory stay, and no more upcalls wait than the limit.
 use Rattle.std.proofs.Common.{◌≡◌, ◌≢◌, ◌≤◌, ℕ, ◌+◌, ◌-◌, Bool, true, false, cond, not, ◌&&◌, nat_le, List, []}
 use Rattle.std.proofs.Common.{◌∷◌, filter, length, slice_get, slice_set, unwrap_or, option_map, Option}
 use Rattle.std.proofs.Common.{None, Some, IfSome, Result, Ok, Err, refl, sym, ap, subst, ◌∙◌, arith}

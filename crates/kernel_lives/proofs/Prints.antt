@@ -1,4 +1,6 @@
--- What a step prints, it prints of a buffer.
+-- What a step prints, it prints of a buffer: of all devices the UART's sending half and the line that lists a process
+-- alone print, by the walk over devices. What is sent is the next part of the buffer of the write that waits, as many
+-- bytes as are taken.
 use Rattle.std.proofs.Common.{◌≡◌, ◌<◌, ℕ, ◌+◌, ◌==◌, Bool, true, false, cond, List, [], ◌∷◌, drop, length}
 use Rattle.std.proofs.Common.{slice_index, unwrap_or, option_map, Option, None, Some, IfSome, is_some, refl, sym, ap}
 use Rattle.std.proofs.Common.{slice_get, subst}

@@ -1,4 +1,6 @@
--- That a process has 32 registers throughout: no instruction, call, delivery or start makes them more or fewer.
+-- That a process has 32 registers throughout: no instruction, call, delivery or start makes them more or fewer. Each
+-- writes words into the registers that there are (`words_many`), or a start makes 32. A walk of its own, by the form of
+-- the instruction and of the call (`of_served`), since the walk of `Changes` leaves registers open.
 use Rattle.std.proofs.Common.{◌≡◌, ℕ, ◌%◌, ◌==◌, false, cond, List, [], ◌∷◌, length, Option, None, Some}
 use Rattle.std.proofs.Common.{Result, Ok, Err, replicate, slice_get, refl, sym, subst, ◌∙◌, ◌-◌}
 use Rattle.tk_base.specs.Regs.{Registers, with_register}

@@ -1,4 +1,6 @@
--- A process that starts again is as it was opened, but for what no restart forgets.
+-- A process that starts again is as it was opened, but for what no restart forgets. It lies where it lay (`LiesAs`,
+-- kept by the walk), and a start is a function of the object and of where the process lies, so it makes the same of
+-- both. Whether it started in a turn is read off the count of restarts, over the walk of `Changes`.
 use Rattle.std.proofs.Common.{◌≡◌, ◌≢◌, ℕ, ◌+◌, ◌-◌, true, [], replicate, slice_get, Option, Some, IfSome, Ok, refl}
 use Rattle.std.proofs.Common.{false, sym, ap, subst, ◌∙◌}
 use Rattle.tk_base.specs.declared.process.Choice.{Choice}

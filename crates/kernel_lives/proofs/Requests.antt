@@ -1,5 +1,6 @@
 -- That each request is completed once at most: who is told something of a queue's device stands in that queue, and so
--- has a request there.
+-- has a request there (`ListsAreOfRequests`). So a step is one of eight cases, by whether it told an answer and whether
+-- a request waited before it and waits after it, and sums go by induction on the choices.
 use Rattle.std.proofs.Common.{◌≡◌, ◌≤◌, ℕ, ◌+◌, ◌==◌, ◌&&◌, ◌||◌, Bool, true, false, cond, not, List, [], ◌∷◌, filter}
 use Rattle.std.proofs.Common.{Option, None, Some, IfSome, slice_get, unwrap_or, refl, sym, ap, subst, ◌∙◌, arith}
 use Rattle.std.proofs.Common.{eqb-true, eq-eqb}

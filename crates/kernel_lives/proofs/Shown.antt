@@ -1,4 +1,6 @@
--- That a process's own calls write the bytes that they promise: the clock, and the flag of a yield.
+-- That a process's own calls write the bytes that they promise: the clock, and the flag of a yield. What an accepted
+-- call leaves is known by its class (`Accepts`); bytes that are written over others stand at their own places and leave
+-- all others. That they lie in the process's bytes is so since its own is whole.
 use Rattle.std.proofs.Common.{◌≡◌, ◌⊎◌, inl, inr, ◌<◌, ◌≤◌, ℕ, ◌+◌, ◌-◌, Bool, true, false, cond, min, List}
 use Rattle.std.proofs.Common.{length, take, Option, None, Some, IfSome, slice_get, slice_index, slice_set, refl, sym}
 use Rattle.std.proofs.Common.{ap, subst, ◌∙◌, arith}

@@ -1,4 +1,6 @@
--- That storage is memory: a turn leaves it, a served write is written over it, and all else leaves it.
+-- That storage is memory: a turn leaves it, a served write is written over it, and all else leaves it. Each part of a
+-- turn has the record's storage as it was, so an event writes what it says (`writes_at`), and a history all of that,
+-- one after another, by induction. What a read gives is then read back from the buffer.
 use Rattle.std.proofs.Common.{◌≡◌, ◌≤◌, ◌<◌, ◌⊎◌, inl, inr, ℕ, ◌+◌, ◌-◌, ◌==◌, Bool, true, false, cond, min, List, []}
 use Rattle.std.proofs.Common.{◌∷◌, ◌++◌, length, take, drop, map, slice_get, Option, None, Some, Result, Ok, Err}
 use Rattle.std.proofs.Common.{unwrap_or, refl, sym, ap, subst, ◌∙◌, arith, slice_index, slice_range}

@@ -1,4 +1,6 @@
--- That what is a process's own stays whole, by the one walk over what may happen to it.
+-- That what is a process's own stays whole, by the one walk over what may happen to it (`IsKept`), with the order of
+-- its memory beside it: a change of bytes leaves as many, and each buffer lies below the mark still. Drivers keep it by
+-- their law (`DriversKeepSettled`). With it the causes of a step's changes become those of any choices.
 use Rattle.std.proofs.Common.{◌≡◌, ℕ, ◌+◌, ◌-◌, Bool, true, false, cond, List, [], ◌∷◌, length}
 use Rattle.std.proofs.Common.{slice_set, Option, None, Some, IfSome, refl, sym, subst, ◌∙◌, arith}
 use Rattle.std.proofs.lemmas.List.{length-replicate, length-set}

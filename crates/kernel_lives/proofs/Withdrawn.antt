@@ -1,4 +1,7 @@
--- Why a request is withdrawn: by what its process's turn tells, or as a life of the process ends.
+-- Why a request is withdrawn: by what its process's turn tells, or as a life of the process ends. What a driver keeps
+-- of it is set by a command that the turn tells, is as in a fresh life, or stays (`request_becomes`); where it stays
+-- and waits no more, the process lives no more. An answer of another queue's device, by the walk over devices, ends it
+-- with that life alone.
 use Rattle.std.proofs.Common.{◌≡◌, ◌≢◌, ◌⊎◌, inl, inr, ℕ, ◌+◌, ◌==◌, ◌&&◌, ◌||◌, not, Bool, true, false, cond, List}
 use Rattle.std.proofs.Common.{[], ◌∷◌, Option, None, Some, slice_get, slice_set, is_some, unwrap_or, refl, sym}
 use Rattle.std.proofs.Common.{ap, ap₂, subst, ◌∙◌, arith, eqb-true, eq-eqb}

@@ -1,5 +1,6 @@
 -- That each storage request asks for bytes that its slot has: a command is refused that asks for others, and storage
--- stays as long as it is.
+-- stays as long as it is. A turn (`TurnsKeepLines`) and an act keep it by what they leave of requests, and an answer of
+-- another driver leaves the value; so by induction on the choices reads give storage in every run.
 use Rattle.std.proofs.Common.{◌≡◌, ◌≤◌, ◌<◌, slice_index, ℕ, ◌+◌, ◌==◌, Bool, true, false, cond, not, List, [], ◌∷◌}
 use Rattle.std.proofs.Common.{◌++◌, drop, length}
 use Rattle.std.proofs.Common.{take, slice_get, Option, None, Some, IfSome, refl, sym, ap, subst, ◌∙◌, arith, unwrap_or}

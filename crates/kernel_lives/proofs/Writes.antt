@@ -1,5 +1,6 @@
 -- That a write completes truly: each step that leaves it waiting prints the next bytes of its buffer, as many as it
--- counts, or nothing.
+-- counts, or nothing. One step is one record (`Steps`): by the walk over devices the UART alone takes bytes of a write,
+-- and all else is `GoesOn`. Over a run the parts printed join to the front of the buffer, by induction on the choices.
 use Rattle.std.proofs.Common.{◌≡◌, ◌≢◌, ◌≤◌, ℕ, zero, suc, ◌+◌, ◌-◌, ◌==◌, ◌&&◌, ◌||◌, Bool, true, false, cond, not}
 use Rattle.std.proofs.Common.{min, List, [], ◌∷◌, ◌++◌, drop, length, map, slice_get, slice_set, take, Option, None}
 use Rattle.std.proofs.Common.{Some}

@@ -1,4 +1,6 @@
 -- What becomes of a write that waits in a step: all but its device leaves it, or begins one of which no byte was taken.
+-- Commands go by the rows of the console's table, those of other drivers leave what it keeps (`command_leaves_others`);
+-- a turn goes by the walk of `Changes`, and an answer of another device leaves it.
 use Rattle.std.proofs.Common.{◌≡◌, ℕ, ◌==◌, Bool, true, false, cond, List, length}
 use Rattle.std.proofs.Common.{Option, None, Some, IfSome, is_some, refl, sym, ap, subst, ◌∙◌, eqb-true, unwrap_or}
 use Rattle.std.specs.Option.{option_and_then, option_map}
