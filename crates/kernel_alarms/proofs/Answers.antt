@@ -1,4 +1,6 @@
--- What the answers of other devices leave of a process's alarm.
+-- What the answers of other devices leave of a process's alarm: all of it. A driver's step keeps its own value alone,
+-- in its own grant, so what the alarm keeps is the same (`keeping`); what is scheduled or written to buffers is no part
+-- of it. Event by event, as each answer is defined.
 use Rattle.std.proofs.Common.{◌≡◌, ℕ, ◌-◌, ◌==◌, Bool, true, false, cond, not, nat_le, List, [], ◌∷◌, length, Option}
 use Rattle.std.proofs.Common.{None, Some, refl, ◌∙◌, unwrap_or}
 use Rattle.std.proofs.lemmas.Bool.{false≢true}

@@ -1,4 +1,6 @@
--- What a turn leaves of its process's alarm, by the end of its instruction and by its call.
+-- What a turn leaves of its process's alarm, by the end of its instruction and by its call. A call asks nothing of the
+-- board unless its turn shows that it may act, and leaves the alarm unless it shows that it may arm it (`Leaves`); of
+-- all calls only commands and exits do either, which their class, driver and number show.
 use Rattle.std.proofs.Common.{◌≡◌, ℕ, zero, suc, ◌-◌, ◌==◌, ◌&&◌, Bool, true, false, cond, not, nat_lt, List, []}
 use Rattle.std.proofs.Common.{Option, None, Some, Result, Ok, Err, slice_get, slice_set, slice_index, refl, ap, sym}
 use Rattle.std.proofs.Common.{subst, ◌∙◌, arith, eqb-true}

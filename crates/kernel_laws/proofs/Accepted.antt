@@ -1,5 +1,6 @@
 -- What an accepted call leaves: a command what the driver makes of it that takes it; any other one what its class and
--- its arguments say.
+-- its arguments say. The turn goes by the walk `of_turn`; the class picks the row of the table of calls, and the call
+-- of that row computes (`ComesTo`). A refused call has a rule, which an accepted one has not.
 use Rattle.std.proofs.Common.{◌≡◌, ℕ, ◌==◌, Bool, List, [], ◌∷◌, Option, None, Some, Result, Ok, Err, IfSome, find}
 use Rattle.std.proofs.Common.{slice_index, refl, sym, ap, subst, ◌∙◌}
 use Rattle.std.specs.Option.{option_map}

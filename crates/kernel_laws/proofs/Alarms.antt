@@ -1,5 +1,6 @@
 -- That an alarm fires when it is due: devices come before turns and passes, and the clock's answer is to the one that
--- is due.
+-- is due. So a choice that takes time is made where no alarm is due; and a pass leads no further than the nearest time,
+-- which is no later than that of each slot, by induction on the slots.
 use Rattle.std.proofs.Common.{◌≡◌, ◌≤◌, ◌<◌, ℕ, zero, suc, ◌+◌, ◌-◌, ◌*◌, ◌/◌, ◌==◌, Bool, true, false, cond, List, []}
 use Rattle.std.proofs.Common.{◌∷◌, find, Option, None, Some, is_some, slice_get, unwrap_or, refl, ap, sym, subst, ◌∙◌}
 use Rattle.std.proofs.Common.{◌⊎◌, inl, inr, arith, eqb-true, fold, min, nat_le, ◌%◌, ◌^◌}

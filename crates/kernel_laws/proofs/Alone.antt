@@ -1,4 +1,6 @@
--- The round robin where the process in one slot alone can have a turn.
+-- The round robin where the process in one slot alone can have a turn: its slices follow one another. No other slot is
+-- ready, so it has the next turn however much of its slice is used; each turn is a stretch of one, joined to those
+-- after it by induction on the turns, and what is used then is counted through the slices (`used_through`).
 use Rattle.std.proofs.Common.{◌≡◌, ℕ, zero, suc, ◌+◌, ◌-◌, ◌%◌, ◌<◌, ◌≤◌, ◌==◌, Bool, true, false, ◌&&◌, nat_lt}
 use Rattle.std.proofs.Common.{if◌then◌else◌, map, List, slice_get, slice_set, Option, None, Some, refl, sym, ap, ap₂}
 use Rattle.std.proofs.Common.{subst, ◌∙◌, arith, eqb-true, eq-eqb}

@@ -1,5 +1,6 @@
 -- That what a driver keeps of its settings is what its commands said: for any value that is read of what one driver
--- keeps, and then for the alarm and the buttons.
+-- keeps, and then for the alarm and the buttons. A command to another driver leaves it, one to its own goes by the rows
+-- of the table (`LeavesOrSets`); so a turn leaves it, sets it as its command says, or it is as in a fresh life.
 use Rattle.std.proofs.Common.{◌≡◌, ◌⊎◌, inl, inr, ℕ, ◌+◌, ◌-◌, ◌*◌, ◌/◌, ◌%◌, ◌^◌, ◌==◌, Bool, true, false, cond, nat_lt}
 use Rattle.std.proofs.Common.{List, [], ◌∷◌, Option}
 use Rattle.std.proofs.Common.{None, Some, Result, Ok, Err, slice_get, slice_index, slice_set, unwrap_or, option_map, refl}
@@ -98,8 +99,8 @@ handed_value other driver kind number pair (g ∷ gs) =
 same_call : (a b : CommandHandler) → Some a ≡ Some b → a ≡ b
 same_call a b e = cc
 
--- What a command leaves of a value: it is as it was, and the command is none of those of some numbers, or it was refused;
--- or it was accepted, and sets the value.
+-- What a command leaves of a value: it is as it was, and the command is none of those of some numbers, or it was
+-- refused; or it was accepted, and sets the value.
 abbrev pub LeavesOrSets : {X : Type 0} → List ℕ → ℕ → Result Reply CallRule → X → X → Type 0 → Type 0
 LeavesOrSets numbers number answer before later Sets =
     ((later ≡ before) × (list_any (λ n. n == number) numbers ≡ true → (reply : Reply) → answer ≡ Ok reply → ⊥))
@@ -111,8 +112,8 @@ pub no_row : {P : Type 0} (numbers : List ℕ) (number n : ℕ) → list_any (λ
 no_row numbers number n none is among =
     absurd (false≢true (sym none ∙ sym (ap (λ (k : ℕ). list_any (λ m. m == k) numbers) is) ∙ among))
 
--- For a value that is read of what a driver keeps, and that commands of some numbers set, where a driver that is entered
--- tells what is told of none.
+-- For a value that is read of what a driver keeps, and that commands of some numbers set, where a driver that is
+-- entered tells what is told of none.
 module _ {X : Type 0} (driver : ℕ) (read : Option KeptValue → X) (Sets : ℕ → X → List ℕ → X → Type 0)
     (numbers : List ℕ) (blank : (o : Option KeptValue) → read (Some (unwrap_or o (fresh_value driver))) ≡ read o) where
   abbrev value : Own → X

@@ -1,4 +1,6 @@
--- That a request asks for what its command said, by the rows of the drivers' tables.
+-- That a request asks for what its command said, by the rows of the drivers' tables: each leaves the request of a
+-- queue, takes it away, or puts the one that its arguments ask for. A turn follows by the walk over calls; an answer,
+-- event by event, leaves none, or one that goes on from the one before (`GoesOnAs`).
 use Rattle.std.proofs.Common.{◌≡◌, ◌⊎◌, inl, inr, ℕ, ◌+◌, ◌-◌, ◌==◌, Bool, true, false, cond, nat_le, List, [], ◌∷◌, Option}
 use Rattle.std.proofs.Common.{None, Some, Result, Ok, Err, IfSome, slice_get, slice_set, unwrap_or, refl}
 use Rattle.std.proofs.Common.{sym, ap, ap₂, subst, ◌∙◌, eqb-true}

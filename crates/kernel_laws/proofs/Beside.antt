@@ -1,4 +1,6 @@
--- What an answer of a device leaves of what its process keeps for the drivers of all other devices.
+-- What an answer of a device leaves of what its process keeps for the drivers of all other devices: all of it. Event by
+-- event, each answer is a step of one driver, which puts a value in that driver's grant alone (`kept_beside`), writes
+-- bytes, or schedules.
 use Rattle.std.proofs.Common.{◌≡◌, ℕ, ◌-◌, ◌==◌, Bool, true, false, cond, nat_le, List, [], ◌∷◌, Option, None, Some}
 use Rattle.std.proofs.Common.{refl}
 use Rattle.std.proofs.Common.{◌∙◌, not, unwrap_or}

@@ -1,5 +1,6 @@
 -- What holds of each thing that a turn may come to holds of every turn, and so of each label that tells one; and what
--- holds of what each event leaves holds of each label that tells one.
+-- holds of what each event leaves holds of each label that tells one. The definition of a turn is walked once, by the
+-- state and by the end of the instruction; labels go by the choice, since devices tell no turn.
 use Rattle.std.proofs.Common.{◌≡◌, ℕ, false, List, [], Option, None, Some, slice_get}
 use Rattle.std.proofs.Common.{refl, sym, ap, subst, ◌∙◌, arith}
 use Rattle.std.specs.Prelude.{All, IfSome, IsSomeAnd}

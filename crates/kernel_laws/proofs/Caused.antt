@@ -1,4 +1,6 @@
--- The cause of each change that a step makes of a process's bytes, among its labels.
+-- The cause of each change that a step makes of a process's bytes, among its labels. In a step its record stays, or
+-- becomes that after its turn, or after what it is told, and that label is among the step's (`of_step`); so the causes
+-- of turns and of answers are those of the step. Stretches of quiet turns go by induction.
 use Rattle.std.proofs.Common.{◌≡◌, ◌⊎◌, inl, inr, ℕ, zero, suc, ◌+◌, ◌++◌, ◌==◌, Bool, true, false, List, []}
 use Rattle.std.proofs.Common.{◌∷◌, slice_get}
 use Rattle.std.proofs.Common.{slice_index, Option, None, Some, IfSome, is_some, refl, sym, ap, subst, ◌∙◌, arith}

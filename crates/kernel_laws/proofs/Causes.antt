@@ -1,4 +1,7 @@
--- The cause of each change of a process's bytes: by its turn, by the end of its instruction and by its call.
+-- The cause of each change of a process's bytes: by its turn, by the end of its instruction and by its call. An
+-- instruction that goes changes what it stores; a call changes the byte of an accepted yield's flag, the buffer that is
+-- shown the clock, or any byte as its process starts again (`Changes`); a delivery changes none. The walk is the
+-- definition's.
 use Rattle.std.proofs.Common.{◌≡◌, ◌⊎◌, inl, inr, ℕ, ◌+◌, ◌==◌, Bool, true, false, cond, ◌&&◌, List, Option}
 use Rattle.std.proofs.Common.{None, Some, Result, Ok, Err, is_ok, is_some, slice_get, slice_index, refl, ap, sym, subst}
 use Rattle.std.proofs.Common.{◌∙◌, ◌≤◌, arith, eqb-true, nat_le, option_and_then}

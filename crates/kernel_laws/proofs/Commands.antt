@@ -1,5 +1,6 @@
 -- What a command to any driver leaves of its process, before it schedules something: the same, the clock shown, or
--- another value that the driver keeps, which is entered or not.
+-- another value that the driver keeps, which is entered or not. By the rows of each driver's table; a law gives a case
+-- for each of these (`OfEachKeeping`), and `of_command` is the walk over all commands.
 use Rattle.std.proofs.Common.{◌≡◌, ℕ, ◌+◌, ◌==◌, nat_le, nat_lt, Bool, true, false, cond, List, [], ◌∷◌, find, Option}
 use Rattle.std.proofs.Common.{None, Some, refl, ap, sym, subst, unwrap_or, ◌∙◌, eqb-true}
 use Rattle.std.specs.Option.{option_map}

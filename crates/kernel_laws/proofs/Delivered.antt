@@ -1,4 +1,6 @@
--- What a delivery leaves in the registers of its process.
+-- What a delivery leaves in the registers of its process: a0 to a2 have the arguments, where a function runs also a3,
+-- ra and pc what belongs to it, and all others are as they were, since words are put at their places alone
+-- (`words_beside`). An accepted yield goes by its number, and a process that has yielded by what it waits for.
 use Rattle.std.proofs.Common.{◌≡◌, ◌≢◌, ◌⊎◌, inl, inr, ◌<◌, ℕ, ◌+◌, ◌-◌, ◌*◌, ◌/◌, ◌%◌, ◌^◌, ◌==◌, Bool, true, false}
 use Rattle.std.proofs.Common.{cond, List, [], ◌∷◌, length, remove, Option, None, Some, slice_get, slice_index}
 use Rattle.std.proofs.Common.{refl, sym, ap, subst, ◌∙◌, arith}

@@ -1,5 +1,6 @@
 -- A device's step speaks by that device's events, and changes what that device has: each device by what it does for the
--- one that it serves.
+-- one that it serves (`of_serving`), and what comes in by its kind. That all else stays computes, where a line or a
+-- list of words is put at its place.
 use Rattle.std.proofs.Common.{◌≡◌, ◌⊎◌, inl, inr, ℕ, zero, suc, Bool, true, false, cond, List, [], ◌∷◌, drop, map}
 use Rattle.std.proofs.Common.{slice_get, slice_index_or, slice_set, Option, None, Some, refl, sym, ap, subst}
 use Rattle.std.specs.Prelude.{unwrap_or}

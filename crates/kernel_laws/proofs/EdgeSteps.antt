@@ -1,4 +1,6 @@
--- Each edge of a button schedules one upcall for a process that is told of it, and no other step schedules one.
+-- Each edge of a button schedules one upcall for a process that is told of it, and no other step schedules one. No
+-- driver schedules another's upcall, and the buttons' commands none (`DriversScheduleTheirOwn`); so it goes by what the
+-- slot is told, and of edges it is told what comes in and changes its mask (`ServesBy`).
 use Rattle.std.proofs.Common.{◌≡◌, ◌≢◌, ◌⊎◌, inl, inr, ℕ, ◌+◌, ◌==◌, ◌&&◌, Bool, true, false, cond, List, [], ◌∷◌}
 use Rattle.std.proofs.Common.{◌++◌, filter, slice_get, Option, None, Some, IfSome, refl, sym, ap, subst, ◌∙◌, arith}
 use Rattle.std.proofs.Common.{eqb-true, eq-eqb}

@@ -1,4 +1,6 @@
--- What comes in on the serial line is read in its order: each step keeps it, lane by lane.
+-- What comes in on the serial line is read in its order: each step keeps it, lane by lane. Bytes that come in go behind
+-- the ring, of which the last ones stay; a read takes the first ones of the lane that serves; all else leaves the
+-- rings. So what was read and what is left follow from what came, by induction on the choices.
 use Rattle.std.proofs.Common.{◌≡◌, inl, inr, ◌≤◌, ◌<◌, ℕ, zero, suc, ◌+◌, ◌-◌, ◌==◌, Bool, true, false, cond, List}
 use Rattle.std.proofs.Common.{[], ◌∷◌, ◌++◌, drop, take, length, map, slice_get, slice_set}
 use Rattle.std.proofs.Common.{Option, None, Some, refl, sym, ap, ap₂, subst, ◌∙◌, arith, eqb-true, eq-eqb}

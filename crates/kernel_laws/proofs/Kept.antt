@@ -1,4 +1,6 @@
--- What a turn changes of a process, by the end of its instruction: what it drops, and what drivers keep.
+-- What a turn changes of a process, by the end of its instruction: what it drops, and what drivers keep. A call goes by
+-- the walk `of_call`, refused or served; a denial ends a life or starts one again, and an instruction touches neither.
+-- So each law is a field of one record (`Leaves`).
 use Rattle.std.proofs.Common.{◌≡◌, ◌<◌, length, IfSome, ◌∙◌, ℕ, List, [], true, Option, None, Some, refl, subst}
 use Rattle.std.proofs.Common.{ap, sym}
 use Rattle.tk_base.specs.declared.access.Denial.{Denial}

@@ -1,4 +1,6 @@
--- The run by round robin and its choices, and when it is done.
+-- The run by round robin and its choices, and when it is done. The run of n steps is its n chosen choices made one
+-- after another, by induction on n. It is done exactly where nothing is left: no device can act, no slot is ready and
+-- no time is ahead, each of which is a search of a list that finds none exactly where none passes.
 use Rattle.std.proofs.Common.{◌≡◌, ◌≤◌, ◌<◌, ℕ, zero, suc, ◌+◌, ◌-◌, ◌==◌, Bool, true, false, cond, not, ◌&&◌, nat_le}
 use Rattle.std.proofs.Common.{◌⊎◌, inl, inr, ◌/◌, ◌||◌, ◌↔◌, if◌then◌else◌, is_some}
 use Rattle.std.proofs.Common.{nat_lt, List, [], ◌∷◌, length, map, fold, find, slice_get, slice_index_or, Option, None}

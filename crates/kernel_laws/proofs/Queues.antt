@@ -1,4 +1,6 @@
--- That queues are first come, first served, by what a turn, an answer and an operator's act do to them.
+-- That queues are first come, first served, by what a turn, an answer and an operator's act do to them. A turn asks the
+-- board for one thing at most, or leaves all queues (`MovesOne`), and an answer takes out the one that was answered; so
+-- of each queue one slot joined or left it, or nothing changed. Who is answered is the first.
 use Rattle.std.proofs.Common.{◌≡◌, ◌⊎◌, inl, inr, ℕ, ◌==◌, Bool, true, false, cond, List, [], ◌∷◌, ◌++◌, Option}
 use Rattle.std.proofs.Common.{None, Some, slice_get, unwrap_or, refl, sym, ap, subst, ◌∙◌, arith}
 use Rattle.std.specs.Prelude.{All}

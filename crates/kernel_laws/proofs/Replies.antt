@@ -1,4 +1,6 @@
--- What a call gets stands in the registers of its process, and a refused one changes nothing else of it.
+-- What a call gets stands in the registers of its process, and a refused one changes nothing else of it. By the walk
+-- over calls each form puts one reply into the registers, or has none (`Gets`); its words stand at their places, and
+-- all other registers are as before. That an ECALL tells a call goes by the instruction at pc.
 use Rattle.std.proofs.Common.{◌≡◌, ◌≢◌, ◌⊎◌, inl, inr, ◌<◌, ◌≤◌, ℕ, zero, suc, ◌+◌, ◌%◌, ◌^◌, ◌==◌, Bool, true, false}
 use Rattle.std.proofs.Common.{cond, find, List, [], ◌∷◌, length, Option, None, Some, is_some, option_map, Result, Ok, Err}
 use Rattle.std.proofs.Common.{IfSome, slice_get, refl, sym, ap, subst, ◌∙◌, arith}

@@ -1,4 +1,6 @@
--- What a turn of a process, and an answer to it, leaves of what was scheduled for it, and what it schedules.
+-- What a turn of a process, and an answer to it, leaves of what was scheduled for it, and what it schedules: what
+-- remains is what was scheduled, less what the turn takes or drops (`IsRemainder`), and then comes one value, which the
+-- call or the event tells. By the walk over calls and ends; each answer leaves the inbox until it schedules.
 use Rattle.std.proofs.Common.{◌≡◌, ℕ, suc, ◌+◌, ◌-◌, ◌==◌, ◌&&◌, nat_le, not, Bool, true, false, cond, List, [], ◌∷◌}
 use Rattle.std.proofs.Common.{drop, filter}
 use Rattle.std.proofs.Common.{length, slice_get, Option, None, Some, Result, Ok, Err, refl, sym, ap, ap₂, subst, ◌∙◌}
@@ -215,8 +217,7 @@ one_wait : (driver number : ℕ) (args : List ℕ) → ◌≡◌ {A = Wait} (For
 one_wait driver number args e = cc
 
 -- what remains of what was scheduled: all; all, with something else that is waited for; all but the first, or the first
--- of
--- a driver and a number; all but those of a driver and a number; nothing
+-- of a driver and a number; all but those of a driver and a number; nothing
 pub all_remain : (inbox : Inbox) → IsRemainder inbox inbox
 all_remain inbox = record { dropped = refl; given = λ args e. e; gone = 0; pending = refl }
 

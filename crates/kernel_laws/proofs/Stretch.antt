@@ -1,4 +1,6 @@
--- The round robin in a quiet stretch.
+-- The round robin in a quiet stretch: where a slot has the next turn, and no device step is ready on the way, its next
+-- k instructions are the next k steps of the run. Each such turn leaves the slot present, in its slice, so it is the
+-- next choice again; the stretch goes on from there, by induction on k.
 use Rattle.std.proofs.Common.{◌≡◌, ℕ, zero, suc, ◌+◌, ◌-◌, ◌<◌, ◌≤◌, Bool, true, false, ◌&&◌, ◌==◌, nat_lt, not}
 use Rattle.std.proofs.Common.{map, if◌then◌else◌, List, [], ◌∷◌, length, find, ◌++◌, slice_get, slice_set, Option, None}
 use Rattle.std.proofs.Common.{Some, All, refl, sym, ap, ap₂, subst, ◌∙◌, arith, append_assoc, length-append}

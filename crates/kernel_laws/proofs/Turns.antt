@@ -1,4 +1,6 @@
--- The turns of a run by round robin are turns one after another, whatever comes between them.
+-- The turns of a run by round robin are turns one after another, whatever comes between them: only a turn changes who
+-- is present, and every step leaves as many records and the pace. So the worlds before turns follow from where the run
+-- begins (`Follow`), by induction on its steps, and the scheduler's law speaks of each window of them.
 use Rattle.std.proofs.Common.{◌≡◌, ℕ, zero, suc, ◌≤◌, ◌<◌, Bool, true, false, cond, ◌&&◌, nat_lt, List, [], ◌∷◌, ◌++◌}
 use Rattle.std.proofs.Common.{length, map, filter, slice_get, slice_index_or, Option, None, Some, refl, sym, ap, ap₂}
 use Rattle.std.proofs.Common.{subst, ◌∙◌, arith, not}

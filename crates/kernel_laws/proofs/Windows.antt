@@ -1,4 +1,6 @@
--- With time partitions the next choice is that of the window.
+-- With time partitions the next choice is that of the window. Of flags of one slot alone that slot is next, if its flag
+-- is set; a list by slots is read at that slot; and the nearest of all times and the window's end is the earliest of
+-- the parts. So each part of the world's choice is that of the lane.
 use Rattle.std.proofs.Common.{◌≡◌, ◌≤◌, ◌<◌, ℕ, zero, suc, ◌+◌, ◌-◌, min, Bool, true, false, cond}
 use Rattle.std.proofs.Common.{◌&&◌, nat_le, IsTrue, ◌||◌, if◌then◌else◌, List, [], ◌∷◌, map, find, slice_get}
 use Rattle.std.proofs.Common.{slice_index_or, is_some}

@@ -1,4 +1,6 @@
--- That no request is lost: by the rows of the drivers' tables, and by what each device's answer leaves.
+-- That no request is lost: by the rows of the drivers' tables, and by what each device's answer leaves. What a queue
+-- keeps is a value as in `Arming`, so a turn leaves it, sets it by the command that it tells, or a life ended; an
+-- answer leaves it unless it is of the queue's own device. What an accepted command asks for is then there.
 use Rattle.std.proofs.Common.{◌≡◌, ◌≢◌, inl, inr, ℕ, ◌+◌, ◌==◌, Bool, true, false, cond, nat_le, List, [], ◌∷◌}
 use Rattle.std.proofs.Common.{Option, None, Some, IfSome, unwrap_or, slice_index, refl, sym, ap, ap₂, subst, ◌∙◌}
 use Rattle.std.proofs.Common.{arith, eqb-true}
@@ -316,7 +318,8 @@ requests_are_not_lost of_ecall = record {
   answers = of_each_answer RequestsAreLeft (λ settings event r. leaves settings r event);
 }
 
--- What an accepted command asks for is determined by its arguments, and its number is one that sets the queue's request.
+-- What an accepted command asks for is determined by its arguments, and its number is one that sets the queue's
+-- request.
 is_of : (queue : QueueName) (request : RequestOf queue) (args : List ℕ) → IsAskedBy queue request args
     → (slice_index args 0 ≡ (kind_in queue).driver)
     × (list_any (λ n. n == slice_index args 1) (numbers_of queue) ≡ true)

@@ -1,4 +1,6 @@
--- Which random words the steps tell, and which are left.
+-- Which random words the steps tell, and which are left: lane by lane, those told and then those left are those that
+-- there were. The source draws the next word of the lane that serves, and tells it; by the walk over devices nothing
+-- else draws one, and runs follow by induction on the choices.
 use Rattle.std.proofs.Common.{◌≡◌, ◌≤◌, ℕ, zero, suc, ◌==◌, Bool, true, false, cond, List, [], ◌∷◌, ◌++◌}
 use Rattle.std.proofs.Common.{length, slice_get, slice_index_or, slice_set, IfSome, Option, None, Some, refl, sym, ap}
 use Rattle.std.proofs.Common.{ap₂}

@@ -1,4 +1,7 @@
--- Each access of a turn, and what it is denied for, is of its instruction; and no other label tells any.
+-- Each access of a turn, and what it is denied for, is of its instruction; and no other label tells any. By the state
+-- of the process and the end of its instruction: a turn lists its instruction's accesses, or none, and a denial is the
+-- instruction's or that of a call of an unknown class. So the laws of instructions become laws of labels
+-- (`step_labels`).
 use Rattle.std.proofs.Common.{◌≡◌, inl, inr, sym, ap, ◌∙◌, arith, ℕ, zero, suc, ◌<◌, ◌==◌, List, [], find}
 use Rattle.std.proofs.Common.{slice_get, Option, None, Some, refl}
 use Rattle.std.specs.Prelude.{All, IfSome}

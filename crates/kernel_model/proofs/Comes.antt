@@ -1,5 +1,6 @@
 -- What every call comes to, by cases on the call: it is refused, and changes nothing but the reply registers, pc and
--- the recorded refusal; or it is served.
+-- the recorded refusal; or it is served, which is one record (`IsServed`). A law over calls gives these two cases
+-- (`OfBoth`), and `of_call` is the walk over all forms of a call.
 use Rattle.std.proofs.Common.{◌≡◌, ◌≢◌, ◌<◌, length, ℕ, ◌-◌, ◌==◌, Bool, true, false, cond, [], slice_set}
 use Rattle.std.proofs.Common.{slice_get, Option, None, Some, Result, Ok, Err, refl, ap, sym, subst, ◌∙◌, arith}
 use Rattle.tk_base.specs.declared.call.CallRule.{CallRule}

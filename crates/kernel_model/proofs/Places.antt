@@ -1,4 +1,6 @@
--- What a step leaves at each place of the records.
+-- What a step leaves at each place of the records: a turn changes that of its slot, and all others are as they were
+-- (`ran-own`, `ran-other`). Here stand the first case splits of every walk: a step is made or not (`of_stepped`), a
+-- turn is had or not (`of_turned`), and a world after a step is that of a turn, of a deed or of a pass (`of_world`).
 use Rattle.std.proofs.Common.{◌≡◌, ◌≢◌, ℕ, zero, suc, ◌<◌, Bool, true, false, cond, List, [], ◌∷◌}
 use Rattle.std.proofs.Common.{length, slice_get, slice_set, Option, None, Some, refl, ap, ◌∙◌, ◌&&◌, not, nat_lt}
 use Rattle.std.specs.Option.{option_map}

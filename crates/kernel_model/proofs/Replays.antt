@@ -1,4 +1,6 @@
--- A record after any choices, by the choices one after another.
+-- A record after any choices is the replay of what the labels tell of it, by induction on the choices. In one step a
+-- turn changes the record of its slot alone, and a device's step each record by what it tells that slot; labels of
+-- other slots count nothing.
 use Rattle.std.proofs.Common.{◌≡◌, ◌≢◌, ℕ, zero, suc, ◌==◌, Bool, true, false, cond, List, [], ◌∷◌, ◌++◌}
 use Rattle.std.proofs.Common.{slice_get, Option, None, Some, refl, sym, ap, subst, ◌∙◌, arith, eq-eqb, eqb-true}
 use Rattle.std.specs.List.{flat_map}

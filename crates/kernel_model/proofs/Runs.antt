@@ -1,4 +1,6 @@
--- The next choice of the round robin is ready.
+-- The next choice of the round robin is ready: a device step since it is the first that is, a slot since the scheduler
+-- names only one whose flag is set, and a pass since it leads to a time ahead. The last holds where no device step is
+-- ready, as each time at which one becomes so lies ahead then.
 use Rattle.std.proofs.Common.{◌≡◌, ℕ, zero, suc, ◌+◌, ◌-◌, ◌<◌, Bool, true, false, cond, ◌&&◌, nat_le, nat_lt, List, []}
 use Rattle.std.proofs.Common.{length, ◌∷◌, ◌*◌, ◌/◌, if◌then◌else◌, slice_set, map, find, slice_get, slice_index_or}
 use Rattle.std.proofs.Common.{Option, None, Some, is_some, IfSome, IsTrue, ◌==◌, refl, sym, ap, subst, ◌∙◌, arith}

@@ -1,4 +1,6 @@
--- What a step does to the process in a slot: nothing, its turn, or what a device tells it.
+-- What a step does to the process in a slot: nothing, its turn, or what a device tells it. `of_answers` is the walk
+-- over all that devices answer, `of_operated` over an operator's verbs, and `of_step` over the whole step: it reads off
+-- the labels what was told of the slot, since labels of other slots count nothing.
 use Rattle.std.proofs.Common.{◌≡◌, ◌≢◌, ℕ, ◌==◌, ◌&&◌, ◌||◌, Bool, true, false, cond, List, [], ◌∷◌, ◌++◌, slice_get}
 use Rattle.std.proofs.Common.{Option, None, Some, IfSome, refl, sym, ap, subst, ◌∙◌, eqb-true, eq-eqb}
 use Rattle.std.specs.List.{flat_map, list_any}

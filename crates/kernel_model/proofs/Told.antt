@@ -1,5 +1,6 @@
 -- What a device's step leaves and tells, slot by slot: nothing but its devices where it tells nobody anything, one
 -- record and its labels where it answers one process, and each record by itself where it tells of an edge of a button.
+-- By induction on the records; `of_device` is the walk over devices that this gives (`OfEachDevice`).
 use Rattle.std.proofs.Common.{◌≡◌, ◌≢◌, inl, inr, ◌≤◌, ℕ, zero, suc, ◌+◌, ◌==◌, Bool, true, false, cond, List, []}
 use Rattle.std.proofs.Common.{◌∷◌, ◌++◌}
 use Rattle.std.proofs.Common.{length, map, slice_get, slice_set, Option, None, Some, refl, sym, ap, ap₂, subst, ◌∙◌}

@@ -1,5 +1,6 @@
 -- What is done to the devices does the same to a slot's lane of any two that are alike in it; and what is done for
--- another slot leaves the lane as it was.
+-- another slot leaves the lane as it was. Of queues a lane has only whether the slot stands in one, which a change of a
+-- queue decides by its slot (`begins`, `ends`); acts and answers are such changes, one after another.
 use Rattle.std.proofs.Common.{◌≡◌, ◌≢◌, ℕ, zero, suc, ◌==◌, ◌∷◌, ◌++◌, Bool, true, false, not, cond, List, [], filter}
 use Rattle.std.proofs.Common.{slice_get, slice_index_or, slice_set, Option, Some, option_map, unwrap_or, refl, sym, ap}
 use Rattle.std.proofs.Common.{◌∙◌, arith, eq-eqb, eqb-true}

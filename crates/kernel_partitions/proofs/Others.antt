@@ -1,4 +1,6 @@
--- What is done for another slot leaves a slot's own as it was, and tells nothing of it.
+-- What is done for another slot leaves a slot's own as it was, and tells nothing of it: a turn of it takes a tick, and
+-- a device that serves it alone, or nobody, takes none. The deed changes the other's record and lane (`Lanes`), and
+-- tells that slot alone.
 use Rattle.std.proofs.Common.{◌≡◌, ◌≢◌, ℕ, ◌+◌, ◌==◌, ◌∷◌, Bool, true, false, cond, List, [], slice_get, slice_set}
 use Rattle.std.proofs.Common.{Option, None, Some, refl, sym, ap, subst, ◌∙◌, eqb-true}
 use Rattle.std.specs.Option.{option_and_then, option_map}

@@ -1,5 +1,6 @@
 -- Each step of a run with time partitions is, for one slot, so many steps of it by itself: one of its own, or ticks
--- without one. So a run is so many of them, and what is told of the slot up to a time depends on the slot alone.
+-- without one. That is shown by what the choice reads of the window (`next_by`); so a run is so many of them, by
+-- induction on its steps, and what is told of the slot up to a time depends on the slot alone.
 use Rattle.std.proofs.Common.{◌≡◌, ◌≤◌, ℕ, zero, suc, ◌+◌, ◌-◌, ◌==◌, if◌then◌else◌, ◌∷◌, ◌++◌, Bool, true, false, List}
 use Rattle.std.proofs.Common.{[], slice_get, Option, None, Some, refl, sym, ap, ap₂, subst, ◌∙◌, append-nil, eqb-true}
 use Rattle.std.proofs.Common.{eq-eqb}

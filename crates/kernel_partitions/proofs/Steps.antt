@@ -1,5 +1,6 @@
 -- In two worlds that are alike in a slot, its own steps lead to worlds that are alike in it, and tell the same of it:
--- its turn, a device's step in its window, and what comes in.
+-- its turn, a device's step in its window, and what comes in. Each deed is a function of the slot's record and lane
+-- (`ServeAlike`), which are the same in both; so each device is one case.
 use Rattle.std.proofs.Common.{◌≡◌, ◌≢◌, ℕ, ◌==◌, ◌∷◌, ◌+◌, if◌then◌else◌, Bool, true, false, cond, List, [], filter}
 use Rattle.std.proofs.Common.{length, slice_get, slice_index_or, Option, None, Some, refl, sym, ap, ap₂, ◌∙◌, eqb-true}
 use Rattle.std.proofs.Common.{◌*◌, not, subst}

@@ -1,4 +1,6 @@
--- In a window of its own a slot that is ready has a turn in each tick.
+-- In a window of its own a slot that is ready has a turn in each tick. The next step there is its turn, which takes a
+-- tick, or a device's step, which takes none (`OneTick`); so up to the window's end the turns told are the ticks
+-- passed, by induction on the steps of the run.
 use Rattle.std.proofs.Common.{◌≡◌, ◌≤◌, ◌<◌, ℕ, zero, suc, ◌*◌, ◌/◌, ◌%◌, ◌+◌, ◌-◌, ◌==◌, ◌∷◌, ◌++◌, div-add-mod', Bool}
 use Rattle.std.proofs.Common.{true, false, cond, nat_lt, List, [], filter, length, slice_get, IfSome, Option, None}
 use Rattle.std.proofs.Common.{Some, refl, sym, ap, ap₂, subst, ◌∙◌, arith, eq-eqb, length-append}

@@ -1,4 +1,6 @@
--- The next choice reads the slot whose window it is, and no other; and what it passes over.
+-- The next choice reads the slot whose window it is, and no other; and what it passes over. The list by slots is read
+-- at that slot (`at_slot`), so the choice is one by what is ready for it (`chosen_by`). A pass ends before anything of
+-- it becomes ready, so each tick on the way is one without a step of its own.
 use Rattle.std.proofs.Common.{◌≡◌, ◌≤◌, ◌<◌, ℕ, zero, suc, ◌+◌, ◌-◌, ◌^◌, ◌%◌, ◌&&◌, if◌then◌else◌, ◌∷◌, ◌/◌, Bool}
 use Rattle.std.proofs.Common.{true, false, List, [], map, nat_le, slice_get, slice_index_or, IfSome, Option, None, Some}
 use Rattle.std.proofs.Common.{is_some, refl, sym, ap, ap₂, subst, ◌∙◌, arith, eqb-true}

@@ -1,3 +1,6 @@
+-- What a step makes of a slot's record is what it tells that slot, by the choice: a turn tells its own slot alone
+-- (`ran-own`, `ran-other`), a device's step each slot what its deed says of it (`told_at`), and a pass nobody anything.
+-- A step that is not ready leaves all.
 use Rattle.std.proofs.Common.{◌≡◌, ℕ, ◌==◌, Bool, true, false, cond, [], Option, None, Some, slice_get, refl, sym, ap}
 use Rattle.std.proofs.Common.{◌∙◌}
 use Rattle.std.proofs.Common.{subst, eqb-true, eq-eqb, option_and_then}
