@@ -1,4 +1,6 @@
--- What an instruction over the whole of RAM leaves of what contracts see.
+-- What an instruction over the whole of RAM leaves of what contracts see. Under registers that protect the process its
+-- store lies in accessible RAM, so it changes this own's bytes alone, and its turn is the one that the own's bytes give
+-- (`Sight`); the seat is one as before, and all other slots are as they were (`Moves`).
 use Rattle.std.proofs.Common.{◌≡◌, ℕ, ◌+◌, ◌-◌, ◌≤◌, inr, IsTrue, List, length, IfSome, Option, None, Some, refl, sym}
 use Rattle.std.proofs.Common.{ap, ap₂, subst, ◌∙◌, arith}
 use Rattle.std.specs.Prelude.{slice_range}

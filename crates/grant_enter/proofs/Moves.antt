@@ -1,4 +1,6 @@
--- What a change of one seat, or of the RAM in its block, makes of what contracts see.
+-- What a change of one seat, or of the RAM in its block, makes of what contracts see: the list of owns with one place
+-- set. Blocks lie apart, so RAM that is the same outside of one block has the same windows for every other slot
+-- (`Reseats`); the home is a home again, and a relation of the own holds of what contracts see.
 use Rattle.std.proofs.Common.{◌≡◌, ◌≢◌, ℕ, ◌+◌, ◌-◌, ◌^◌, ◌<◌, ◌≤◌, ◌⊎◌, inl, inr, true}
 use Rattle.std.proofs.Common.{not, slice_get, List, [], length, get_or, refl, sym, ap, ap₂, subst, ◌∙◌, arith}
 use Rattle.std.specs.Prelude.{nat_lt, slice_index_or, slice_set, All}

@@ -1,4 +1,6 @@
--- What a process reaches of flash and RAM under its registers is what its own bytes tell.
+-- What a process reaches of flash and RAM under its registers is what its own bytes tell. Whatever the registers permit
+-- lies in its flash or its accessible RAM, where a byte of memory is the own's byte at that address; so each number
+-- that is read is the same, and by the law `sees_only_permitted` the two turns are one.
 use Rattle.std.proofs.Common.{◌≡◌, ℕ, ◌+◌, ◌-◌, ◌*◌, ◌<◌, ◌≤◌, ◌⊎◌, inl, inr, Bool, true, false, cond, if◌then◌else◌}
 use Rattle.std.proofs.Common.{IsTrue, List, length, slice_index, Option, None, Some, refl, sym, ap, ◌∙◌, arith}
 use Rattle.std.proofs.lemmas.Bool.Decides.{nat_tests}

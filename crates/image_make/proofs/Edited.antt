@@ -1,4 +1,6 @@
--- What an edit of one object leaves of an image.
+-- What an edit of one object leaves of an image: all bytes but those that the edit changes, and the same objects with
+-- one other reading. An edit makes an object of the same size (`Makes`), so the walk of an image in which one object
+-- gets other bytes applies (`Walked`), and its header is read by `Readings` or `Renames`.
 use Rattle.std.proofs.Common.{◌≡◌, ℕ, ◌+◌, ◌-◌, ◌<◌, ◌≤◌, ◌==◌, Bool, true, false, cond, ◌⊎◌, inl, inr, List, map}
 use Rattle.std.proofs.Common.{length, drop, slice_index, Option, Some, None, option_and_then, Result, Ok, refl, sym, ap}
 use Rattle.std.proofs.Common.{◌≢◌, ◌/◌, ◌%◌, [], ◌∷◌, is_some}

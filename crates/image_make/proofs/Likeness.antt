@@ -1,4 +1,6 @@
--- Lists of bytes that are alike but for a range of places.
+-- Lists of bytes that are alike but for a range of places: what is read before the range or behind it is the same.
+-- Likeness joins and widens, and a number that is put changes its own bytes alone and is read back as it was put, so an
+-- edit is made of likenesses, one for each number that it puts.
 use Rattle.std.proofs.Common.{◌≡◌, ℕ, ◌+◌, ◌-◌, ◌*◌, ◌/◌, ◌%◌, ◌<◌, ◌≤◌, nat_lt, nat_le, ◌&&◌, min, cond, ◌⊎◌, inl, inr}
 use Rattle.std.proofs.Common.{List, length, take, drop, slice_index, slice_range, refl, sym, ap, ◌∙◌, arith}
 use Rattle.std.proofs.lemmas.Bool.Decides.{nat_tests}

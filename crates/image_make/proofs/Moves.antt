@@ -1,4 +1,6 @@
--- The walk over files that are packed one after another.
+-- The walk over files that are packed one after another: first the objects of the image, and then those of the file,
+-- moved. Bytes at a distance are those of the file (`IsPart`), so sizes, versions and verdicts are the same but for the
+-- link; both walks are inductions on the number of objects (`from_part`, `from_front`).
 use Rattle.std.proofs.Common.{◌≡◌, ℕ, zero, suc, ◌+◌, ◌-◌, ◌%◌, ◌<◌, ◌≤◌, ◌==◌, nat_lt, nat_le, ◌||◌, Bool, true, false}
 use Rattle.std.proofs.Common.{cond, inl, inr, List, [], ◌∷◌, ◌++◌, map, length, drop, slice_index, Option, Some, None}
 use Rattle.std.proofs.Common.{Ok, Err, min, refl, sym, ap, ◌∙◌, subst, arith}

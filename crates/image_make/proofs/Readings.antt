@@ -1,4 +1,6 @@
--- What edits of a header leave of its reading.
+-- What edits of a header leave of its reading. A header's reading is split into all but the checksum (`IsWell`) and the
+-- checksum (`IsSound`); an edit of the flags touches neither sizes nor elements, and once the checksum is mended the
+-- header is sound, and means what it meant but for the edit.
 use Rattle.std.proofs.Common.{◌≡◌, ℕ, zero, suc, ◌+◌, ◌*◌, ◌/◌, ◌%◌, ◌<◌, ◌≤◌, ◌==◌, nat_lt, ◌||◌, not, Bool, true}
 use Rattle.std.proofs.Common.{false, cond, inl, inr, List, length, take, slice_index, Option, Some, None, option_map}
 use Rattle.std.proofs.Common.{Result, Ok, Err, refl, sym, ap, ◌∙◌, subst, arith}

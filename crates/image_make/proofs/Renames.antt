@@ -1,4 +1,6 @@
--- What another package name of the same rounded length leaves of a header's elements.
+-- What another package name of the same rounded length leaves of a header's elements: each begins where it did, with
+-- the same type, and all but the name have the same content. By induction on the places: before the name nothing
+-- changed, at the name the length rounds to the same, and behind it all is as before (`Kept`).
 use Rattle.std.proofs.Common.{◌≡◌, ℕ, zero, suc, ◌+◌, ◌-◌, ◌*◌, ◌%◌, ◌<◌, ◌≤◌, ◌==◌, nat_lt, ◌&&◌, ◌||◌, not, Bool}
 use Rattle.std.proofs.Common.{true, false, cond, ◌⊎◌, inl, inr, List, ◌∷◌, ◌++◌, length, take, drop, replicate}
 use Rattle.std.proofs.Common.{slice_index, slice_range, Option, Some, None, option_map, Ok, refl, sym, ap, ◌∙◌, subst}

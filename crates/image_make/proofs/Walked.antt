@@ -1,4 +1,6 @@
--- The walk over an image in which one object gets other bytes.
+-- The walk over an image in which one object gets other bytes: it finds the same objects, and at that place the new
+-- bytes. By induction on the walk, read as 'the object is the one here, or one behind it': before the object and behind
+-- it the image is the same (`IsLike`), and the object's size and version stay, so the walk goes on.
 use Rattle.std.proofs.Common.{◌≡◌, ℕ, zero, suc, ◌+◌, ◌-◌, ◌%◌, ◌<◌, ◌≤◌, ◌==◌, nat_lt, ◌||◌, not, Bool, true, false}
 use Rattle.std.proofs.Common.{cond, ◌⊎◌, inl, inr, List, [], ◌∷◌, ◌++◌, map, length, take, drop, slice_index, Option}
 use Rattle.std.proofs.Common.{Some, None, refl, sym, ap, ◌∙◌, subst, arith}

@@ -1,4 +1,6 @@
--- The words of the instructions are decoded to what they mean: by the fields of each format.
+-- The words of the instructions are decoded to what they mean: by the fields of each format. A word is a sum of its
+-- fields at their places, each below its limit, so what all formats share is read back from it once (`HasFields`); then
+-- the row of the decoder's table computes. Offsets that stand in parts are put together again.
 use Rattle.std.proofs.Common.{◌≡◌, ℕ, ◌+◌, ◌*◌, ◌/◌, ◌%◌, ◌^◌, ◌<◌, Some, refl, ap, ap₂, subst, ◌∙◌}
 use Rattle.std.proofs.Common.{arith}
 use Rattle.tk_base.specs.declared.access.Width.TheVariants as widths

@@ -1,4 +1,7 @@
--- A block that is lent in its two parts, and what is left of it.
+-- A block that is lent in its two parts, and what is left of it. The parts are the block cut at the kernel break, so
+-- what is put back is the two joined (`with_run`), and RAM outside of the block is as it was. A contract over the
+-- parts, as of a grant's room or of a swap, becomes one over memory (`regrants_in`, `swaps_in`), with the layout that
+-- it leaves.
 use Rattle.std.proofs.Common.{◌≡◌, ℕ, ◌+◌, ◌-◌, ◌≤◌, List, ◌++◌, length, take, drop, Option, None, Some}
 use Rattle.std.specs.Prelude.{OnOk}
 use Rattle.std.proofs.Common.{Result, Ok, Err, IfOk, refl, sym, ap, subst, ◌∙◌, rules, arith}

@@ -1,4 +1,6 @@
--- The buffers that a driver was allowed, in the memory that is lent.
+-- The buffers that a driver was allowed, in the memory that is lent: each lies where it may (`Holds` of its grant,
+-- found by induction on the grants), so one that may be written lies below the mark, in RAM, and its bytes are a window
+-- of memory; one that may only be read lies there or in flash.
 use Rattle.std.proofs.Common.{◌≡◌, ℕ, zero, suc, ◌+◌, ◌-◌, ◌<◌, ◌≤◌, ◌^◌, ◌==◌, ◌||◌, IsTrue, Bool, true, false, cond}
 use Rattle.std.proofs.Common.{List, [], ◌∷◌, length, map, take, drop, Option, None, Some, refl, sym, ap, subst, ◌∙◌}
 use Rattle.std.proofs.Common.{rules, arith}

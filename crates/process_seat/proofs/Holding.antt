@@ -1,4 +1,6 @@
--- The buffers of grants lie where they may, also once others were handed.
+-- The buffers of grants lie where they may, also once others were handed. To hand a pair changes the mark alone, which
+-- never falls and stays at or below the break; what lay below it lies below it still, and the pair handed is covered by
+-- it. So it is with all grants, by induction on their list, as a driver is entered or a pair is put.
 use Rattle.std.proofs.Common.{◌≡◌, ◌⊎◌, inl, inr, ℕ, ◌+◌, ◌≤◌, ◌<◌, ◌==◌, ◌||◌, nat_le, IsTrue, Bool, true, false, cond}
 use Rattle.std.proofs.Common.{List, [], ◌∷◌, Option, None, Some, refl, sym, subst, arith, eqb-true}
 use Rattle.std.specs.Prelude.{max}

@@ -1,4 +1,6 @@
--- A value that a driver keeps of a process.
+-- A value that a driver keeps of a process. Its words stand at a place of the driver's area, so other words put there,
+-- as many, change the kernel's part alone, and the grants read from it are the same with that value. It stands there
+-- still after a visitor was run, since visitors leave the kernel's part.
 use Rattle.std.proofs.Common.{◌≡◌, ℕ, ◌+◌, ◌-◌, ◌*◌, ◌/◌, ◌≤◌, inl, List, length, take, drop, Some, refl, sym, ap, ap₂}
 use Rattle.std.proofs.Common.{subst, ◌∙◌, arith}
 use Rattle.std.specs.Prelude.{option_map}

@@ -1,4 +1,6 @@
--- A seat whose process was started again.
+-- A seat whose process was started again: its block is zeroed where it lies, so it has no grants and the kernel break
+-- is the block's end; the layout is in order with the new break, and what is its own is the definition's
+-- (`own_restarted`). All RAM outside of the block is as it was (`Reseats`).
 use Rattle.std.proofs.Common.{◌≡◌, ℕ, ◌+◌, ◌-◌, ◌%◌, ◌≤◌, true, List, [], length, refl, sym, ap, ap₂, subst, ◌∙◌, arith}
 use Rattle.std.specs.Prelude.{slice_range}
 use Rattle.std.specs.List.{AllByRecursion}

@@ -1,4 +1,6 @@
--- What a driver has changed of a process in its seat, and what it has left.
+-- What a driver has changed of a process in its seat, and what it has left. It changed bytes in the buffers alone that
+-- it may write (`ServesIn`), all of which lie below the mark; so the kernel's part, the grants and the layout stay, the
+-- seat is one as before, and it may be served once more (`serving_on`).
 use Rattle.std.proofs.Common.{get_or, ◌≡◌, ℕ, zero, suc, ◌+◌, ◌-◌, ◌<◌, ◌≤◌, ◌⊎◌, inl, inr, ◌==◌, Bool, true, false}
 use Rattle.std.proofs.Common.{List, []}
 use Rattle.std.proofs.Common.{◌∷◌, ◌++◌, length, slice_index, Option, None, Some, refl, sym, ap, subst, ◌∙◌, arith}

@@ -1,4 +1,6 @@
--- Bytes that a driver wrote into a buffer of a process.
+-- Bytes that a driver wrote into a buffer of a process: a window of RAM was written over, which is the own's bytes
+-- written over at the buffer (`over_within`), and nothing outside of it changed. The buffer may be written, so it lies
+-- below the mark; one without bytes changes nothing. This file alone cuts RAM at a buffer.
 use Rattle.std.proofs.Common.{◌≡◌, ℕ, ◌+◌, ◌-◌, ◌<◌, ◌≤◌, ◌⊎◌, inl, inr, ◌==◌, Bool, IsTrue, true, false, cond, List}
 use Rattle.std.proofs.Common.{[], ◌∷◌, ◌++◌, length, take, drop, Option, None, Some, refl, sym, ap, subst, ◌∙◌}
 use Rattle.std.proofs.Common.{rules, arith}

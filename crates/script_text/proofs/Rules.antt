@@ -1,4 +1,6 @@
--- The first rule that a line breaks, from what was found of it.
+-- The first rule that a line breaks, from what was found of it. The rules are tests in their order (`first_of`), so the
+-- first one that holds decides: those that look at a line alone come first (`bad_alone`), and where none of them holds
+-- the line is one of the table (`IsLine`), and the last three look at those before it (`last_of`).
 use Rattle.std.proofs.Common.{◌≡◌, ◌==◌, ◌&&◌, ℕ, Bool, true, false, cond, not, List, ◌∷◌, slice_index, Option, Some}
 use Rattle.std.proofs.Common.{None, refl, sym, ap, ◌∙◌}
 use Rattle.std.specs.Option.{option_map_or}

@@ -1,4 +1,6 @@
--- What one more line says.
+-- What one more line says. Settings are a function of lists of lines by name (`assembled`), and a line more makes the
+-- list of its own name one longer, and no other; so for each line of the table the settings compute. Where a list had
+-- no line its first is the new one; lines that share a name share a list.
 use Rattle.std.proofs.Common.{◌≡◌, ◌==◌, ◌&&◌, nat_lt, ℕ, Bool, true, false, cond, List, [], ◌∷◌, ◌++◌, map, length}
 use Rattle.std.proofs.Common.{filter, flat_map, find, slice_index, slice_index_or, Option, Some, refl, sym, ap, subst}
 use Rattle.std.proofs.Common.{◌∙◌, arith, length-append}

@@ -1,4 +1,6 @@
--- Settings stay in their ranges, and lists in their order.
+-- Settings stay in their ranges, and lists in their order: by the line that comes, one case for each line of the table
+-- (`sound_with`). A line that breaks no rule of range has its number in range; a line that breaks no rule of order lies
+-- behind the last one of its list, so what holds of neighbours holds with one more.
 use Rattle.std.proofs.Common.{◌≡◌, ◌≤◌, ◌<◌, ◌+◌, ◌-◌, ◌/◌, ◌||◌, not, nat_lt, nat_le, ℕ, Bool, true, false, cond, List}
 use Rattle.std.proofs.Common.{[], ◌∷◌, ◌++◌, map, length, find, drop, slice_index, slice_index_or, Option, Some, None}
 use Rattle.std.proofs.Common.{◌&&◌, is_none, position, is_some, inl, inr, refl, sym, ap, subst, ◌∙◌, arith}

@@ -1,4 +1,6 @@
--- How the first line and the first word are cut off.
+-- How the first line and the first word are cut off: lines and words are the pieces between separators, so the first
+-- ends at the first separator that is found, or is the last one. Blanks in front are passed by induction on the text.
+-- These are what the loops over lines and words cite (`first_lines`, `first_words`).
 use Rattle.std.proofs.Common.{◌≡◌, ◌≢◌, ◌+◌, ◌<◌, nat_lt, ℕ, zero, suc, Bool, true, false, cond, not, List, [], ◌∷◌}
 use Rattle.std.proofs.Common.{map, filter, length, take, drop, get_or, refl, sym, ap, ◌∙◌, add-zero, subst, arith, Some}
 use Rattle.std.proofs.Common.{None, position}

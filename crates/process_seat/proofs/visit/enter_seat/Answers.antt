@@ -1,3 +1,6 @@
+-- A driver is entered, and its value visited: room was made for its grant (`make_room_in`), which leaves a seat with
+-- the definition's own (`own_entering`), and the visit goes on from that seat. The two changes of the seat join; where
+-- there is no room, nothing was made.
 use Rattle.std.proofs.Common.{◌≡◌, ℕ, List, sym, ap₂, subst, ◌∙◌}
 use Rattle.process_layout.specs.LayoutView.{LayoutView}
 use Rattle.board_memory.specs.Memory.{MemoryBytes}

@@ -1,3 +1,6 @@
+-- A visitor is run on a value that stands at a place. What was read there is the value in the grant (`IsValue`), the
+-- visitor is run on it and on what is lent, and what it leaves is put at the same place; `Keeping` makes the own and
+-- the seat of these two steps.
 use Rattle.std.proofs.Common.{◌≡◌, ℕ, List, length, take, drop, sym, ap, subst, ◌∙◌, arith}
 use Rattle.grant_values.specs.Values.{value_by, value_told}
 use Rattle.grant_values.specs.Words.{words_of}

@@ -1,3 +1,6 @@
+-- A grant is entered: an id whose process is not there is stale, and nothing has changed. Else the seat of its slot is
+-- read (`Reads`), its process lives in that life, and what `enter_seat` promised of the seat is carried to what
+-- contracts see by `Moves`.
 use Rattle.std.proofs.Common.{◌≡◌, true, ℕ, List, not, refl, sym, ap, subst, ◌∙◌}
 use Rattle.process_model.specs.Own.{Own}
 use Rattle.grant_enter.specs.Homes.{own_of}
