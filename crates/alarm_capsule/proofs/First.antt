@@ -1,4 +1,6 @@
--- A slot below which each kept time lies behind the nearest.
+-- A slot below which each kept time lies behind the nearest, as the loop over slots finds it: it keeps the nearest time
+-- so far and the first slot that has it (`FindsNearest`), and one slot more is nearer, or is not. So where the nearest
+-- has just come none below that slot is due, and the search may begin there.
 use Rattle.std.proofs.Common.{◌≡◌, ◌≢◌, ℕ, zero, suc, ◌+◌, ◌-◌, ◌<◌, ◌≤◌, ◌==◌, Bool, true, false, List, find, fold}
 use Rattle.std.proofs.Common.{length}
 use Rattle.std.proofs.Common.{slice_index_or, slice_set, nat_lt, Option, None, Some, refl, sym, ap, subst, ◌∙◌}

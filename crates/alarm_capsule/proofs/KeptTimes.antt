@@ -1,4 +1,6 @@
--- Kept times, as they are looked for, as time passes, and as processes change.
+-- Kept times, as they are looked for, as time passes, and as processes change: each tells when the alarm of its slot
+-- becomes due (`TellsAlarm`). As time passes fewer ticks are left by as many, so the time stays; a change of one slot
+-- leaves what is told of all others, and to look at that slot again makes it all.
 use Rattle.std.proofs.Common.{◌≡◌, ◌≢◌, ℕ, zero, suc, ◌+◌, ◌-◌, ◌%◌, ◌^◌, ◌<◌, ◌≤◌, ◌==◌, Bool, true, false, cond, List}
 use Rattle.std.proofs.Common.{[], ◌∷◌}
 use Rattle.std.proofs.Common.{length, replicate, slice_get, slice_set, slice_index_or, option_and_then, option_map}

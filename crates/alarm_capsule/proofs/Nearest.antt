@@ -1,4 +1,6 @@
--- What the nearest of the kept times says of the next alarm.
+-- What the nearest of the kept times says of the next alarm: as long as it lies ahead, the ticks up to it are those
+-- that are left of all alarms, and none is due. Both are folds over the slots that keep the nearer of two, equal by
+-- induction; all lie less than 2^32 ticks ahead, so the clock reckons them alike.
 use Rattle.std.proofs.Common.{◌≡◌, ◌≢◌, ℕ, zero, suc, ◌+◌, ◌-◌, ◌^◌, ◌<◌, ◌≤◌, ◌==◌, List, [], ◌∷◌, fold}
 use Rattle.std.proofs.Common.{slice_get, slice_index_or, slice_set, length}
 use Rattle.std.proofs.Common.{replicate, Bool, true, false, cond, IsTrue, Option, None, Some, refl}

@@ -1,4 +1,6 @@
--- What holds of all places, and one step of placing.
+-- What holds of all places, and one step of placing. An application's place begins at or above the end of what is
+-- filled (`Follows`), and what is filled then ends no lower (`FilledMore`); so by induction on the applications each
+-- block lies in RAM, before all later ones, and the slots are taken in order, no more than there are.
 use Rattle.std.proofs.Common.{◌≡◌, ℕ, zero, suc, ◌+◌, ◌%◌, ◌<◌, ◌≤◌, Bool, true, false, nat_lt, nat_le, cond, List, []}
 use Rattle.std.proofs.Common.{◌∷◌, length, Option, Some, None, Result, Ok, Err, IfOk, All, AllPairs, take, get_or}
 use Rattle.std.proofs.Common.{is_ok, option_map, refl, sym, ap, ◌∙◌, subst, arith}

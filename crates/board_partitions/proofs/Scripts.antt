@@ -1,5 +1,6 @@
 -- A script is read line by line; and none of its lines lets an operator act where an earlier one divides time, nor does
--- one divide time where an earlier one is an event.
+-- one divide time where an earlier one is an event: the first is unknown there, and the second stands out of order. So
+-- it is kept by each line that breaks no rule, one case for each line of the table, and by induction on the lines.
 use Rattle.std.proofs.Common.{◌≡◌, ◌≤◌, ℕ, suc, ◌+◌, ◌-◌, ◌&&◌, ◌∷◌, ◌++◌, nat_lt, not, Bool, true, false, cond, List}
 use Rattle.std.proofs.Common.{[], drop, filter_map, length, take, Option, None, Some, option_map, Ok, refl, sym, ap}
 use Rattle.std.proofs.Common.{subst, ◌∙◌, arith}

@@ -1,4 +1,6 @@
--- Who waits after an answer.
+-- Who waits after an answer: its request is gone where it completed, or another one is put in its place, and no other
+-- queue notices. What is asked for is read of the grants (`asked`), so each answer is one of a few forms: a request
+-- put, none put, nothing changed (`moves_one`); an upcall that it schedules changes no request.
 use Rattle.std.proofs.Common.{◌≤◌, ◌&&◌, IfSome, ◌≡◌, ℕ, ◌+◌, ◌-◌, ◌==◌, nat_le, Bool, true, false, cond, List, []}
 use Rattle.std.proofs.Common.{◌∷◌, length, Option}
 use Rattle.std.proofs.Common.{None, Some, is_some, is_none, option_map, unwrap_or, refl, ap, sym, ◌∙◌, subst}

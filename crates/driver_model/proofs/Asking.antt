@@ -1,4 +1,6 @@
--- What the commands to each driver ask of the board, by the rows of its table.
+-- What the commands to each driver ask of the board, by the rows of its table: each row's acts are one of the few lists
+-- of its driver (`OneOf`), and a request that is made asks to wait in its own queue, or for nothing. Alarm and buttons
+-- ask for nothing at all.
 use Rattle.std.proofs.Common.{◌≡◌, inl, inr, ℕ, ◌==◌, ◌+◌, nat_le, nat_lt, Bool, true, false, cond, List, [], ◌∷◌}
 use Rattle.std.proofs.Common.{Option, None, Some, refl}
 use Rattle.grant_values.specs.declared.alarm.Armed.{Armed}

@@ -1,4 +1,6 @@
--- The bytes of a process's own after commands and answers.
+-- The bytes of a process's own after commands and answers: they change inside the buffer that the driver may write, and
+-- nowhere else. Values kept, requests and upcalls leave all bytes, as the kernel break stays; so what is left is the
+-- one write of each, by the law `only_writes_change_bytes`, which needs that the own is whole.
 use Rattle.std.proofs.Common.{◌≡◌, ◌⊎◌, inl, inr, ℕ, ◌+◌, ◌-◌, ◌<◌, Bool, true, false, cond, nat_le, List, [], ◌∷◌}
 use Rattle.std.proofs.Common.{length, Option, None, Some, refl, ap, sym, subst}
 use Rattle.std.specs.Prelude.{min, slice_range}

@@ -1,4 +1,6 @@
--- The ticks that are left of alarms.
+-- The ticks that are left of alarms: none are left of the next one exactly where an alarm is due, and as time passes
+-- fewer are left by as many. For one alarm it is arithmetic on a clock of 32 bits; for all slots it is an induction on
+-- the fold that keeps the nearest, beside the search for one that is due.
 use Rattle.std.proofs.Common.{◌≡◌, ◌<◌, ◌≤◌, ℕ, ◌+◌, ◌-◌, ◌%◌, ◌^◌, ◌==◌, min, nat_le, Bool, true, false, cond, ◌||◌}
 use Rattle.std.proofs.Common.{List, [], ◌∷◌, find, fold, slice_get, is_some, IfSome, option_and_then, option_map}
 use Rattle.std.proofs.Common.{Option, None}

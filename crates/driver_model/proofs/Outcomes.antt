@@ -1,4 +1,6 @@
--- Whatever may come of a command to any driver: the one walk over the tables of all of them.
+-- Whatever may come of a command to any driver: the one walk over the tables of all of them. A law gives a case for
+-- each outcome (`OfEachOutcome`): refused, replied to, a LED, the clock shown, a value kept, a request begun or taken
+-- away. Each row of each table is one of these, and the test that chose it is handed on.
 use Rattle.std.proofs.Common.{◌≡◌, ◌≤◌, ℕ, ◌+◌, ◌==◌, nat_le, nat_lt, Bool, true, false, cond, [], ◌∷◌, Option, None}
 use Rattle.std.proofs.Common.{Some, Ok, refl, ap, sym, ◌∙◌, eqb-true, ◌&&◌}
 use Rattle.std.proofs.lemmas.Bool.{leb-true}

@@ -1,4 +1,6 @@
--- That a process's own stays settled: its bytes end at the kernel break, and its buffers lie below the mark.
+-- That a process's own stays settled: its bytes end at the kernel break, and its buffers lie below the mark, which is
+-- to say that each may be kept if accessible RAM ended there (`at_mark`). The mark is raised to cover what is handed,
+-- and never falls, so the others lie below it still; drivers leave as many bytes, by the walk over what they do.
 use Rattle.std.proofs.Common.{◌≡◌, ◌≢◌, ◌⊎◌, inl, inr, ◌≤◌, ◌<◌, ℕ, ◌+◌, ◌-◌, ◌==◌, ◌||◌, Bool, true, false, cond, max}
 use Rattle.std.proofs.Common.{length, take, Option, None, Some, refl, sym, ap, ap₂, subst, ◌∙◌, arith, eqb-true, eq-eqb}
 use Rattle.std.specs.Prelude.{IsTrue}

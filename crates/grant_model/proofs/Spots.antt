@@ -1,4 +1,6 @@
--- A driver's area among the others.
+-- A driver's area among the others: what the walk over the areas finds is the place of the words of that driver's grant
+-- (`Spot`), with words before and after it, which stay as the grant changes. By induction on the grants, each as long
+-- as its shape says; so offset and size of the area are those in bytes, and no place means no grant.
 use Rattle.std.proofs.Common.{arith, refl, ap, sym, subst, ◌∙◌, ◌≡◌, ◌≤◌, ℕ, suc, ◌+◌, ◌-◌, ◌*◌, ◌/◌, ◌==◌, List, []}
 use Rattle.std.proofs.Common.{◌∷◌, ◌++◌, length, get_or, cond, length-append, append_assoc, false, true, Bool, Option}
 use Rattle.std.proofs.Common.{None, Some}

@@ -1,4 +1,6 @@
--- Pairs of one kind among all pairs of a grant: each kind has a window of its own.
+-- Pairs of one kind among all pairs of a grant: each kind has a window of its own. Windows follow one another by rank,
+-- so a place in one lies in no other (by induction on the sizes), and a pair that is put is read in its window and
+-- changes no other. Kinds are compared by rank, and not two by two.
 use Rattle.std.proofs.Common.{arith, refl, ap, sym, subst, ◌∙◌, ◌≡◌, ◌≢◌, ◌⊎◌, inl, inr, ◌<◌, ◌≤◌, ℕ, zero, suc, ◌+◌}
 use Rattle.std.proofs.Common.{◌-◌}
 use Rattle.std.proofs.Common.{List, [], ◌∷◌, length, take, drop, get_or, set, replicate, Some}

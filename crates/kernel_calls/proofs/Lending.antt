@@ -1,4 +1,6 @@
--- What is lent keeps its place, and comes back in its place.
+-- What is lent keeps its place, and comes back in its place. The place says where the block lies and what RAM stands
+-- before and behind it; where it is the same the change was in the block alone (`comes_back` makes `Reseats` of it), so
+-- one call after another is lent the same, and what contracts see is the new own.
 use Rattle.std.proofs.Common.{◌≡◌, ℕ, ◌+◌, ◌-◌, ◌<◌, ◌≤◌, ◌⊎◌, inl, inr, List, length, slice_index, sym, ap, ap₂, subst}
 use Rattle.std.proofs.Common.{◌∙◌, arith, rules}
 use Rattle.std.specs.Prelude.{slice_range, OnOk, OnErr}

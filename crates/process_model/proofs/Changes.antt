@@ -1,4 +1,6 @@
--- Which bytes of a process's own an instruction, a flag and a driver change.
+-- Which bytes of a process's own an instruction, a flag and a driver change: a store that is not denied, the byte of a
+-- flag, and what was written into a buffer change their own places alone, seen from the start of the block. Cutting the
+-- bytes at a lower kernel break leaves all below it.
 use Rattle.std.proofs.Common.{◌≡◌, ◌≢◌, ◌⊎◌, inl, inr, ◌<◌, ◌≤◌, ℕ, ◌+◌, ◌-◌, ◌==◌, ◌&&◌, ◌||◌, nat_le, nat_lt, Bool}
 use Rattle.std.proofs.Common.{true, false, cond, List, length, take, Option, None, Some, refl, ap, ap₂, sym, ◌∙◌, arith}
 use Rattle.std.specs.Prelude.{IfSome, IsTrue, max, slice_index, slice_set}

@@ -1,4 +1,6 @@
--- The pairs that a process has handed, once what is its own has changed.
+-- The pairs that a process has handed, once what is its own has changed. A change of a driver's grant changes what is
+-- found for that driver alone, by induction on the grants (`at`); a value kept or a driver entered leaves all pairs,
+-- and to hand one changes that place, by the law that pairs stand by kind.
 use Rattle.std.proofs.Common.{◌≡◌, ◌≢◌, ◌<◌, ℕ, ◌-◌, ◌==◌, Bool, true, false, cond, List, [], ◌∷◌, length}
 use Rattle.std.proofs.Common.{Option, None, Some, is_some, IfSome, refl, ap, sym, subst, ◌∙◌, eqb-true, eq-eqb, ne_eqb}
 use Rattle.std.specs.Prelude.{slice_set}

@@ -1,4 +1,6 @@
--- A run on its way.
+-- A run on its way: after i of n steps the text of the steps done stands behind what was gathered, and the rest of the
+-- run is that from here (`RunsOn`). One step more, a quiet stretch more and a write each keep it; each exit (nothing
+-- left, all made, a write that failed) takes from it the text, what is kept and the last world.
 use Rattle.std.proofs.Common.{◌≡◌, ℕ, zero, suc, ◌+◌, ◌-◌, ◌*◌, ◌^◌, ◌<◌, ◌≤◌, List, [], ◌∷◌}
 use Rattle.std.proofs.Common.{◌++◌, slice_get, Option, None, Some, refl, sym, ap, subst, ◌∙◌, arith}
 use Rattle.std.proofs.Common.{append_assoc, append-nil, Result}

@@ -1,4 +1,6 @@
--- Commands of lines that are answered one after another.
+-- Commands of lines that are answered one after another. The loop keeps the lines given so far and their answers
+-- written (`Converses`), and the worlds that they lead to are a fold over them; a line more adds its command at the
+-- end. Where the sink fails, or memory is wanting, a front of the whole text was written.
 use Rattle.std.proofs.Common.{◌≡◌, ℕ, List, [], ◌∷◌, ◌++◌, map, Option, None, Some, inl, inr}
 use Rattle.std.proofs.Common.{refl, sym, ap, subst, ◌∙◌, append_assoc, append-nil}
 use Rattle.tk_outside.specs.Sink.{SinkFacts}

@@ -1,4 +1,6 @@
--- From what happened to what the program's answer says.
+-- From what happened to what the program's answer says. What a task or a refusal leads to is one relation (`Happens`),
+-- from which each exit status has its cause (`Decided`); the answers exclude one another by their numbers. A board is
+-- left exactly where a run was made to its end.
 use Rattle.std.specs.Prelude.{⊤}
 use Rattle.std.proofs.Common.{◌≡◌, ◌≢◌, ◌≤◌, arith, ℕ, zero, suc, [], Option, None, Some, IsSome, ◌↔◌, inl}
 use Rattle.std.proofs.Common.{inr, refl, sym, subst}

@@ -1,4 +1,6 @@
--- Why files that are read lead to a task, or to a refusal.
+-- Why files that are read lead to a task, or to a refusal. A file that is read is refused for its length, or for what
+-- the one table (`comes_to`) says of the command and the texts so far; one that cannot be read, for that. For each
+-- command its row of the table computes, and a script or an edit that is refused names its fault.
 use Rattle.std.proofs.Common.{◌≡◌, ℕ, suc, ◌<◌, ◌≤◌, nat_lt, cond, Bool, true, false, List, [], ◌∷◌, ◌++◌}
 use Rattle.std.proofs.Common.{length, replicate, take, drop, Option, None, Some, IfSome, Result, Ok, Err, inl, inr}
 use Rattle.std.proofs.Common.{refl, sym, subst, ap, ◌∙◌, arith}

@@ -1,4 +1,6 @@
--- Files that are packed one behind another while they are read.
+-- Files that are packed one behind another while they are read. The loop keeps that the files so far were read and
+-- packed (`PacksOn`): whatever files follow, packing all is packing these behind the image (`ArePacked`). One file more
+-- goes on from it, and one that is not read or not packed is the refusal of the whole.
 use Rattle.std.proofs.Common.{◌≡◌, ℕ, ◌+◌, ◌≤◌, List, [], ◌∷◌, ◌++◌, length, map, take, drop, Option, None, Some, ◌<◌}
 use Rattle.std.proofs.Common.{String, string_bytes, slice_index_or, unwrap_or, Result, Ok, inl, inr, refl, sym}
 use Rattle.std.proofs.Common.{subst, ap, ◌∙◌, arith, append_assoc, append-nil}

@@ -1,4 +1,6 @@
--- Why a ready slot has a turn within a slice for each slot: each turn of another brings it nearer.
+-- Why a ready slot has a turn within a slice for each slot: each turn of another brings it nearer. What it waits for is
+-- a number (`waits`): the turns left of the present slice, and a slice for each slot before it in cyclic order. Each
+-- turn of another slot lowers it, and it begins below the bound; so by induction on the turns its own comes.
 use Rattle.std.proofs.Common.{◌≡◌, ◌≢◌, ℕ, zero, suc, ◌+◌, ◌-◌, ◌*◌, ◌<◌, ◌≤◌, ◌==◌, Bool, true, false, ◌&&◌, nat_lt}
 use Rattle.std.proofs.Common.{cond, List, [], ◌∷◌, length, find, All, Any, Option, Some, None, refl, sym, ap, subst}
 use Rattle.std.proofs.Common.{◌∙◌, ◌⊎◌, inl, inr, arith}

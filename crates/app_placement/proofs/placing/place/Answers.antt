@@ -1,3 +1,6 @@
+-- The loop that places applications: it keeps that the places so far and those of the objects left make all
+-- (`places_from`), and how far RAM is filled. What it answers is then `placements`, of which the clauses are laws
+-- (`Laws`).
 use Rattle.std.proofs.Common.{◌≡◌, ◌+◌, ◌≤◌, length, drop, All, AllPairs, List, ◌++◌, ◌∷◌, [], sym, ap, ◌∙◌, subst}
 use Rattle.std.proofs.Common.{lit<, arith}
 use Rattle.std.specs.List.{count_by, filter_map}

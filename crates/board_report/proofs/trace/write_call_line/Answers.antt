@@ -1,3 +1,6 @@
+-- A line of a call is written part by part, each by a call that may fail: where one does, what was written is a part of
+-- the whole line; where none does, all of it. Each exit is put together by the laws of writing (`writes_compose`), with
+-- the text nested to the right.
 use Rattle.std.proofs.Common.{◌++◌, decimal}
 use Rattle.board_report.specs.Words.{newline}
 use Rattle.board_report.specs.Trace.{registers_text, reply_text, refusal_text}

@@ -1,3 +1,6 @@
+-- Room for a driver's grant: where it has one nothing changes, and its area is the one found; else an area is made in
+-- front of the others, and the layout's kernel break is lower by its cost, or there is no room. Which case it is the
+-- law `areas_are_found` ties to the grants in the kernel's bytes.
 use Rattle.std.proofs.Common.{rules, ap, ◌≡◌, sym, ◌∙◌, Some, ℕ, false, subst}
 use Rattle.std.specs.Prelude.{is_ok}
 use Rattle.grant_model.specs.declared.places.Area.{Area}

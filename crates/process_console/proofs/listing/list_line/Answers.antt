@@ -1,3 +1,5 @@
+-- The line of a slot fits its 64 bytes, with the newline at its end: each piece has a longest length (two digits, a
+-- name of 32 bytes, the longest word), and the sum of these leaves room for one byte more.
 use Rattle.std.proofs.Common.{◌≡◌, ◌+◌, ◌≤◌, ◌++◌, length, ℕ, List, [], ◌∷◌, Bool, true, false, cond, ap, refl, arith}
 use Rattle.std.proofs.Common.{◌<◌, ◌∙◌, length-append, subst, sym}
 use Rattle.std.specs.Fmt.{decimal}

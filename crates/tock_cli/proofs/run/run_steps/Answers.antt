@@ -1,3 +1,5 @@
+-- The loop that makes a run: it keeps `RunsOn`, and each exit and each way round is one lemma of `Running`. What was
+-- gathered is written at its limit, and at the end; where a write fails, what was written is a part of the run's text.
 use Rattle.std.proofs.Common.{sym, arith, ◌∙◌}
 use Rattle.std.proofs.lemmas.Result.{MatchResult-from_err}
 use Rattle.tock_cli.proofs.Running.{begins, flushed, made, made_so, one_more, over, part, room, stretched, unflushed}
