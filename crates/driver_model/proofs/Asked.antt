@@ -1,6 +1,6 @@
 -- All that a process asks for, as its grants tell it. A request that is put is then asked for, where its driver has a
--- grant, and what is asked for in another queue stays: another driver's grant keeps it, or the console, whose two
--- requests stand side by side. This is the one place that goes by pairs of queues.
+-- grant (`asked_put`), and what is asked for in another queue stays (`asked_beside`, by pairs of queues): another
+-- driver's grant keeps it, or the console, whose two requests stand side by side.
 use Rattle.std.proofs.Common.{◌≡◌, ℕ, ◌==◌, Bool, true, false, List, Option, None, Some, is_some, option_and_then}
 use Rattle.std.proofs.Common.{unwrap_or, refl, sym, ap, ◌∙◌, eqb-true}
 use Rattle.std.proofs.lemmas.Bool.{false≢true}

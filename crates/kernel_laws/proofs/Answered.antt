@@ -1,6 +1,6 @@
 -- What an answer of a device changes of a process's bytes: those inside the buffer that is held for it, and of the
 -- storage what a write asks for; an operator's act only as it starts the process again. Event by event, by the law that
--- drivers write in buffers, which needs that the own is whole.
+-- answers write in buffers (`AnswersWriteInBuffers`), which needs that the own is whole.
 use Rattle.std.proofs.Common.{◌≡◌, ◌≢◌, ◌⊎◌, inl, inr, ◌<◌, ◌≤◌, ℕ, ◌+◌, Bool, true, false, cond, List, length, min}
 use Rattle.std.proofs.Common.{unwrap_or, slice_index, Option, None, Some, Result, Ok, Err, refl, ap, arith}
 use Rattle.std.specs.Prelude.{IsSomeAnd}

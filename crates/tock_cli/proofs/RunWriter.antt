@@ -1,6 +1,6 @@
 -- What is told of a run, by what its steps show and by their labels: the lines of a step by what the machine showed are
--- those of its labels, by what a device's step may come to (`ComesTo`). The modes are told apart here alone; runs are
--- inductions on their steps, and quiet turns have no line.
+-- those of its labels, by what a device's step may come to (`ComesTo`). What is told and kept goes by the mode, a case
+-- for each; runs are inductions on their steps, and quiet turns have no line.
 use Rattle.std.proofs.Common.{◌≡◌, inl, inr, ℕ, zero, suc, ◌==◌, ◌||◌, not, Bool, true, false, cond, List, []}
 use Rattle.std.proofs.Common.{◌∷◌, ◌++◌, codes, length, slice_get}
 use Rattle.std.proofs.Common.{Option, None, Some, All, refl, sym, ap, ap₂, subst, ◌∙◌, append-nil}
