@@ -1,8 +1,8 @@
 -- Which instructions of flash are known.
 use Rattle.std.specs.Prelude.{◌≡◌, ℕ, ◌+◌, ◌-◌, ◌*◌, ◌/◌, ◌<◌, ◌≤◌, List, length, slice_index_or}
 use Rattle.tk_base.specs.declared.access.TheConstants.{FLASH_START}
-use Rattle.rv32_predecode.specs.declared.decoded.Entry.{Entry}
-use Rattle.rv32_predecode.specs.Entries.{entry_reach}
+use Rattle.rv32_entries.specs.declared.entry.Entry.{Entry}
+use Rattle.rv32_entries.specs.Entries.{entry_reach}
 use Rattle.rv32_predecode.specs.Decoded.{TellsStanding}
 
 -- an entry for each even place of flash tells nothing, or the instruction that stands there

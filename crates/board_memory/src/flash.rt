@@ -3,7 +3,8 @@ ghost use Rattle.std.specs.Prelude.{◌≡◌, ◌≤◌, length, IfOk};
 ghost use Rattle.rv32_predecode.specs.Decoded.{TellsStanding};
 ghost use Rattle.board_memory.specs.Known.{AreEntries};
 
-use rv32_predecode::{Entry, entry_in};
+use rv32_entries::Entry;
+use rv32_predecode::entry_in;
 use std::alloc::Global;
 use std::marker::Model;
 use tk_base::{Addr, FLASH_START, NoMemory};

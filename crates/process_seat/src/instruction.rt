@@ -8,8 +8,8 @@ ghost use Rattle.process_seat.specs.Reach.{InstructionLaws, GoesUnder, StopsUnde
 
 use board_memory::{Memory, View, a_store_in_ram_is_put, bytes_tell_the_ram};
 use pmp_regions::Pmp;
+use rv32_entries::Entry;
 use rv32_model::{TurnEnd, one_is_the_turn, sees_only_permitted, writes_are_permitted};
-use rv32_predecode::Entry;
 use rv32_step::{Stretch, turns};
 use tk_base::{Regs, a_store_is_put};
 

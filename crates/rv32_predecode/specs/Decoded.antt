@@ -1,33 +1,18 @@
--- Where the instruction of an entry stands.
+-- When an entry is that of an instruction, and when it tells the one that stands at a place of some bytes.
 use Rattle.std.specs.Prelude.{◌≡◌, ℕ, ◌+◌, ◌*◌, ◌%◌, ◌==◌, ◌≤◌, if◌then◌else◌, List, length, slice_index}
-use Rattle.std.specs.Prelude.{Option, Some, Ok, IfSome}
-use Rattle.tk_base.specs.declared.access.Access.{Access}
-use Rattle.tk_base.specs.declared.access.Width.{Width}
+use Rattle.std.specs.Prelude.{Option, Some, IfSome}
 use Rattle.tk_base.specs.declared.access.Width.TheVariants.{Half}
-use Rattle.tk_base.specs.declared.access.Rule.{Rule}
 use Rattle.tk_base.specs.Bus.{number_at}
 use Rattle.rv32_model.specs.declared.instr.Instr.{Instr}
-use Rattle.rv32_model.specs.UserTurn.{fetched, instr_of}
-use Rattle.rv32_predecode.specs.declared.decoded.Entry.{Entry}
-use Rattle.rv32_predecode.specs.Entries.{entry_instr, entry_length, HopsByParcels}
+use Rattle.rv32_model.specs.UserTurn.{instr_of}
+use Rattle.rv32_entries.specs.declared.entry.Entry.{Entry}
+use Rattle.rv32_entries.specs.Entries.{entry_instr, entry_length, HopsByParcels}
+use Rattle.rv32_entries.specs.Fetched.{length_of}
 
--- the length in bytes that the lowest bits tell
-abbrev pub length_of : ℕ → ℕ
-length_of word = if word % 4 == 3 then 4 else 2
-
--- fetching at an address gives the bits of an instruction of a length
-pub record IsFetched (denies : Access → ℕ → Width → Option Rule) (bytes : ℕ → ℕ) (at : ℕ) (instr : Instr)
-    (size : ℕ) : Type 0 where
-  pub word : ℕ
-  pub comes : fetched denies bytes at ≡ Ok word
-  pub decodes : instr_of word ≡ Some instr
-  pub long : length_of word ≡ size
-  pub hops : HopsByParcels instr
-
--- an entry tells nothing, or the instruction that is fetched at an address
-abbrev pub TellsFetched : (Access → ℕ → Width → Option Rule) → (ℕ → ℕ) → ℕ → Entry → Type 0
-TellsFetched denies bytes at entry =
-    IfSome (entry_instr entry) (λ instr. IsFetched denies bytes at instr (entry_length entry))
+-- what an entry tells is an instruction of a length
+pub record IsEntryOf (length : ℕ) (instr : Option Instr) (entry : Entry) : Type 0 where
+  pub tells : IfSome (entry_instr entry)
+      (λ told. (instr ≡ Some told) × (entry_length entry ≡ length) × HopsByParcels told)
 
 -- the parcel at a place of some bytes
 abbrev pub parcel_in : List ℕ → ℕ → ℕ

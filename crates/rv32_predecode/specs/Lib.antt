@@ -1,3 +1,1 @@
-pub mod Registers
-pub mod Entries
 pub mod Decoded

@@ -1,10 +1,9 @@
 //! The entry of an instruction.
 ghost use Rattle.std.specs.Prelude.{Some};
 ghost use Rattle.rv32_model.specs.declared.instr.Instr.TheVariants as instrs;
-ghost use Rattle.rv32_predecode.specs.Entries.{IsEntryOf};
+ghost use Rattle.rv32_predecode.specs.Decoded.{IsEntryOf};
 
-use crate::decoded::Entry;
-use crate::register::{Register, Target};
+use rv32_entries::{Entry, Register, Target};
 use rv32_model::{BranchTest, InstrVisitor, LoadKind, Op};
 use tk_base::Width;
 
@@ -33,7 +32,7 @@ impl ToEntry {
 }
 
 impl InstrVisitor for ToEntry {
-    ghost use Rattle.rv32_predecode.specs.Entries.{IsEntryOf};
+    ghost use Rattle.rv32_predecode.specs.Decoded.{IsEntryOf};
 
     type Answer = Entry;
 

@@ -3,9 +3,9 @@ ghost use Rattle.std.specs.Prelude.{◌≤◌, length};
 ghost use Rattle.rv32_predecode.specs.Decoded.{TellsStanding};
 
 use crate::as_entry::ToEntry;
-use crate::decoded::Entry;
 use rv32_compressed::handle16;
 use rv32_decode::handle32;
+use rv32_entries::Entry;
 use tk_base::{Width, number_in};
 
 /// The instruction at a place of some bytes, or nothing known.

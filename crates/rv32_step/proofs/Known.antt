@@ -10,9 +10,9 @@ use Rattle.tk_base.specs.Regs.{Registers}
 use Rattle.rv32_model.specs.declared.instr.Instr.{Instr}
 use Rattle.rv32_model.specs.Stretch.{Goes, NoneGoes}
 use Rattle.rv32_model.specs.UserTurn.{UserTurn, user_turn, executed, on_word}
-use Rattle.rv32_predecode.specs.declared.decoded.Entry.{Entry}
-use Rattle.rv32_predecode.specs.Entries.{entry_instr, entry_length, entry_reach, goes_straight, reach_of}
-use Rattle.rv32_predecode.specs.Decoded.{IsFetched, TellsFetched, length_of}
+use Rattle.rv32_entries.specs.declared.entry.Entry.{Entry}
+use Rattle.rv32_entries.specs.Entries.{entry_instr, entry_length, entry_reach, goes_straight, reach_of}
+use Rattle.rv32_entries.specs.Fetched.{IsFetched, TellsFetched, length_of}
 use Rattle.rv32_step.specs.declared.near.Served.{Served}
 use Rattle.rv32_step.specs.declared.near.Served.TheVariants as served
 use Rattle.rv32_step.specs.Executed.{at_pc}

@@ -5,7 +5,7 @@ use Rattle.tk_base.specs.Regs.{Registers}
 use Rattle.rv32_model.specs.declared.instr.Instr.{Instr}
 use Rattle.rv32_model.specs.declared.turn_end.TurnEnd.TheVariants.{Went, Call}
 use Rattle.rv32_model.specs.UserTurn.{UserTurn, w32_of}
-use Rattle.rv32_predecode.specs.Entries.{HopsByParcels, goes_straight}
+use Rattle.rv32_entries.specs.Entries.{HopsByParcels, goes_straight}
 use Rattle.rv32_step.specs.declared.near.Served.{Served}
 use Rattle.rv32_step.specs.declared.near.Served.TheVariants as served
 use Rattle.rv32_step.specs.Executed.{LeavesTurn, at_pc}

@@ -22,11 +22,11 @@ use crate::nothing_ahead::NothingAhead;
 use crate::processor::Hart;
 use rv32_compressed::handle16;
 use rv32_decode::handle32;
+use rv32_entries::Predecoded;
 pub use rv32_model::TurnEnd;
 use rv32_model::{
     Prefetch, one_is_the_turn, stopped_turns_change_nothing, turns_follow, writes_are_permitted,
 };
-use rv32_predecode::Predecoded;
 use tk_base::{Access, Addr, Bus, Denial, Regs};
 
 #[inline(always)]

@@ -8,8 +8,8 @@ ghost use Rattle.rv32_step.specs.Near.{address_of, IsTurned};
 
 use crate::execute::{extend, read_width};
 use crate::operate::{operate, takes};
+use rv32_entries::{Predecoded, SizedVisitor, handle_entry};
 use rv32_model::{BranchTest, InstrVisitor, LoadKind, Op};
-use rv32_predecode::{Predecoded, SizedVisitor, handle_entry};
 use tk_base::{Addr, Regs, Width};
 
 /// How an instruction that is known was served.

@@ -1,6 +1,6 @@
 //! Any memory, without a parcel at hand.
+use rv32_entries::{Entry, Predecoded};
 use rv32_model::Prefetch;
-use rv32_predecode::{Entry, Predecoded};
 use tk_base::{Addr, Bus, Rule, Width};
 
 /// A bus that has nothing at hand: each parcel is fetched on its own.

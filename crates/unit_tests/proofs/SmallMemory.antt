@@ -6,9 +6,10 @@ use Rattle.std.proofs.lemmas.Bool.Decides.{nat_tests}
 use Rattle.tk_base.specs.declared.access.Denial.{Denial}
 use Rattle.rv32_model.specs.declared.instr.Instr.{Instr}
 use Rattle.rv32_model.specs.UserTurn.{fetched, parcel_at, with_second}
-use Rattle.rv32_predecode.specs.declared.decoded.Entry.{Entry}
-use Rattle.rv32_predecode.specs.Entries.{entry_instr, entry_length, entry_reach, goes_straight, reach_of}
-use Rattle.rv32_predecode.specs.Decoded.{IsFetched, StandsIn, TellsFetched, TellsStanding, length_of, parcel_in}
+use Rattle.rv32_entries.specs.declared.entry.Entry.{Entry}
+use Rattle.rv32_entries.specs.Entries.{entry_instr, entry_length, entry_reach, goes_straight, reach_of}
+use Rattle.rv32_entries.specs.Fetched.{IsFetched, TellsFetched, length_of}
+use Rattle.rv32_predecode.specs.Decoded.{StandsIn, TellsStanding, parcel_in}
 use Rattle.rv32_predecode.specs.Decoded.{word_in}
 use Rattle.unit_tests.specs.SmallMemory.{small_denies}
 

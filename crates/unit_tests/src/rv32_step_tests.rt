@@ -1,7 +1,8 @@
 //! Turns over a small memory, with values from the RISC-V unprivileged manual.
 
+use rv32_entries::{Entry, Predecoded};
 use rv32_model::{Op, Prefetch};
-use rv32_predecode::{Entry, Predecoded, entry_in};
+use rv32_predecode::entry_in;
 use rv32_step::operate::operate;
 use rv32_step::*;
 use tk_base::{

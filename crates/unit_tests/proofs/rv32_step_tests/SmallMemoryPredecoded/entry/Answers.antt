@@ -1,5 +1,5 @@
 use Rattle.std.proofs.Common.{◌≡◌, ℕ, ◌+◌, ◌*◌, slice_index, subst, arith}
-use Rattle.rv32_predecode.specs.Decoded.{TellsFetched}
+use Rattle.rv32_entries.specs.Fetched.{TellsFetched}
 use Rattle.unit_tests.specs.SmallMemory.{small_denies}
 use Rattle.unit_tests.proofs.SmallMemory.{below, is_known}
 use Rattle.unit_tests.proofs.rv32_step_tests.SmallMemoryPredecoded.entry.Goals as goal

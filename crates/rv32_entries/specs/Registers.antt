@@ -1,9 +1,9 @@
 -- The numbers of registers.
 use Rattle.std.specs.Prelude.{ℕ, nat_lt, Bool, ◌&&◌}
-use Rattle.rv32_predecode.specs.declared.register.Register.{Register}
-use Rattle.rv32_predecode.specs.declared.register.Register.TheVariants as registers
-use Rattle.rv32_predecode.specs.declared.register.Target.{Target}
-use Rattle.rv32_predecode.specs.declared.register.Target.TheVariants as targets
+use Rattle.rv32_entries.specs.declared.register.Register.{Register}
+use Rattle.rv32_entries.specs.declared.register.Register.TheVariants as registers
+use Rattle.rv32_entries.specs.declared.register.Target.{Target}
+use Rattle.rv32_entries.specs.declared.register.Target.TheVariants as targets
 
 -- the number of a register
 abbrev pub index_of : Register → ℕ

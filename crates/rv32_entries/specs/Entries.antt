@@ -1,15 +1,15 @@
 -- What an entry tells: the instruction that was decoded, and its length in bytes.
 use Rattle.std.specs.Prelude.{◌≡◌, ℕ, ◌+◌, ◌%◌, Bool, true, false, if◌then◌else◌, Option, None, Some}
-use Rattle.std.specs.Prelude.{is_some, IfSome}
+use Rattle.std.specs.Prelude.{is_some}
 use Rattle.tk_base.specs.declared.access.Width.TheVariants as widths
 use Rattle.rv32_model.specs.declared.instr.Op.TheVariants as ops
 use Rattle.rv32_model.specs.declared.instr.BranchTest.TheVariants as tests
 use Rattle.rv32_model.specs.declared.instr.LoadKind.TheVariants as loads
 use Rattle.rv32_model.specs.declared.instr.Instr.{Instr}
 use Rattle.rv32_model.specs.declared.instr.Instr.TheVariants as instrs
-use Rattle.rv32_predecode.specs.declared.decoded.Entry.{Entry}
-use Rattle.rv32_predecode.specs.declared.decoded.Entry.TheVariants as entries
-use Rattle.rv32_predecode.specs.Registers.{index_of, target_index}
+use Rattle.rv32_entries.specs.declared.entry.Entry.{Entry}
+use Rattle.rv32_entries.specs.declared.entry.Entry.TheVariants as entries
+use Rattle.rv32_entries.specs.Registers.{index_of, target_index}
 
 -- the instruction; none where nothing is known
 abbrev pub entry_instr : Entry → Option Instr
@@ -200,11 +200,6 @@ distance instrs.Ebreak = 0
 -- a jump or a branch is by whole parcels
 abbrev pub HopsByParcels : Instr → Type 0
 HopsByParcels instr = distance instr % 2 ≡ 0
-
--- what an entry tells is an instruction of a length
-pub record IsEntryOf (length : ℕ) (instr : Option Instr) (entry : Entry) : Type 0 where
-  pub tells : IfSome (entry_instr entry)
-      (λ told. (instr ≡ Some told) × (entry_length entry ≡ length) × HopsByParcels told)
 
 -- what handing an instruction over comes to: there is none, and the handler is as it was; or it was handled by one that
 -- knows the length

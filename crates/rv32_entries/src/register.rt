@@ -1,6 +1,6 @@
 //! The name of a register.
 ghost use Rattle.std.specs.Prelude.{◌≡◌, is_some, IfSome};
-ghost use Rattle.rv32_predecode.specs.Registers.{index_of, is_index, target_index, can_be_set};
+ghost use Rattle.rv32_entries.specs.Registers.{index_of, is_index, target_index, can_be_set};
 
 /// One of the 32 registers. That it is no other number is known to the compiler too.
 #[derive(Clone, Copy)]

@@ -4,10 +4,10 @@ ghost use Rattle.std.specs.Bool.{OnTrue, OnFalse};
 ghost use Rattle.tk_base.specs.declared.access.Access.TheVariants.{Load, Store};
 ghost use Rattle.tk_base.specs.Access.{misaligned_first};
 ghost use Rattle.tk_base.specs.Bus.{number_at, written};
-ghost use Rattle.rv32_predecode.specs.Decoded.{TellsFetched};
-ghost use Rattle.rv32_predecode.specs.Entries.{entry_reach};
+ghost use Rattle.rv32_entries.specs.Fetched.{TellsFetched};
+ghost use Rattle.rv32_entries.specs.Entries.{entry_reach};
 
-use crate::decoded::Entry;
+use crate::entry::Entry;
 use rv32_model::Prefetch;
 use tk_base::{Addr, Width};
 

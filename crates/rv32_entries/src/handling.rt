@@ -1,11 +1,11 @@
 //! What is done with an instruction that was decoded before.
 ghost use Rattle.std.specs.Prelude.{◌≡◌, Some};
-ghost use Rattle.rv32_predecode.specs.Registers.{index_of, target_index};
+ghost use Rattle.rv32_entries.specs.Registers.{index_of, target_index};
 ghost use Rattle.rv32_model.specs.declared.instr.Instr.TheVariants as instrs;
 ghost use Rattle.rv32_model.specs.declared.instr.Op.TheVariants as ops;
-ghost use Rattle.rv32_predecode.specs.Entries.{entry_instr, entry_length, entry_reach, HandsOver};
+ghost use Rattle.rv32_entries.specs.Entries.{entry_instr, entry_length, entry_reach, HandsOver};
 
-use crate::decoded::Entry;
+use crate::entry::Entry;
 use crate::register::{Register, Target};
 use rv32_model::{BranchTest, InstrVisitor, LoadKind, Op};
 use tk_base::Width;
