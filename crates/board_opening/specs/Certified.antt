@@ -163,8 +163,8 @@ ReadsFromBootGiveStorage =
     slice_get v.records slot ≡ Some r → slice_get (after v choice).records slot ≡ Some s →
     history slot v (choice ∷ []) ≡ Stored true ∷ [] → GaveStorage r s
 
--- after any choices from a boot the requests of a process in a queue that began to wait are exactly those that an answer
--- completed, the one that waits still, and those that were withdrawn
+-- after any choices from a boot the requests of a process in a queue that began to wait are exactly those that an
+-- answer completed, the one that waits still, and those that were withdrawn
 abbrev pub RequestsFromBootAddUp : Type 0
 RequestsFromBootAddUp =
     (script : Script) (flash : List ℕ) (choices : List Choice) (queue : QueueName) (slot : ℕ) →

@@ -1,5 +1,5 @@
--- Worked cases, computed from the definitions: what laws of this crate have, and an image or a word of a wrong tool that
--- each refuses. The bytes were put together by hand from the Tock Binary Format, "TBF Header Base" and "Main".
+-- Worked cases, computed from the definitions: what laws of this crate have, and an image or a word of a wrong tool
+-- that each refuses. The bytes were put together by hand from the Tock Binary Format, "TBF Header Base" and "Main".
 use Rattle.std.proofs.Common.{◌≡◌, ℕ, ◌++◌, false, List, [], ◌∷◌, slice_index, refl, ap, arith}
 use Rattle.tbf_headers.specs.Numbers.{word_at}
 use Rattle.rv32_model.specs.Instructions.{decoding, instruction_table}

@@ -1,6 +1,7 @@
 -- What an edit leaves of an image, in bytes and as it is walked (Tock Binary Format, "TBF Header Base"; the edits are
 -- this tool's own).
-use Rattle.std.specs.Prelude.{◌≡◌, ◌≢◌, IsSomeAnd, ◌<◌, ◌≤◌, ◌⊎◌, ℕ, ◌+◌, ◌/◌, ◌%◌, Bool, true, false, if◌then◌else◌, List}
+use Rattle.std.specs.Prelude.{◌≡◌, ◌≢◌, IsSomeAnd, ◌<◌, ◌≤◌, ◌⊎◌, ℕ, ◌+◌, ◌/◌, ◌%◌, Bool, true, false}
+use Rattle.std.specs.Prelude.{if◌then◌else◌, List}
 use Rattle.std.specs.Prelude.{length, map, slice_index, is_some, Some, Ok}
 use Rattle.tk_base.specs.Numbers.{rounded_up}
 use Rattle.tbf_headers.specs.Numbers.{word_at}

@@ -48,7 +48,8 @@ use Rattle.process_record.specs.Parts.{after_fault}
 use Rattle.kernel_model.specs.Record.{Record, instruction, record_with_step, with_effect}
 use Rattle.kernel_model.specs.declared.settings.Settings.{Settings}
 use Rattle.kernel_model.specs.Calls.{Served, by_form, comes_to, driver_answered, ended, exit, failure_of, memop}
-use Rattle.kernel_model.specs.Calls.{refused_with, restart, served, swap_by, swap_refusal, taken_by, yield_for, yield_now, yielding}
+use Rattle.kernel_model.specs.Calls.{refused_with, restart, served, swap_by, swap_refusal, taken_by, yield_for}
+use Rattle.kernel_model.specs.Calls.{yield_now, yielding}
 use Rattle.kernel_model.specs.Parts.{calls, delivery, failed_swap, object_permits, swapped, unknown_call, with_process}
 use Rattle.kernel_model.specs.Turn.{Act, Alarmed, Edge, Event, Input, NoWord, Stored, Taken, Turn, Word, WriteDone}
 use Rattle.kernel_model.specs.Turn.{Turned, apply, at_turn_end, faulted, idle, is_turn, made, operated}
@@ -134,7 +135,8 @@ module _ (r : Record) where
       left : Bool → Bool → Bool → Inbox
       left gone yields commands =
           let taking = cond yields (taken_by_yield m.args) Nothing in
-          scheduled_if (cond (commands && (a0 regs == 0x1 && a1 regs == 3)) (Some (upcall_of 0x1 2 (8 ∷ 0 ∷ 0 ∷ []) r.own))
+          scheduled_if (cond (commands && (a0 regs == 0x1 && a1 regs == 3))
+          (Some (upcall_of 0x1 2 (8 ∷ 0 ∷ 0 ∷ []) r.own))
           None)
           (cond gone (none_left inbox) (record {
             pending = filter (λ u. not (away u)) (removed (place_taken taking pending) pending);
@@ -169,7 +171,8 @@ module _ (r : Record) where
   now_leaves at (Some upcall) is =
       ap (taken_at 0) (flag_inbox at 1 r.own) ∙ sym (ap (with_pending inbox) (all_pass (remove pending 0)))
 
-  for_leaves : (driver number : ℕ) (first : Option Scheduled) → slice_get pending (place_of driver number pending) ≡ first
+  for_leaves : (driver number : ℕ) (first : Option Scheduled) → slice_get pending (place_of driver number pending) ≡
+      first
       → (yield_for r driver number first).after.own.inbox ≡ taken_so (FirstOf driver number)
   for_leaves driver number first is = by_first first is
     where
@@ -242,7 +245,8 @@ module _ (r : Record) where
       by_one : (number == 0) ≡ false → (b : Bool) → (number == 1) ≡ b
           → ExactByCall r 0 (cond b waits (cond (number == 2) asks goes_on))
       by_one e true f =
-          by_exact r 0 _ (λ can. told_so false false _ e (ap (λ (n : ℕ). n == 2) (eqb-true number 1 f)) (all_left inbox))
+          by_exact r 0 _ (λ can. told_so false false _ e (ap (λ (n : ℕ). n == 2) (eqb-true number 1 f))
+          (all_left inbox))
       by_one e false f = by_two e (number == 2) refl
 
       by_zero : (b : Bool) → (number == 0) ≡ b
@@ -308,7 +312,8 @@ module _ (r : Record) where
             ≡ scheduled_if (scheduled_so (result_err answer)) (with_pending inbox (filter (λ u. true) pending))
         leaves answer answers =
             step_inbox c.step inbox (command_leaves (a0 regs) taker is around (a1 regs) (a2 regs) (a3 regs) r.own)
-            ∙ ap (λ (o : Option Scheduled). scheduled_if o inbox) (of_command law r.own (a1 regs) around (a2 regs) (a3 regs)
+            ∙ ap (λ (o : Option Scheduled). scheduled_if o inbox) (of_command law r.own (a1 regs) around (a2 regs)
+            (a3 regs)
             (a0 regs) taker is
             ∙ ap (λ (x : Result Reply CallRule). scheduled_so (result_err x)) answers)
             ∙ ap (scheduled_if (scheduled_so (result_err answer))) (all_left inbox)

@@ -37,7 +37,12 @@ upcall time = record { driver = 0x0; number = 0; function = 0x20000; app = 9; ar
 
 -- so many of them wait for it
 abbrev waiting : List Scheduled → Record
-waiting pending = record subscribed { own = record subscribed.own { inbox = record subscribed.own.inbox { pending = pending } } }
+waiting pending = record subscribed {
+  own = record subscribed.own {
+    inbox = record subscribed.own.inbox
+        { pending = pending };
+  };
+}
 
 -- a turn that makes a yield of a number
 abbrev yields : ℕ → TurnTrace

@@ -32,8 +32,8 @@ wait_left before taking inbox = inbox.wait
 abbrev pub none_left : Inbox → Inbox
 none_left inbox = record { pending = []; dropped = inbox.dropped; wait = No }
 
--- What a turn leaves of what is scheduled, before it schedules anything: nothing where it ends a life; else all but what
--- it takes to be delivered, and what it subscribes anew.
+-- What a turn leaves of what is scheduled, before it schedules anything: nothing where it ends a life; else all but
+-- what it takes to be delivered, and what it subscribes anew.
 abbrev pub inbox_left : Option Wait → TurnTrace → Inbox → Inbox
 inbox_left before told inbox =
     let taking = takes before told.call in
@@ -49,14 +49,14 @@ abbrev pub cancels_read : CallMade → Bool
 cancels_read call =
     (call.class == 2 && is_none call.rule) && (slice_index call.args 0 == 0x1 && slice_index call.args 1 == 3)
 
--- what a turn schedules: upcall 2 of the console with 8, TRD 104's code for what was cancelled, where its call cancels a
--- read; no other call schedules any
+-- what a turn schedules: upcall 2 of the console with 8, TRD 104's code for what was cancelled, where its call cancels
+-- a read; no other call schedules any
 abbrev pub upcall_by_turn : Option CallMade → Own → Option Scheduled
 upcall_by_turn call own =
     option_and_then (λ made. if cancels_read made then Some (upcall_of 0x1 2 (8 ∷ 0 ∷ 0 ∷ []) own) else None) call
 
--- A turn of a process that no operator holds leaves exactly that, and then what it schedules. One that ends a life is of
--- a process whose object is an application's, as each is that has a place.
+-- A turn of a process that no operator holds leaves exactly that, and then what it schedules. One that ends a life is
+-- of a process whose object is an application's, as each is that has a place.
 pub record LeavesInbox (r s : Record) (told : TurnTrace) : Type 0 where
   pub inbox : r.process.held ≡ false → (ends_life told ≡ true → CanStartAgain r) →
       s.own.inbox ≡ scheduled_if (upcall_by_turn told.call r.own) (inbox_left (wait_of r) told r.own.inbox)

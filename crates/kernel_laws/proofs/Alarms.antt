@@ -20,7 +20,8 @@ use Rattle.turn_scheduler.specs.RoundRobin.{choice, next_slot, ready_device}
 use Rattle.grant_values.specs.declared.alarm.Armed.{Armed}
 use Rattle.process_model.specs.Own.{Own}
 use Rattle.board_devices.specs.Arriving.{first_arrival_time}
-use Rattle.driver_model.specs.Alarm.{alarm_in, due_alarm, due_for, due_slot, has_due, if_due, left_for, nearer, next_left, ticks_left_in}
+use Rattle.driver_model.specs.Alarm.{alarm_in, due_alarm, due_for, due_slot, has_due, if_due, left_for, nearer}
+use Rattle.driver_model.specs.Alarm.{next_left, ticks_left_in}
 use Rattle.driver_model.specs.Alarm.{ticks_left_of}
 use Rattle.driver_model.specs.Parts.{nearer_with}
 use Rattle.driver_model.specs.Console as console
@@ -46,7 +47,8 @@ no_device None rest c e takes = refl
 no_device (Some device) rest c e takes = let same : Device device ≡ c = cc in
     absurd (false≢true (ap takes_time same ∙ takes))
 
-pub none_ready : (w : World) (c : Choice) → next w ≡ Some c → takes_time c ≡ true → ready_device (ready_devices w) ≡ None
+pub none_ready : (w : World) (c : Choice) → next w ≡ Some c → takes_time c ≡ true → ready_device (ready_devices w) ≡
+    None
 unfolding next choice
 none_ready w c e takes =
     no_device (ready_device (ready_devices w))

@@ -1,9 +1,11 @@
 -- That what a driver keeps of its settings is what its commands said: for any value that is read of what one driver
 -- keeps, and then for the alarm and the buttons. A command to another driver leaves it, one to its own goes by the rows
 -- of the table (`LeavesOrSets`); so a turn leaves it, sets it as its command says, or it is as in a fresh life.
-use Rattle.std.proofs.Common.{◌≡◌, ◌⊎◌, inl, inr, ℕ, ◌+◌, ◌-◌, ◌*◌, ◌/◌, ◌%◌, ◌^◌, ◌==◌, Bool, true, false, cond, nat_lt}
+use Rattle.std.proofs.Common.{◌≡◌, ◌⊎◌, inl, inr, ℕ, ◌+◌, ◌-◌, ◌*◌, ◌/◌, ◌%◌, ◌^◌, ◌==◌, Bool, true, false}
+use Rattle.std.proofs.Common.{cond, nat_lt}
 use Rattle.std.proofs.Common.{List, [], ◌∷◌, Option}
-use Rattle.std.proofs.Common.{None, Some, Result, Ok, Err, slice_get, slice_index, slice_set, unwrap_or, option_map, refl}
+use Rattle.std.proofs.Common.{None, Some, Result, Ok, Err, slice_get, slice_index, slice_set, unwrap_or}
+use Rattle.std.proofs.Common.{option_map, refl}
 use Rattle.std.proofs.Common.{sym, ap, subst, ◌∙◌, arith, eqb-true}
 use Rattle.std.specs.Prelude.{IfSome, IsSomeAnd}
 use Rattle.std.specs.List.{list_any}
@@ -361,7 +363,8 @@ module _ (around : CommandContext) (number x y : ℕ) (own : Own) where
       ∙ ap (option_map (λ (old : KeptValue). AlarmValue (Some armed))) (kept_entering alarm.alarm_driver own))
 
   none_put : alarm.alarm_in (alarm.with_alarm None own) ≡ None
-  none_put = ap alarm.armed_in (kept_put alarm.alarm_driver (AlarmValue None) own) ∙ by_kept (kept alarm.alarm_driver own)
+  none_put = ap alarm.armed_in (kept_put alarm.alarm_driver (AlarmValue None) own) ∙ by_kept
+      (kept alarm.alarm_driver own)
     where
       by_kept : (o : Option KeptValue)
           → alarm.armed_in (option_map (λ (old : KeptValue). AlarmValue None) o) ≡ None
@@ -492,7 +495,8 @@ alarms_and_buttons of_ecall w choice =
     of_turns_at (AreSetByCommands (now_in w)) w (λ r. record {
       alarm = of_turns alarm.alarm_driver alarm.armed_in SetsAlarm set_alarm alarm_blank alarm_here w.settings
           w.clock.time r of_ecall;
-      buttons = of_turns buttons.buttons buttons.enabled_in SetsButtons set_buttons buttons_blank buttons_here w.settings
+      buttons = of_turns buttons.buttons buttons.enabled_in SetsButtons set_buttons buttons_blank buttons_here
+          w.settings
           w.clock.time r of_ecall;
     }) choice
 
@@ -507,6 +511,7 @@ follow_commands of_ecall w choice =
           accepted_sets alarm.alarm_driver alarm.armed_in SetsAlarm set_alarm alarm_blank alarm_here around r.own
           t.after.own t.acts call (accepts is.class is.accepted) is.of_driver among;
       buttons = λ is among.
-          accepted_sets buttons.buttons buttons.enabled_in SetsButtons set_buttons buttons_blank buttons_here around r.own
+          accepted_sets buttons.buttons buttons.enabled_in SetsButtons set_buttons buttons_blank buttons_here around
+          r.own
           t.after.own t.acts call (accepts is.class is.accepted) is.of_driver among;
     }) (of_accepted of_ecall w.settings w.clock.time r)) choice

@@ -45,7 +45,8 @@ pub record OfEachThing (settings : Settings) (time : ℕ) (r : Record) (P : Turn
   pub faults : (s : Record) (denial : Denial) → SameKept r.own s.own → P (faulted settings s denial)
   pub makes : (accesses : List MemoryAccess) (form : CallForm) → call_of r.process.regs ≡ Some form
       → r.process.state ≡ Running
-      → let s = turn_counted r in P (called s accesses form (served settings.strict (surroundings settings time s) s form))
+      → let s = turn_counted r in
+      P (called s accesses form (served settings.strict (surroundings settings time s) s form))
   pub delivers : (next : Delivery) → due r.own.inbox ≡ Some next → r.process.state ≡ Yielded
       → P (idle (deliver (turn_counted r) next (left_by next)))
 

@@ -356,7 +356,8 @@ module _ (law : OnlyWritesChangeBytes) (commands : CommandsWriteInBuffers) (of_e
           → let t = calls settings time s accesses call in flag_in t.told ≡ Some at → IsFlagOfYield s t.told at
       by_call None is e = absurd (cc)
       by_call (Some call) is e =
-          by_rule call (made s.process.regs (served settings.strict (surroundings settings time s) s call).outcome) _ refl
+          by_rule call (made s.process.regs (served settings.strict (surroundings settings time s) s call).outcome) _
+          refl
           is refl refl refl e
   yield_told s accesses (ends.Trap denial) at e = absurd (cc)
 

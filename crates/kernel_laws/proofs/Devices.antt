@@ -20,7 +20,8 @@ use Rattle.driver_model.specs.Random as random
 use Rattle.kernel_model.specs.Record.{Record, flash_of}
 use Rattle.kernel_model.specs.Turn.{Event, NoWord, Taken, Word, WriteDone}
 use Rattle.kernel_model.specs.World.{Answer, DeviceAnswer, DeviceStep, Devices, Label, Stepped, World, answer_label}
-use Rattle.kernel_model.specs.World.{answering, arrived, carried_out, coming_in, device_step_of, done, lane_in, operating}
+use Rattle.kernel_model.specs.World.{answering, arrived, carried_out, coming_in, device_step_of, done, lane_in}
+use Rattle.kernel_model.specs.World.{operating}
 use Rattle.kernel_model.specs.World.{random_step, receive_step, routed, serving, storing, telling_edge, telling_nobody}
 use Rattle.kernel_model.specs.World.{transmitting, unmade}
 use Rattle.kernel_model.specs.Parts.{acting_on, alarmed, drawn_event, served_by, slot_of_name}
@@ -213,7 +214,8 @@ module _ (w : World) where
     of_kind (script.Release button) = of_edge button false
     of_kind (script.Act verb name) = of_act verb (slot_of_name name w.records)
 
-  of_arrivals : (arrivals : List Arrival) → arrivals ≡ d.arrivals → Changes dev.Event (done w (arrived w.records d arrivals))
+  of_arrivals : (arrivals : List Arrival) → arrivals ≡ d.arrivals → Changes dev.Event
+      (done w (arrived w.records d arrivals))
   of_arrivals [] is =
       nobody dev.Event (ap (λ (arrivals : List Arrival). record d { arrivals = arrivals }) none, λ other. refl)
     where

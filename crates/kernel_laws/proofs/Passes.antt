@@ -85,7 +85,8 @@ module _ (law : QuietUntilNext) (w : World) (ticks later : ℕ) (e : next w ≡ 
         grind (arith, nat_tests)
 
     none_later : (device : Dev)
-        → can_act_at only (w.clock.time + later) (clock_at w.settings.start (w.clock.time + later)) (owns_in w) w.devices
+        → can_act_at only (w.clock.time + later) (clock_at w.settings.start (w.clock.time + later)) (owns_in w)
+        w.devices
         device ≡ false
     none_later dev.Event =
         of_arrivals w.devices.arrivals (λ x up_to. before x (nearer_left (first_arrival_time w.devices.arrivals)

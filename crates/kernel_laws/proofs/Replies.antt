@@ -2,7 +2,8 @@
 -- over calls each form puts one reply into the registers, or has none (`Gets`); its words stand at their places, and
 -- all other registers are as before. That an ECALL tells a call goes by the instruction at pc.
 use Rattle.std.proofs.Common.{◌≡◌, ◌≢◌, ◌⊎◌, inl, inr, ◌<◌, ◌≤◌, ℕ, zero, suc, ◌+◌, ◌%◌, ◌^◌, ◌==◌, Bool, true, false}
-use Rattle.std.proofs.Common.{cond, find, List, [], ◌∷◌, length, Option, None, Some, is_some, option_map, Result, Ok, Err}
+use Rattle.std.proofs.Common.{cond, find, List, [], ◌∷◌, length, Option, None, Some, is_some, option_map}
+use Rattle.std.proofs.Common.{Result, Ok, Err}
 use Rattle.std.proofs.Common.{IfSome, slice_get, refl, sym, ap, subst, ◌∙◌, arith}
 use Rattle.std.specs.Prelude.{All}
 use Rattle.std.proofs.lemmas.Bool.{false≢true}
@@ -38,11 +39,13 @@ use Rattle.process_model.specs.Permission.{denied}
 use Rattle.process_record.specs.declared.process.State.{State}
 use Rattle.kernel_model.specs.Record.{Record, byte_at, instruction, with_effect}
 use Rattle.kernel_model.specs.declared.settings.Settings.{Settings}
-use Rattle.kernel_model.specs.Calls.{Served, comes_to, driver_answered, failure_of, refused_with, served, yield_for, yield_now}
+use Rattle.kernel_model.specs.Calls.{Served, comes_to, driver_answered, failure_of, refused_with, served}
+use Rattle.kernel_model.specs.Calls.{yield_for, yield_now}
 use Rattle.kernel_model.specs.Calls.{yielding}
 use Rattle.kernel_model.specs.Histories.{class_of}
 use Rattle.kernel_model.specs.Parts.{calls, with_process}
-use Rattle.kernel_model.specs.Turn.{Turned, arguments, at_turn_end, made, reply_shown, surroundings, turn_counted, turn_in}
+use Rattle.kernel_model.specs.Turn.{Turned, arguments, at_turn_end, made, reply_shown, surroundings}
+use Rattle.kernel_model.specs.Turn.{turn_counted, turn_in}
 use Rattle.kernel_model.specs.Turn.{turned}
 use Rattle.kernel_model.specs.World.{Label, World, after, labels}
 use Rattle.kernel_model.specs.Refused.{IfRefused, RefusalsChangeLittle}

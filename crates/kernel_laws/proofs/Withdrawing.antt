@@ -23,7 +23,8 @@ use Rattle.process_model.specs.Handed.{has_place, own_entering}
 use Rattle.process_model.specs.Own.{Own, own_ended}
 use Rattle.process_model.specs.Served.{kept}
 use Rattle.process_record.specs.Process.{is_alive}
-use Rattle.driver_model.specs.Commands.{Commanded, QueueName, Writes, Reads, Randoms, Stores, by_number, is_same, refusing}
+use Rattle.driver_model.specs.Commands.{Commanded, QueueName, Writes, Reads, Randoms, Stores, by_number}
+use Rattle.driver_model.specs.Commands.{is_same, refusing}
 use Rattle.driver_model.specs.Console as console
 use Rattle.driver_model.specs.Console.{console_reads}
 use Rattle.driver_model.specs.Drivers.{CommandContext, CommandHandler, handler_by, handler_of}
@@ -35,7 +36,8 @@ use Rattle.driver_model.specs.Steps.{own_after}
 use Rattle.driver_model.specs.Storage as storage
 use Rattle.kernel_model.specs.Record.{Record}
 use Rattle.kernel_model.specs.declared.settings.Settings.{Settings}
-use Rattle.kernel_model.specs.Turn.{Act, Alarmed, Edge, Event, Input, NoWord, Stored, Taken, Turn, Word, WriteDone, apply}
+use Rattle.kernel_model.specs.Turn.{Act, Alarmed, Edge, Event, Input, NoWord, Stored, Taken, Turn, Word}
+use Rattle.kernel_model.specs.Turn.{WriteDone, apply}
 use Rattle.kernel_model.specs.Laws.{DriversPromise}
 use Rattle.kernel_model.specs.Turn.{is_turn, operated, surroundings, turned}
 use Rattle.kernel_model.specs.World.{now_in}
@@ -46,7 +48,8 @@ use Rattle.kernel_laws.specs.Queues.{queue_for}
 use Rattle.kernel_laws.specs.Withdrawing.{RequestsAreLeft, RequestsAreNotLost, RequestsAreSet, SetsRequest}
 use Rattle.kernel_laws.proofs.Accepted.{Accepts, if_called, of_accepted}
 use Rattle.kernel_laws.proofs.Arming.{LeavesOrSets, accepted_sets, no_row, of_turns}
-use Rattle.kernel_laws.proofs.Asking.{asks, beside_asks, begun, entered_asks, entering_asks, none_put, none_waits, put_asks}
+use Rattle.kernel_laws.proofs.Asking.{asks, beside_asks, begun, entered_asks, entering_asks, none_put}
+use Rattle.kernel_laws.proofs.Asking.{none_waits, put_asks}
 use Rattle.kernel_laws.proofs.Asking.{read_by_done, read_by_write, same_taker, told, write_by_input}
 use Rattle.kernel_laws.proofs.Beside.{answers_beside, driver_answering, scheduled_keeps}
 use Rattle.kernel_laws.proofs.Between.{of_each_answer, of_each_turn, of_turns_at}
@@ -94,7 +97,8 @@ module _ (queue : QueueName) (driver number x y : ℕ) (own : Own) where
             inl (
               none,
               subst (λ (o : Option (RequestOf queue)). IsSomeAnd o
-                  (λ q. IsAskedBy queue q (driver ∷ number ∷ x ∷ y ∷ []))) (sym (entered_asks queue (Some request) own)) asked,
+                  (λ q. IsAskedBy queue q (driver ∷ number ∷ x ∷ y ∷ [])))
+                  (sym (entered_asks queue (Some request) own)) asked,
             ),
           ))
           (inl (refl, λ among reply e. cc))

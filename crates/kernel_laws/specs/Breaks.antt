@@ -1,5 +1,5 @@
--- That an accepted brk or sbrk moves the break of a process where it asks for it, and changes nothing else of what is its
--- own (TRD 104, "Memop"). The rounding is this board's own rule.
+-- That an accepted brk or sbrk moves the break of a process where it asks for it, and changes nothing else of what is
+-- its own (TRD 104, "Memop"). The rounding is this board's own rule.
 use Rattle.std.specs.Prelude.{◌≡◌, ◌<◌, ◌≤◌, ℕ, ◌+◌, ◌-◌, ◌^◌, slice_index, None, IfSome}
 use Rattle.tk_base.specs.Numbers.{rounded_up}
 use Rattle.process_record.specs.declared.emit.CallMade.{CallMade}

@@ -1,6 +1,7 @@
 -- What a delivery, or a yield without one, gives a process, as it sees it: in its registers (TRD 104, "Subscribe",
 -- "Yield").
-use Rattle.std.specs.Prelude.{◌≡◌, ◌≢◌, ◌<◌, ◌⊎◌, ℕ, ◌+◌, ◌-◌, ◌%◌, ◌^◌, false, List, [], ◌∷◌, length, remove, slice_get}
+use Rattle.std.specs.Prelude.{◌≡◌, ◌≢◌, ◌<◌, ◌⊎◌, ℕ, ◌+◌, ◌-◌, ◌%◌, ◌^◌, false, List, [], ◌∷◌, length, remove}
+use Rattle.std.specs.Prelude.{slice_get}
 use Rattle.std.specs.Prelude.{slice_index, None, Some}
 use Rattle.tk_base.specs.Regs.{Registers, register}
 use Rattle.tk_base.specs.declared.upcall.Upcall.{Upcall as Scheduled}
@@ -63,8 +64,8 @@ pub record IsYield (n : ℕ) (call : CallMade) : Type 0 where
 -- waits, and goes back to where it yielded; one that has yielded for one alone, which came, goes on there with its
 -- arguments, and waits for none any more. A yield with 0 runs the first that waits, and goes back behind its `ecall`;
 -- one with 2 goes on behind it with the arguments of the first that waits of that driver and number. Where none waits
--- that with 0 goes on, and that with 2 waits for such a one alone; one with 1 waits for any, and one with another number
--- goes on, whatever waits.
+-- that with 0 goes on, and that with 2 waits for such a one alone; one with 1 waits for any, and one with another
+-- number goes on, whatever waits.
 pub record Delivers (r s : Record) (told : TurnTrace) : Type 0 where
   pub woken : r.process.held ≡ false → r.process.state ≡ Yielded → r.own.inbox.wait ≡ No
       → (upcall : Scheduled) (rest : List Scheduled) → r.own.inbox.pending ≡ upcall ∷ rest

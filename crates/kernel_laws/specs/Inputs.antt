@@ -87,8 +87,8 @@ RingHasTheLast lane w choice =
     IsTheLast (ring_in lane w.devices) (bytes_arriving (option_to_list (arrival_in w choice)))
     (inputs_told (of_lane w.pace.window lane (labels w choice))) (ring_in lane (after w choice).devices)
 
--- Whatever choices are made, where the ring of a lane that is there held no more than it may: each of these steps leaves
--- it so.
+-- Whatever choices are made, where the ring of a lane that is there held no more than it may: each of these steps
+-- leaves it so.
 abbrev pub RingsHaveTheLast : Type 0
 RingsHaveTheLast = (w : World) (choices : List Choice) (lane : ℕ) → lane < length w.devices.lines →
     length (ring_in lane w.devices) ≤ RING_SIZE → Throughout (RingHasTheLast lane) w choices

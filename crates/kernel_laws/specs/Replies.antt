@@ -44,8 +44,8 @@ pub record CallIsSeen (r s : Record) (call : CallMade) : Type 0 where
 abbrev pub RepliesStand : Type 0
 RepliesStand = OfEachTurn (λ r s told. IfSome told.call (CallIsSeen r s))
 
--- A process that runs, and that no operator holds, has its call told where the instruction at pc is an ECALL that it may
--- fetch, of a class that there is.
+-- A process that runs, and that no operator holds, has its call told where the instruction at pc is an ECALL that it
+-- may fetch, of a class that there is.
 abbrev pub TellsItsCall : Record → TurnTrace → Type 0
 TellsItsCall r told =
     r.process.held ≡ false → r.process.state ≡ Running →

@@ -39,7 +39,8 @@ use Rattle.process_record.specs.Process.{after_call, delivery_regs, start_regs, 
 use Rattle.process_record.specs.declared.outcome.Outcome.TheVariants.{GoesOn, Waits}
 use Rattle.process_record.specs.declared.process.State.{State}
 use Rattle.process_record.specs.declared.process.State.TheVariants.{Faulted, Running, Terminated, Yielded}
-use Rattle.kernel_model.specs.Calls.{Served, comes_to, driver_answered, failure_of, restart, served, yield_for, yield_now, yielding}
+use Rattle.kernel_model.specs.Calls.{Served, comes_to, driver_answered, failure_of, restart, served, yield_for}
+use Rattle.kernel_model.specs.Calls.{yield_now, yielding}
 use Rattle.kernel_model.specs.Lives.{HoldsThroughout}
 use Rattle.kernel_model.specs.Parts.{calls, delivery, with_process}
 use Rattle.kernel_model.specs.Record.{Record, byte_at, instruction, with_effect}
@@ -157,7 +158,8 @@ module _ (settings : Settings) (time : ℕ) where
         subst (λ (regs : Registers). length (with_words 10 (reply_words reply) regs).x ≡ 32) (sym same)
         (replied_many reply)
     by_answer s same (Err rule) =
-        subst (λ (regs : Registers). length (with_words 10 (reply_words (Failure (error_of rule))) regs).x ≡ 32) (sym same)
+        subst (λ (regs : Registers). length (with_words 10 (reply_words (Failure (error_of rule))) regs).x ≡ 32)
+        (sym same)
         (replied_many (Failure (error_of rule)))
 
     served_many : (form : CallForm) → Many (served settings.strict (surroundings settings time r) r form)

@@ -169,5 +169,6 @@ pub flags_tell : CallsAreOfEcall → FlagsTell
 flags_tell of_ecall =
     of_each_turn (λ r s told. IfSome told.call (FlagTells r s)) (λ settings time r.
     let t = turned settings time r in
-    if_called t.told.call (λ call. call.class ≡ 0 → call.rule ≡ None → HasCome yields r t.after call) (FlagTells r t.after)
+    if_called t.told.call (λ call. call.class ≡ 0 → call.rule ≡ None → HasCome yields r t.after call)
+    (FlagTells r t.after)
     (λ call comes. flag_tells r t.after call comes) (accepted_yield of_ecall settings time r))

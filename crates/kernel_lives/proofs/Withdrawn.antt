@@ -27,9 +27,12 @@ use Rattle.kernel_model.specs.Named.{words_in}
 use Rattle.kernel_model.specs.Parts.{alarmed, drawn_event, edge_known}
 use Rattle.kernel_model.specs.Record.{Record, flash_of}
 use Rattle.kernel_model.specs.declared.settings.Settings.{Settings}
-use Rattle.kernel_model.specs.Turn.{Act, Event, Taken, TurnTrace, Turned, WriteDone, apply, is_turn, surroundings, turned}
-use Rattle.kernel_model.specs.World.{DeviceAnswer, Label, Stepped, World, after, after_turn_of, answer_label, carried_out}
-use Rattle.kernel_model.specs.World.{device_step_of, done, labels, lane_in, operating, ran, random_step, receive_step, storing}
+use Rattle.kernel_model.specs.Turn.{Act, Event, Taken, TurnTrace, Turned, WriteDone, apply, is_turn}
+use Rattle.kernel_model.specs.Turn.{surroundings, turned}
+use Rattle.kernel_model.specs.World.{DeviceAnswer, Label, Stepped, World, after, after_turn_of, answer_label}
+use Rattle.kernel_model.specs.World.{carried_out}
+use Rattle.kernel_model.specs.World.{device_step_of, done, labels, lane_in, operating, ran, random_step}
+use Rattle.kernel_model.specs.World.{receive_step, storing}
 use Rattle.kernel_model.specs.World.{transmitting, turn_label, unmade}
 use Rattle.kernel_model.proofs.Places.{of_stepped, set_own, slice_get-set_other}
 use Rattle.kernel_model.proofs.Told.{of_device, with_arrived, with_rest}
@@ -39,7 +42,8 @@ use Rattle.kernel_laws.specs.Withdrawing.{SetsRequest}
 use Rattle.kernel_laws.proofs.Asking.{asks, of_restart}
 use Rattle.kernel_laws.proofs.Withdrawing.{leaves, request_becomes}
 use Rattle.kernel_lives.specs.Lists.{asks_at}
-use Rattle.kernel_lives.specs.Requests.{CancelsRead, EndsLife, IsWithdrawnBy, RequestsAreWithdrawn, answers_for, asks_in}
+use Rattle.kernel_lives.specs.Requests.{CancelsRead, EndsLife, IsWithdrawnBy, RequestsAreWithdrawn, answers_for}
+use Rattle.kernel_lives.specs.Requests.{asks_in}
 use Rattle.kernel_lives.proofs.Lives.{same_some}
 
 -- A request that waited is kept still, and waits no more: its process lives no more.
@@ -55,7 +59,8 @@ module _ (queue : QueueName) where
       by_life : (b : Bool) → s.own.lives ≡ b → s.own.lives ≡ false
       by_life false e = e
       by_life true e =
-          absurd (false≢true (sym ends ∙ ap₂ (λ (b : Bool) (o : Option (RequestOf queue)). is_some (cond b o None)) e same
+          absurd (false≢true (sym ends ∙ ap₂ (λ (b : Bool) (o : Option (RequestOf queue)). is_some (cond b o None)) e
+          same
           ∙ kept_waits r.own.lives (asks queue r.own) waits))
 
   -- an answer of another queue's device, or an operator's act, ends one only with its process's life
@@ -169,7 +174,8 @@ module _ (of_ecall : CallsAreOfEcall) (follow : LinesFollowAnswers) (w : World) 
   answered : (at : ℕ) (q : Record) (a : DeviceAnswer) → slice_get w.records at ≡ Some q
       → is_turn a.answer.event ≡ false → Withdrawn (one_answered w at q a)
   answered at q a there no_turn =
-      changes (one_answered w at q a).after at q (apply w.settings a.answer.event q) (answer_label at a.answer) refl there
+      changes (one_answered w at q a).after at q (apply w.settings a.answer.event q) (answer_label at a.answer) refl
+      there
       refl
       (λ waited ends untold. inr (event_ends queue w.settings a.answer.event q no_turn untold waited ends))
 

@@ -62,7 +62,8 @@ use Rattle.process_model.specs.Served.{with_written}
 use Rattle.tk_base.specs.declared.kinds.PairKind.TheVariants.{ReadOnly}
 use Rattle.kernel_lives.proofs.Shown.{clock_shown}
 
--- a process that holds a buffer of four bytes for what comes in, and a function for the alarm, at the start of its block
+-- a process that holds a buffer of four bytes for what comes in, and a function for the alarm, at the start of its
+-- block
 abbrev holds : Record
 holds =
     let r = standing (0x73 ∷ 0 ∷ 0 ∷ 0 ∷ []) 256 (cleared FLASH_START) in
@@ -111,7 +112,8 @@ none_tells_otherwise given = by_args (ap (λ (x : Inbox). first x.pending) given
 none_change_places : (queue : QueueName) (w v : World) → asks_in queue 1 v ≡ true → asks_in queue 2 v ≡ true
     → FollowsRequests queue w v (1 ∷ 2 ∷ []) (2 ∷ 1 ∷ []) → ⊥
 none_change_places queue w v one two follows =
-    by_first (follows.is ∙ ap₂ (λ (b c : _). cond b (1 ∷ cond c (2 ∷ []) []) (cond c (2 ∷ []) []) ++ follows.come) one two)
+    by_first (follows.is ∙ ap₂ (λ (b c : _). cond b (1 ∷ cond c (2 ∷ []) []) (cond c (2 ∷ []) []) ++ follows.come) one
+    two)
   where
     by_first : ◌≡◌ {A = List ℕ} (2 ∷ 1 ∷ []) (1 ∷ 2 ∷ follows.come) → ⊥
     by_first e = cc
@@ -171,7 +173,8 @@ first_args (u ∷ rest) = u.args
 none_without_word : NoWordIsGiven (record { count = 4; written = 0 }) asks_four (told_by 0x40001 0 (0 ∷ 0 ∷ 0 ∷ []))
     → ⊥
 unfolding counts_of drivers shape_of first_args
-none_without_word given = by_outcome given.tells.0 given.tells.1 (ap (λ (x : Inbox). first_args x.pending) given.tells.2)
+none_without_word given = by_outcome given.tells.0 given.tells.1 (ap (λ (x : Inbox). first_args x.pending)
+    given.tells.2)
   where
     by_outcome : (outcome : ℕ) → ((outcome ≡ 0) × (4 ≤ 0)) ⊎ ((outcome ≡ 1) × (0 < 4))
         → ◌≡◌ {A = List ℕ} (0 ∷ 0 ∷ 0 ∷ []) (outcome ∷ 0 ∷ 0 ∷ []) → ⊥
@@ -206,7 +209,8 @@ tells_fault = record { tells = refl; done = refl }
 
 -- no word is left, and it is told so
 tells_none_left : NoWordIsGiven (record { count = 4; written = 0 }) asks_four
-    (record_with_step asks_four (random.advanced (random.progress None (record { count = 4; written = 0 }) asks_four.own)).step)
+    (record_with_step asks_four (random.advanced (random.progress None (record { count = 4; written = 0 })
+    asks_four.own)).step)
 unfolding counts_of drivers shape_of
 tells_none_left = record { tells = (1, inr (refl, omega arith), refl); done = put_none Randoms asks_four.own }
 

@@ -1,5 +1,5 @@
--- That requests which begin to wait add up, why one is withdrawn, and that none outlives the life in which it waits; and
--- that queues follow them.
+-- That requests which begin to wait add up, why one is withdrawn, and that none outlives the life in which it waits;
+-- and that queues follow them.
 -- Requests wait in grants (Levy et al., SOSP 2017, section 4); their queues are this board's own rule.
 use Rattle.std.specs.Prelude.{◌≡◌, ◌⊎◌, ◌≤◌, ℕ, ◌+◌, ◌==◌, ◌&&◌, Bool, true, false, not, List, [], ◌∷◌, slice_get}
 use Rattle.std.specs.Prelude.{slice_index, is_none, Some}
@@ -106,8 +106,8 @@ requests_withdrawn queue slot w [] = 0
 requests_withdrawn queue slot w (choice ∷ choices) =
     once_if (withdraws_in queue slot w choice) + requests_withdrawn queue slot (after w choice) choices
 
--- The requests that began to wait, and the one that waited at first, are exactly those that an answer completed, the one
--- that waits still, and those that were withdrawn.
+-- The requests that began to wait, and the one that waited at first, are exactly those that an answer completed, the
+-- one that waits still, and those that were withdrawn.
 abbrev pub AddUp : ℕ → ℕ → ℕ → ℕ → ℕ → Type 0
 AddUp begun first completed waits withdrawn = begun + first ≡ completed + waits + withdrawn
 

@@ -73,7 +73,8 @@ pub record WritesTruly (v : World) (choices : List Choice) (slot : ℕ) (write :
       let u = after_all v choices in
       slice_get u.records slot ≡ Some r → slice_get (after u choice).records slot ≡ Some s →
       list_any (completes slot) (labels u choice) ≡ true →
-      CompletesTruly write.length (length (written_by slot v choices)) (flat_map (written_in slot) (labels u choice)) r s
+      CompletesTruly write.length (length (written_by slot v choices)) (flat_map (written_in slot) (labels u choice))
+      r s
 
 -- so it is in every run of a world in which what is the processes' own is whole
 abbrev pub WritesCompleteTruly : Type 0

@@ -2,7 +2,8 @@
 -- 104, "Yield", "Exit", "Read-Write Allow"; the userspace-readable allow of Tock's kernel).
 use Rattle.std.specs.Prelude.{◌≡◌, ◌≢◌, ◌⊎◌, ◌≤◌, ◌<◌, ℕ, ◌+◌, ◌==◌, ◌&&◌, Bool, true, false, IsTrue, List, [], length}
 use Rattle.std.specs.Prelude.{slice_get}
-use Rattle.std.specs.Prelude.{min, slice_index, Option, None, Some, is_none, is_some, IfSome, IsSomeAnd, option_map, unwrap_or}
+use Rattle.std.specs.Prelude.{min, slice_index, Option, None, Some, is_none, is_some, IfSome, IsSomeAnd}
+use Rattle.std.specs.Prelude.{option_map, unwrap_or}
 use Rattle.std.specs.List.{Any, list_any}
 use Rattle.tk_base.specs.declared.process.Choice.{Choice}
 use Rattle.tk_base.specs.declared.process.Choice.TheVariants.{Run}

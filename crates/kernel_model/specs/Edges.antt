@@ -1,7 +1,8 @@
 -- What edges of buttons schedule, step by step (TRD 104, "Subscribe", "Yield"; the buttons are Tock's driver 0x3): an
 -- edge of which a process is told schedules one upcall for it, and nothing else schedules any. When edges come is this
 -- board's own rule.
-use Rattle.std.specs.Prelude.{◌≡◌, ◌≢◌, ◌≤◌, ◌<◌, ◌⊎◌, ℕ, ◌+◌, Bool, true, false, if◌then◌else◌, List, [], ◌∷◌, ◌++◌, drop}
+use Rattle.std.specs.Prelude.{◌≡◌, ◌≢◌, ◌≤◌, ◌<◌, ◌⊎◌, ℕ, ◌+◌, Bool, true, false, if◌then◌else◌, List, [], ◌∷◌}
+use Rattle.std.specs.Prelude.{◌++◌, drop}
 use Rattle.std.specs.Prelude.{filter}
 use Rattle.std.specs.Prelude.{length, slice_get, Option, None, Some, IfSome, option_and_then, option_map, unwrap_or}
 use Rattle.std.specs.List.{cons_option}

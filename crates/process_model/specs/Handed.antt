@@ -28,9 +28,9 @@ abbrev pub even : ℕ → ℕ
 even at = at / 2 * 2
 
 -- Whether a process may hand a pair: a function is the null upcall, or 4 bytes of it lie in accessible RAM or flash; a
--- buffer has no bytes, or all lie in accessible RAM, those of a read-only one in accessible RAM or flash. That a function
--- in RAM is taken, which cannot be executed and so faults when it runs, is this board's own rule: TRD 104, "Subscribe",
--- has one outside of executable memory refused.
+-- buffer has no bytes, or all lie in accessible RAM, those of a read-only one in accessible RAM or flash. That a
+-- function in RAM is taken, which cannot be executed and so faults when it runs, is this board's own rule: TRD 104,
+-- "Subscribe", has one outside of executable memory refused.
 abbrev pub may_share : PairKind → Bounds → ℕ × ℕ → Bool
 may_share Upcall e pair = pair.0 == 0 || lies_in_ram e (even pair.0) 4 || lies_in_flash e (even pair.0) 4
 may_share ReadOnly e pair = pair.1 == 0 || lies_in_ram e pair.0 pair.1 || lies_in_flash e pair.0 pair.1

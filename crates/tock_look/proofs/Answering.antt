@@ -16,7 +16,8 @@ use Rattle.tock_look.specs.Answers.{AreAfter, Worlds, answer_text, answers_from,
 use Rattle.tock_look.specs.Looks.{AnswersAll}
 
 -- what was written are the answers to the commands done, and those to all are these and those to what is left
-pub record AnswersSoFar {K : Type 0} (tells : K → SinkFacts) (old now : K) (opening : World) (here : Worlds) (asks left : List Ask)
+pub record AnswersSoFar {K : Type 0} (tells : K → SinkFacts) (old now : K) (opening : World) (here : Worlds)
+    (asks left : List Ask)
     : Type 0 where
   pub done : List ℕ
   pub wrote : WroteAll tells old now done

@@ -1,7 +1,7 @@
 -- Round robin: first a device that is ready; else the present process while its slice lasts; else the processes in
--- turn, the present one last; else time passes until a device becomes ready. The turns are after Tock's round robin; that
--- a process which waits, and goes on before another had a turn, has the rest of its slice, the devices' order and the
--- passes are this board's own rule.
+-- turn, the present one last; else time passes until a device becomes ready. The turns are after Tock's round robin;
+-- that a process which waits, and goes on before another had a turn, has the rest of its slice, the devices' order and
+-- the passes are this board's own rule.
 use Rattle.std.specs.Prelude.{◌≡◌, ◌<◌, ◌^◌, ℕ, ◌+◌, ◌-◌, ◌==◌, Bool, false, ◌&&◌, nat_lt, if◌then◌else◌, List, [], ◌∷◌}
 use Rattle.std.specs.Prelude.{◌++◌, find, slice_index_or, unwrap_or, Option, None, Some}
 use Rattle.std.specs.List.{range_with_len}

@@ -4,4 +4,5 @@ use Rattle.tock_look.proofs.Answering.{AnswersSoFar}
 use Rattle.tock_look.proofs.look.answer_all.Given as goal
 
 abbrev pub invariant-loop-ask : goal.invariant-loop-ask
-invariant-loop-ask g l = AnswersSoFar g.K.Sink.tells l.fn.out l.out l.fn.board (worlds_of l.boards) l.asks (drop l.ask-index l.asks)
+invariant-loop-ask g l = AnswersSoFar g.K.Sink.tells l.fn.out l.out l.fn.board (worlds_of l.boards) l.asks
+    (drop l.ask-index l.asks)

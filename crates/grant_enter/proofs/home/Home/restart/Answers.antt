@@ -39,7 +39,8 @@ restart_seat-requires-clause-life c =
 
 pub invariant_of-self : goal.invariant_of-self
 invariant_of-self c =
-    reseated (reads (goal.at.invariant_of-self c).After-index_mut-seat) c.restart_seat.new.memory c.restart_seat.new.seat
+    reseated (reads (goal.at.invariant_of-self c).After-index_mut-seat) c.restart_seat.new.memory
+    c.restart_seat.new.seat
     c.restart_seat.ensures.reseats
 
 pub returns-clause-own : goal.returns-clause-own
