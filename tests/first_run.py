@@ -95,7 +95,6 @@ class Repository:
         shutil.copy(TOCK, self.top)
         for tool in ("proving", "told", "debugger", "picture"):
             shutil.copytree(os.path.join(REPOSITORY, "tools", tool), os.path.join(self.top, "tools", tool))
-        shutil.copy(os.path.join(REPOSITORY, "tools", "prove"), os.path.join(self.top, "tools"))
         self.prover(1)
 
     def writes(self, name, text, file="lib.rt"):

@@ -89,7 +89,6 @@ class Project:
         write(folder, "HANDLES", "Handles allowed: none.\n")
         shutil.copy(TOCK, folder)
         shutil.copytree(os.path.join(REPOSITORY, "tools", "proving"), os.path.join(folder, "tools", "proving"))
-        shutil.copy(os.path.join(REPOSITORY, "tools", "prove"), os.path.join(folder, "tools"))
 
     def runs(self):
         """How ./tock ends there, without what is told of the run."""

@@ -43,12 +43,26 @@ BAD_RUNS = NOTHING + [["script", "script"], ["image", "none"], ["none", "script"
                       RUN + ["--slot", "5", "elf"]]
 
 # Each tool. What examples/tour does is looked at in around.py, and what cargo calls in rust.py. Without words
-# tools/prove proves for minutes.
+# tools/proving/prove proves for minutes.
 TOOLS = {
     "bench/run": Tool(refuses=NOTHING + [["script"], ["--count"], ["--count", "none"], ["{program}", "none"],
                                          ["{program}", "0"], ["{program}", "500000001"], ["{program}", "1", "1"]],
                       misses=[(["{program}", "1"], 1, "there is no rustc"),
                               (["--count", "{program}"], 1, "there is no valgrind")]),
+    "checks/cases": TESTED,
+    "checks/check": Tool([(["decimal_number", "number_up_to"], r"^fn decimal_number::number_up_to: no holes$")],
+                         ("rt",),
+                         NOTHING + [["decimal_number"], ["decimal_number", "--start"], ["none", "number_up_to"]],
+                         [(["decimal_number", "number_up_to"], 1, "rt is not on PATH")]),
+    "checks/citations": TESTED,
+    "checks/crates": TESTED,
+    "checks/evaluate": TESTED,
+    "checks/headline": TESTED,
+    "checks/release": Tool([(["--test"], r""), ([], r"^program tock: "),
+                            (["lines", "lines"], r"^program tock is the same$")], ("rt", "git"),
+                           [["none"], ["--nonsense"], ["--test", "more"], ["script", "script"], ["lines", "none"]],
+                           [([], 1, "git: No such file or directory")]),
+    "checks/tables": TESTED,
     "examples/addresses": Tool([(["tables", "object", TOOLCHAIN], r"^$"), (["words", "elf"], r"^$")], (COMPILER,),
                                NOTHING + [["tables", "none", TOOLCHAIN], ["words", "script"], ["words", "cut"]],
                                [(["tables", "table", "none-"], 1, "none-objcopy: No such file or directory")]),
@@ -66,27 +80,14 @@ TOOLS = {
     "tools/campaign": Tool([(["trace"], r"^ +1 not done$"), (["--which", "not done", "trace"], r"^trace$"),
                             (["--picture", "--by", "time", "trace"], r"^</svg>$")],
                            refuses=NOTHING + [["--by", "size", "trace"], ["--which", "well", "trace"]]),
-    "tools/cases": TESTED,
-    "tools/check": Tool([(["decimal_number", "number_up_to"], r"^fn decimal_number::number_up_to: no holes$")], ("rt",),
-                        NOTHING + [["decimal_number"], ["decimal_number", "--start"], ["none", "number_up_to"]],
-                        [(["decimal_number", "number_up_to"], 1, "rt is not on PATH")]),
-    "tools/citations": TESTED,
-    "tools/crates": TESTED,
     "tools/debug": Tool([(LOST + ["--", "-nx", "-batch", "-ex", "slots"], r"^slot 0 lost running turns 0 restarts 0$")],
                         (LOOK, COMPILER, DEBUGGER), BAD_RUNS,
                         [(RUN, 1, "there is no gdb-multiarch: on Debian, apt-get install gdb-multiarch")]),
-    "tools/evaluate": TESTED,
-    "tools/headline": TESTED,
     "tools/live": Tool([(RUN + ["--plain"], r"^slot 0 lost running turns 0 restarts 0$")], (LOOK,),
                        NOTHING + [["none", "script"]]),
-    "tools/prove": Tool(),
-    "tools/release": Tool([(["--test"], r""), ([], r"^program tock: "),
-                           (["lines", "lines"], r"^program tock is the same$")], ("rt", "git"),
-                          [["none"], ["--nonsense"], ["--test", "more"], ["script", "script"], ["lines", "none"]],
-                          [([], 1, "git: No such file or directory")]),
+    "tools/proving/prove": Tool(),
     "tools/script": Tool([(["typed"], r"^at 100 input 780a$"), (["--into", "made", "typed"], r"^$")],
                          refuses=[["none"], ["--nonsense"], ["typed", "typed"], ["--into"], ["--into", "made"]]),
-    "tools/tables": TESTED,
     "tools/timeline": Tool([(["trace"], r"^</svg>$"), (["--script", "script", "--slots", "0", "trace"], r"^</svg>$")],
                            refuses=[["none"], ["--nonsense"], ["trace", "trace"], ["--slots", "x", "trace"]]),
     "tools/where": Tool([(LOST, r"^1 denial; the run ends so:$")], (LOOK, COMPILER),
@@ -96,9 +97,9 @@ TOOLS = {
 
 
 def tools_there():
-    """The files of the four folders that can be run, from the repository's top."""
+    """The files of the five folders that can be run, from the repository's top."""
     found = []
-    for top in ("bench", "examples", "tests", "tools"):
+    for top in ("bench", "checks", "examples", "tests", "tools"):
         for folder, below, names in os.walk(os.path.join(REPOSITORY, top)):
             below[:] = [name for name in below if name != "out"]
             paths = [os.path.join(folder, name) for name in names]

@@ -12,7 +12,7 @@ has_prover() {
 build() {
     local begun=$top/out/stamp.begun
     rm -f "$program"
-    begin_stamp "$begun" && "$top/tools/prove" && [ -x "$program" ] && end_stamp "$begun"
+    begin_stamp "$begun" && "$top/tools/proving/prove" && [ -x "$program" ] && end_stamp "$begun"
 }
 
 # Until the program is that of the sources as they stand. Of two runs at once, one waits for the other.

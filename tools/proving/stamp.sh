@@ -16,8 +16,8 @@ stamp=$top/out/stamp
 made_of() {
     local folders
     mapfile -t folders <"$1" || return
-    (cd "$top" && find crates.txt HANDLES tools/prove tools/proving "${folders[@]}" -path '*/out' -prune -o -type f \
-        \( -name '*.rt' -o -name '*.antt' -o -name crates.txt -o -name HANDLES -o -path 'tools/prov*' \) "${@:2}" \
+    (cd "$top" && find crates.txt HANDLES tools/proving "${folders[@]}" -path '*/out' -prune -o -type f \
+        \( -name '*.rt' -o -name '*.antt' -o -name crates.txt -o -name HANDLES -o -path 'tools/proving/*' \) "${@:2}" \
         2>/dev/null)
 }
 
@@ -65,7 +65,7 @@ is_built() {
 
 # begin_stamp FOLDER: writes there all of a stamp that is to be known before the sources are proved.
 begin_stamp() {
-    rm -rf "$1" && mkdir -p "$1" && "$top/tools/prove" --crates >"$1/crates" &&
+    rm -rf "$1" && mkdir -p "$1" && "$top/tools/proving/prove" --crates >"$1/crates" &&
         listed_sources "$1/crates" >"$1/listing" && summed "$1/crates" >"$1/sums" && rt version >"$1/prover"
 }
 

@@ -312,7 +312,7 @@ class Page(unittest.TestCase):
     def test_pages_that_are_kept(self):
         self.assertEqual(faults.stale({"a.md": (self.made, self.made)}), [])
         self.assertEqual(faults.stale({"a.md": (self.made, self.made), "b.md": (self.laws, "")}),
-                         ["docs/b.md is not what the sources give: run tools/headline"])
+                         ["docs/b.md is not what the sources give: run checks/headline"])
 
     def test_numbers_of_all_guarantees(self):
         reached = reach(Names(self.sources), plan(GUARANTEES=[("top/law.rt", "it_idles")]), [])
@@ -359,22 +359,22 @@ class Faults(unittest.TestCase):
 
     def test_words_without_a_sentence(self):
         self.assertEqual(faults_of(small(self.sound()), library(max="the greater")),
-                         ["tools/believed/library.py has no sentence on ◌+◌"])
+                         ["checks/believed/library.py has no sentence on ◌+◌"])
 
     def test_parts_that_are_nowhere(self):
         self.assertEqual(faults_of(small(self.sound()), PARTS=["`Promises`, field `left`, by `Gone`"]),
-                         ["tools/believed/sections.py: Gone is nowhere on the page"])
+                         ["checks/believed/sections.py: Gone is nowhere on the page"])
 
     def test_pictures_of_what_is_nowhere(self):
-        wrong = "tools/believed/sections.py: %s is nowhere on the page"
+        wrong = "checks/believed/sections.py: %s is nowhere on the page"
         self.assertEqual(faults_of(small(self.sound()), PICTURE="State -> Gone -> gone_too"),
                          [wrong % "Gone", wrong % "gone_too"])
         self.assertEqual(faults_of(small(self.sound()), ARROWS=[("->", "`gone`", "1")]), [wrong % "gone"])
 
     def test_no_section(self):
         found = faults_of(small(self.sound()), SECTIONS=[("First", ["top", "gone/File"])])
-        self.assertEqual(found, ["base/Sums is in no section of tools/believed/sections.py",
-                                 "tools/believed/sections.py: nothing is reached of gone/File"])
+        self.assertEqual(found, ["base/Sums is in no section of checks/believed/sections.py",
+                                 "checks/believed/sections.py: nothing is reached of gone/File"])
 
     def test_too_long(self):
         self.assertEqual(len(faults_of(small(self.sound()), LIMIT=10)), 1)
@@ -386,7 +386,7 @@ class Faults(unittest.TestCase):
 
     def test_a_law_of_what_is_given_that_none_cites(self):
         self.assertEqual(faults_of(small(self.sound()), GIVEN=("top/law.rt", "it_idles")),
-                         ["tools/believed/sections.py: no document cites the law it_idles"])
+                         ["checks/believed/sections.py: no document cites the law it_idles"])
 
     def test_functions_that_are_gone(self):
         with self.assertRaisesRegex(Unread, "no public function lose"):

@@ -33,8 +33,8 @@ def unplaced(plan, reached):
     files = {found.place: found for found in reached.under.definitions if section_of(plan, found) is None}
     reaches = {entry for found in reached.under.definitions
                for entry in (found.crate, found.place, key(found))}
-    missing = ["%s is in no section of tools/believed/sections.py" % place for place in files]
-    idle = ["tools/believed/sections.py: nothing is reached of %s" % entry
+    missing = ["%s is in no section of checks/believed/sections.py" % place for place in files]
+    idle = ["checks/believed/sections.py: nothing is reached of %s" % entry
             for _, listed in plan.SECTIONS for entry in listed if entry not in reaches]
     return missing + idle
 
@@ -43,7 +43,7 @@ def uncited(plan, reached):
     """Whether no document cites the law of what the program is given."""
     cited = [contract.key for _, laws in reached.laws for contract, _ in laws]
     is_cited = plan.GIVEN is None or plan.GIVEN in cited
-    return [] if is_cited else ["tools/believed/sections.py: no document cites the law %s" % plan.GIVEN[1]]
+    return [] if is_cited else ["checks/believed/sections.py: no document cites the law %s" % plan.GIVEN[1]]
 
 
 def unexplained(reached):
@@ -75,7 +75,7 @@ def without_source(sources, reached):
 def untold_words(reached, library):
     """Words of the library without a sentence."""
     told = {word for _, words in library for word in words}
-    return ["tools/believed/library.py has no sentence on %s" % word for word in sorted(reached.library - told)]
+    return ["checks/believed/library.py has no sentence on %s" % word for word in sorted(reached.library - told)]
 
 
 def unknown_parts(plan, reached):
@@ -87,7 +87,7 @@ def unknown_parts(plan, reached):
     words = set(re.findall(r"\w+", "\n".join(texts)))
     told = plan.PARTS + [cell for row in plan.ARROWS for cell in row]
     cited = re.findall(r"`(\w+)`", "\n".join(told)) + NAMED.findall(plan.PICTURE)
-    return ["tools/believed/sections.py: %s is nowhere on the page" % name for name in cited if name not in words]
+    return ["checks/believed/sections.py: %s is nowhere on the page" % name for name in cited if name not in words]
 
 
 def too_long(plan, reached):
@@ -111,7 +111,7 @@ def too_many_lines(plan, page):
 
 def stale(pages):
     """Pages that are kept otherwise than the sources give them: for each what these give, and what is kept."""
-    return ["docs/%s is not what the sources give: run tools/headline" % page
+    return ["docs/%s is not what the sources give: run checks/headline" % page
             for page, (made, kept) in pages.items() if made != kept]
 
 
@@ -122,5 +122,5 @@ def other_numbers(reached, document):
         if not form.search(document):
             wrong.append("docs/definitions.md does not say '%s'" % sentence)
         elif form.search(document)[0] != sentence:
-            wrong.append("docs/definitions.md has other numbers than the sources: run tools/headline")
+            wrong.append("docs/definitions.md has other numbers than the sources: run checks/headline")
     return wrong

@@ -9,7 +9,7 @@ from standards import STANDARDS
 
 def first_text(plan, reached):
     """What the page is, the headline in a sentence, which names have its parts, and what is not promised."""
-    told = ("`tools/headline` makes this page from the sources; do not edit it. It has the contract of `%s`, which is "
+    told = ("`checks/headline` makes this page from the sources; do not edit it. It has the contract of `%s`, which is "
             "what is proved of the whole program, with every definition under it, its comment and the standard that it "
             "comes from. On [another page](%s) stand what a board shows, the contracts of the other guarantees, and "
             "each law that is cited." % (reached.headline.name, LAWS))

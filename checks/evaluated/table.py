@@ -83,10 +83,10 @@ def counts(rows):
 HEAD = """\
 # Which definitions have a worked example
 
-`tools/evaluate` makes this page; do not edit it. It evaluates the definitions under the contract of `serve`, as [the \
+`checks/evaluate` makes this page; do not edit it. It evaluates the definitions under the contract of `serve`, as [the \
 page of the headline](headline.md) prints them, and those of [what `soak` runs](laws.md#soak_files_are_generated), on \
 %s of `tests/cases`, and what they come to is the text that is written there. The evaluator is not the kit's: \
-`tools/evaluated` has the words of the library by [their \
+`checks/evaluated` has the words of the library by [their \
 sentences](headline.md#the-words-of-the-library). In runs of up to %d steps it also finds each record at the end to \
 be that of its process alone, as `IsAccountedRun` says. %d more examples have too many steps, numbers that a compiler \
 decides, or words that are no texts, and are not evaluated.
@@ -95,7 +95,7 @@ decides, or words that are no texts, and are not evaluated.
 |---|---|"""
 STATEMENTS = """
 A function is evaluated; a statement is not, but cases of it, or of its parts, are proved, in files `Worked.antt` of \
-proofs (`tools/cases`).
+proofs (`checks/cases`).
 """
 FUNCTIONS = """\
 ## Functions of which examples use not all

@@ -59,8 +59,8 @@ NOT_PROMISED = [
     "disabled or has no place is not run, and the answer may be 0.",
     "*Agreement with any real board*, or with the code of Tock's kernel; speed, energy and real time.",
     "*What stands beside the program*: `tock_look` has [a contract of its own](looking.md#what-is-proved), which is "
-    "not on this page; the script `./tock` and what it tells (`tools/told`), the debugger, `tools/` and `tests/` have "
-    "none.",
+    "not on this page; the script `./tock` and what it tells (`tools/told`), the debugger, `tools/`, `checks/` and "
+    "`tests/` have none.",
 ]
 
 SECTIONS = [
@@ -141,7 +141,7 @@ ASSUMPTIONS = [
     ("*The kit's library*: its functions keep their contracts, and its words mean what [their "
      "sentences](#the-words-of-the-library) say.",
      "a function that does another thing; a sentence that is wrong",
-     "worked examples; `tools/evaluate`, whose evaluator has the words by these sentences, and [comes to the same "
+     "worked examples; `checks/evaluate`, whose evaluator has the words by these sentences, and [comes to the same "
      "texts](worked.md); reading its sources in the kit"),
     ("*The ported crates*: the contracts of what is called of %s hold of their code. The kit has them in "
      "`rattle/NAME/src`, and quotes the chief ones in `rattle/NAME/CALLING.md`."
@@ -179,13 +179,14 @@ ASSUMPTIONS = [
     ("*`./tock`*: the program that it runs is the one that was proved. It has `rt ci` prove and build anew what a "
      "changed source reaches, of copies of the crates that the program stands on, which it compares with these byte "
      "for byte.",
-     "a source that was changed and kept its size and time; `tools/prove`, where it copies and compares otherwise",
+     "a source that was changed and kept its size and time; `tools/proving/prove`, where it copies and compares "
+     "otherwise",
      "`rt ci` here, whose program is the same, byte for byte; a first run after `out/` is deleted"),
     ("*`TOCK_PROGRAM`* is not set: where it is, `./tock` runs what it names, proved or not, and does not say so.",
      "an environment that sets it", "`env`"),
-    ("*The maker of this page*, `tools/headline`: it leaves out no definition on which a contract here rests, and its "
+    ("*The maker of this page*, `checks/headline`: it leaves out no definition on which a contract here rests, and its "
      "sentences on names are right.",
-     "a name that it reads as another one", "`tools/headline --test`; reading a definition where it stands"),
+     "a name that it reads as another one", "`checks/headline --test`; reading a definition where it stands"),
 ]
 
 PROOFS_ONLY = "Only proofs use this"

@@ -16,7 +16,7 @@ def group_text(layout, title, told, group):
 def first_text():
     """What the page is."""
     return ["# Laws, and what else stands beside the headline", "",
-            "`tools/headline` makes this page from the sources; do not edit it. It has what stands beside [the "
+            "`checks/headline` makes this page from the sources; do not edit it. It has what stands beside [the "
             "headline](%s): what a board shows, the contracts of the other "
             "guarantees, and each law that the README and [claims.md](claims.md) cite, each with the definitions that "
             "it adds to those before it, and to those of the headline. How definitions are written, the words of the "
