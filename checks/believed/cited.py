@@ -7,14 +7,17 @@ import glob
 import os
 import re
 from dataclasses import dataclass, field
+from functools import cache
+
+import items
+import sources
+from items import functions_named
 
 NAMES = r"((?:`[A-Za-z_][\w:]*`(?:, clauses? |, fields? |, | and | of )?)+)"
 # A file, by its crate, its folder there and its name, of which the first two may lack.
 FILE = re.compile(r"`(crates/)?(?:(?:([a-z]\w*)/)?((?:src|specs|proofs)(?:/\w+)*)/)?(\w+\.(?:rt|antt))`")
 WHOLE = r"[a-z]\w*/(?:src|specs|proofs)/[\w/]+\.\w+"
 CITED = re.compile(NAMES + r"(?: in | \()`(?:crates/)?(%s|[a-z]\w*)`" % WHOLE)
-DECLARES = r"\b(?:fn|ensures\*?|struct|enum|trait|type|const|mod|record|data|pub)\s+{0}\b|^(?:abbrev )?{0} :"
-LAW = r"^ *pub fn %s\(\)\s+ensures\b"
 
 
 @dataclass
@@ -39,20 +42,26 @@ def reader(top):
     return text_of
 
 
+@cache
+def bare(text):
+    """A source, or several, without the lines that are comments."""
+    return re.sub(r"(?m)^\s*(//|--).*$", "", text)
+
+
 def declares(text, name):
     """Whether a source has a function, type, definition, lemma, field or clause of a name, `a::b` being that of b."""
-    pattern = DECLARES.format(name.split("::")[-1])
-    return re.search(pattern, re.sub(r"(?m)^\s*(//|--).*$", "", text), re.M) is not None
+    last = name.split("::")[-1]
+    return last in items.declared(bare(text)) or last in sources.declared(bare(text))
 
 
 def is_law(text, name):
-    """Whether a source has a law of a name: a public function that is given nothing and has a contract."""
-    return re.search(LAW % re.escape(name), text, re.M) is not None
+    """Whether a source has a law of a name."""
+    return any(found.is_law for found in functions_named(text, name))
 
 
 def is_function(text, name):
     """Whether a source has a public function of a name, `A::b` being `b`."""
-    return re.search(r"^ *pub fn %s\b" % re.escape(name.split("::")[-1]), text, re.M) is not None
+    return any(found.is_public for found in functions_named(text, name))
 
 
 def with_crates(line):
@@ -81,11 +90,8 @@ def parts_in(cited):
 
 def has_part(text, owner, name):
     """Whether a function of a source has a clause of a name, or a record a field."""
-    bare, owner = re.sub(r"(?m)^\s*(//|--).*$", "", text), re.escape(owner.split("::")[-1])
-    contracts = re.findall(r"\bfn %s\b(.*?)(?:^\s*\{|;$|\Z)" % owner, bare, re.M | re.S)
-    records = re.findall(r"^pub record %s\b(.*?)(?=^\S|\Z)" % owner, bare, re.M | re.S)
-    return any(re.search(r"\bensures\*? %s \{" % name, contract) for contract in contracts) \
-        or any(re.search(r"^\s+pub %s :" % name, record, re.M) for record in records)
+    clauses = [clause.name for found in functions_named(text, owner) for clause in found.promises]
+    return name in clauses or name in sources.fields_of(bare(text), owner.split("::")[-1])
 
 
 def citations(page, read):

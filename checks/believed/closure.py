@@ -3,14 +3,13 @@
 import re
 from dataclasses import dataclass, field
 
-from sources import INSIDE, Unread, comment_above, model_part
+from items import functions_named
+from sources import INSIDE, Unread
 
 WORD = re.compile(r"[^\s(){}\[\],;.\"\\`]+")
 TEXT = re.compile(r'"(?:[^"\\]|\\.)*"')
 READ = re.compile(r"\.([^\W\d]\w*)")
-FIELD = re.compile(r"\s+(?:pub(?:\([^)]*\))? )?(\w+): ")
 TYPE_NAME = re.compile(r"\b[A-Z]\w*")
-CLAUSE = re.compile(r"(?:ensures|requires|ghost)[^{;]*\{(.*?)\}\s*(?=ensures|requires|;|fn|$)", re.S)
 
 
 @dataclass
@@ -90,7 +89,7 @@ class Names:
         module = self.sources.modules.get((crate, file))
         if not module or name not in module.models:
             raise Unread("%s has no model of %s" % (place, name))
-        return self.in_contract(module, model_part(module, name, "view"))
+        return self.in_contract(module, module.model_part(name, "view"))
 
     def in_code(self, module, text):
         """The types that a piece of code names."""
@@ -127,25 +126,16 @@ def meaning_at(names, spec, text, at):
     return names.in_spec(spec, at[0])
 
 
-def without_unread(of, reads):
-    """The code of a type, without the fields of a struct that are not among those that are read."""
-    lines = of.code()
-    if of.kind == "struct":
-        fields = [FIELD.match(line) for line in lines]
-        lines = [line for line, at in zip(lines, fields) if not at or at[1] in reads]
-    return "\n".join(lines)
-
-
 def type_meanings(names, of, reads):
     """What a type rests on. One with a model is seen as its value; where it is opened, also by its view and by those of
     its fields that are read."""
     module = names.sources.modules[of.crate, of.file]
     if reads is None and of.name in module.models:
-        return names.in_contract(module, model_part(module, of.name, "Value"))
+        return names.in_contract(module, module.model_part(of.name, "Value"))
     if of.kind == "trait":
-        return [found for clause in CLAUSE.findall(of.text) for found in names.in_contract(module, clause)]
-    model = " ".join(model_part(module, of.name, part) for part in ("Value", "view"))
-    code = "\n".join(of.code()) if reads is None else without_unread(of, reads)
+        return [found for clause in of.clauses() for found in names.in_contract(module, clause.said)]
+    model = " ".join(module.model_part(of.name, part) for part in ("Value", "view"))
+    code = "\n".join(of.code()) if reads is None else of.code_that_reads(reads)
     return names.in_contract(module, model) + (names.in_code(module, code) if of.kind != "type" else [])
 
 
@@ -173,7 +163,7 @@ def closure(names, starts, reads=None):
 def fields_read(names, reached):
     """The fields that definitions and views read."""
     texts = ["\n".join(found.lines) for found in reached.definitions]
-    texts += [model_part(names.sources.modules[of.crate, of.file], of.name, "view") for of in reached.types]
+    texts += [names.sources.modules[of.crate, of.file].model_part(of.name, "view") for of in reached.types]
     return {name for text in texts for name in READ.findall(TEXT.sub(" ", text))}
 
 
@@ -190,12 +180,25 @@ def opened(names, starts):
 
 @dataclass
 class Contract:
-    """A public function of src/: where it stands, its comment, its signature with its clauses, and what these name."""
+    """A public function of src/ with its contract: the file where it stands, and what its clauses and types name."""
     module: object
-    name: str
-    comment: str
-    text: str
+    function: object
     starts: list
+
+    @property
+    def name(self):
+        """The function's name."""
+        return self.function.name
+
+    @property
+    def text(self):
+        """The signature with its clauses."""
+        return self.function.text
+
+    @property
+    def comment(self):
+        """The function's comment, without the marks before its lines."""
+        return "\n".join(line[3:].strip() for line in self.function.comment.split("\n"))
 
     def code(self):
         """Its lines."""
@@ -208,22 +211,19 @@ class Contract:
 
     @property
     def premises(self):
-        """What it requires of its caller."""
-        return re.findall(r"^\s*requires.*$", self.text, re.M)
+        """What it requires of its caller, as it is written."""
+        return ["    " + clause.written for clause in self.function.premises]
 
 
 def contract_of(names, place, function):
     """The contract of a function of a file, which is given as crate/file.rt."""
     crate, _, file = place.partition("/")
     module = names.sources.modules.get((crate, file))
-    found = module and re.search(r"^( *)pub fn %s\b.*?(?=^\1\{)" % function, module.text, re.M | re.S)
+    found = module and next((found for found in functions_named(module.text, function) if found.is_public), None)
     if not found:
         raise Unread("%s has no public function %s" % (place, function))
-    signature = re.split(r"\n\s*(?:requires|ensures)", found[0])[0]
     try:
-        starts = names.in_contract(module, found[0]) + names.in_code(module, signature)
+        starts = names.in_contract(module, found.text) + names.in_code(module, found.signature)
     except Unread as unread:
         raise Unread("%s of %s: %s" % (function, place, unread)) from None
-    comment = "\n".join(line[3:].strip() for line in comment_above(module.text, found.start()).split("\n"))
-    text = "\n".join(line[len(found[1]):] for line in found[0].rstrip().split("\n"))
-    return Contract(module, function, comment, text, starts)
+    return Contract(module, found, starts)

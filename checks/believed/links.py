@@ -4,7 +4,8 @@ from collections import defaultdict
 
 from blocks import HEADLINE, LAWS, anchor
 from closure import meanings, type_meanings
-from sources import Definition, Type
+from items import Type
+from sources import Definition
 
 # How many that use a definition are named; of more it is said how many.
 MOST_USERS = 8

@@ -4,6 +4,7 @@ meets it, or says that nothing does; its table of channels has each field of a w
 import re
 
 from cited import CITED
+from sources import fields_of
 
 # The last cell of a table's head, and the words by which a row says that nothing is cited.
 COLUMNS = {"Countered by": "not countered", "Met by": "not met"}
@@ -33,16 +34,10 @@ def without_citation(page):
             if last in COLUMNS and not CITED.search(cells[-1]) and COLUMNS[last] not in cells[-1]]
 
 
-def fields_in(text, record):
-    """The fields of a record of a source."""
-    body = re.search(r"^pub record %s\b.*?\n(.*?)(?=^\S|\Z)" % record, text, re.M | re.S)
-    return re.findall(r"^\s+pub (\w+) :", body[1], re.M) if body else []
-
-
 def channels_lacking(page, read, world=None):
     """Fields of a world of which the table of channels has no row, and names there that are no field."""
     fields = {name for place, records in (world or WORLD).items() for record in records
-              for name in fields_in(read(place), record)}
+              for name in fields_of(read(place), record)}
     rows = [(number, name) for number, heading, _, cells in rows_of(page) if heading == CHANNELS
             for name in re.findall(r"`(\w+)`", cells[0])]
     return (["%d: a world has no field `%s`" % row for row in rows if row[1] not in fields]

@@ -10,7 +10,9 @@ from laws_page import laws_page
 from layout import Layout, beside, one_behind_another
 from page import headline_page
 from reach import reach
-from sources import Sources, Unread, read_module, read_spec
+from small_items import Reading
+from items import read_module
+from sources import Sources, Unread, read_spec
 
 BASE = """\
 -- Sums and pairs (RISC-V unprivileged manual, "Sums").
@@ -396,5 +398,5 @@ class Faults(unittest.TestCase):
 def run():
     """Runs all of these, and answers the exit status."""
     tests = unittest.TestSuite(unittest.defaultTestLoader.loadTestsFromTestCase(case)
-                               for case in (Following, Page, Faults))
+                               for case in (Reading, Following, Page, Faults))
     return 0 if unittest.TextTestRunner().run(tests).wasSuccessful() else 1

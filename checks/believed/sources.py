@@ -1,14 +1,16 @@
-"""Reads the sources of the crates: the definitions of specs/, and the types, models and contracts of src/."""
+"""Reads the sources of the crates: the definitions of specs/ here, the files of src/ by items.py."""
 
 import os
 import re
 from dataclasses import dataclass, field
+from functools import cache
+
+from items import names_listed, read_module
 
 KEYWORDS = {"abbrev", "unfoldable", "opaque", "pub", "record", "data", "lemma", "mod", "def"}
 INSIDE = ("TheVariants", "TheConstants", "TheInside", "TheFields")
-TYPE = re.compile(r"^[ \t]*(?:pub(?:\([^)]*\))? )?(struct|enum|trait|const|type)\s+(\w+)", re.M)
-MODEL = re.compile(r"^impl(?:<[^>]*>)? Model for (\w+)(?:<[^>]*>)? \{(.*?)^\}", re.M | re.S)
-USE = re.compile(r"^\s*(ghost )?(?:pub )?use ([^;]+);", re.M)
+# The words behind which a name is declared, and a name before its type.
+DECLARED = re.compile(r"(?:^(?:\w+ )*(?:record|data)|\b(?:pub|mod))\s+(?=(\w+))|^(?:abbrev )?(\w+) :", re.M)
 
 
 class Unread(Exception):
@@ -60,59 +62,6 @@ class Spec:
         return {name: found for found in self.definitions.values() for name in found.constructors()}
 
 
-@dataclass
-class Type:
-    """A struct, enum, trait, constant or alias of src/, with its comments."""
-    crate: str
-    file: str
-    kind: str
-    name: str
-    text: str
-    comment: str
-    # What contracts see it as, by its model; "" where it has none.
-    value: str = ""
-
-    @property
-    def key(self):
-        """By which types are ordered."""
-        return (self.crate, self.file, self.name)
-
-    def written(self):
-        """Its lines with comments, without attributes. A variant stands with its fields in one line, as a constructor
-        of a definition does."""
-        lines = [line for line in self.text.strip("\n").split("\n") if not line.strip().startswith("#[")]
-        return variants_joined(lines) if lines[0].startswith("pub enum") else lines
-
-    def code(self):
-        """Its lines without comments."""
-        return [line for line in (line.split("//")[0] for line in self.written()) if line.strip()]
-
-
-@dataclass
-class Module:
-    """A file of src/: its types, what it uses in code and in contracts, and the models of its types."""
-    crate: str
-    file: str
-    text: str
-    types: dict = field(default_factory=dict)
-    uses: dict = field(default_factory=dict)
-    ghosts: dict = field(default_factory=dict)
-    models: dict = field(default_factory=dict)
-
-
-def variants_joined(lines):
-    """The lines of an enum, with each variant that has named fields in one line."""
-    joined, is_open = [], False
-    for line in lines:
-        if is_open:
-            joined[-1] = (joined[-1] + " " + line.strip()).replace(", },", " },")
-        else:
-            joined.append(line)
-        begins = line.startswith("    ") and line.endswith("{") and not line.strip().startswith("//")
-        is_open = line.strip() != "}," and (is_open or begins)
-    return joined
-
-
 def without_comment(line):
     """A line of a spec without the comment that begins with `--`."""
     in_text = False
@@ -134,12 +83,6 @@ def comment_start(raw, line):
 def head_size(raw):
     """How many lines the comment at the head of a file has."""
     return next((at for at, line in enumerate(raw) if not line.startswith("--")), len(raw))
-
-
-def names_listed(listed):
-    """The names of a list in braces, each with the name that it has here."""
-    parts = [part.strip().split(" as ") for part in listed.split(",") if part.strip()]
-    return [(part[0].strip(), part[-1].strip()) for part in parts]
 
 
 def read_import(spec, line):
@@ -202,57 +145,16 @@ def read_spec(crate, file, text):
     return spec
 
 
-def end_of_type(text, at):
-    """Where the item ends that begins before a place: behind its `;` or its closing brace."""
-    depth = 0
-    for end in range(at, len(text)):
-        depth += (text[end] in "{([") - (text[end] in "})]")
-        if depth == 0 and (text[end] == "}" or text[end] == ";"):
-            return end + 1
-    return len(text)
+@cache
+def declared(text):
+    """The names of what a text of specs/ declares: definitions, lemmas, modules, and fields that are public."""
+    return {name for names in DECLARED.findall(text) for name in names if name}
 
 
-def comment_above(text, at):
-    """The comment of an item that begins at a place, its attributes left out."""
-    lines = []
-    for line in reversed(text[:at].split("\n")[:-1]):
-        if not line.strip().startswith(("///", "#[")):
-            break
-        lines.insert(0, line.strip())
-    return "\n".join(line for line in lines if line.startswith("///"))
-
-
-def read_uses(module):
-    """What a file of src/ uses: for each name here the path before it and its name there."""
-    for is_ghost, path in USE.findall(module.text):
-        path = " ".join(path.split())
-        found = re.match(r"([\w:.]+?)(?:::|\.)\{(.*)\}$", path)
-        if found:
-            pairs = [(found[1], name, here) for name, here in names_listed(found[2])]
-        else:
-            name, _, here = path.partition(" as ")
-            before, _, last = name.rpartition("::" if "::" in name else ".")
-            pairs = [(before, last, here or last)]
-        (module.ghosts if is_ghost else module.uses).update({here: (before, name) for before, name, here in pairs})
-
-
-def read_module(crate, file, text):
-    """A file of src/."""
-    module = Module(crate, file, text)
-    read_uses(module)
-    for found in TYPE.finditer(text):
-        written = re.sub(r"\n\s*#\[[^\n]*\]", "", text[found.start():end_of_type(text, found.end())])
-        module.types[found[2]] = Type(crate, file, found[1], found[2], written, comment_above(text, found.start()))
-    module.models = {found[1]: found[2] for found in MODEL.finditer(text)}
-    for name in set(module.models) & set(module.types):
-        module.types[name].value = " ".join(model_part(module, name, "Value").split())
-    return module
-
-
-def model_part(module, name, part):
-    """A part of the model of a type: `Value` or `view`; "" where it has none."""
-    found = re.search(r"ghost %s = \{(.*?)\};" % part, module.models.get(name, ""), re.S)
-    return found[1] if found else ""
+def fields_of(text, record):
+    """The public fields of a record of a text of specs/."""
+    bodies = re.findall(r"^pub record %s\b.*?\n(.*?)(?=^\S|\Z)" % re.escape(record), text, re.M | re.S)
+    return [name for body in bodies for name in re.findall(r"^\s+pub (\w+) :", body, re.M)]
 
 
 @dataclass

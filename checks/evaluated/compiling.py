@@ -36,16 +36,6 @@ def arguments_of(text):
     return sum(map(len, named)) + len(bare)
 
 
-def variants_of(of):
-    """The variants of an enum, each with how many fields it has."""
-    found = {}
-    for line in of.code()[1:]:
-        name = re.match(r"\s+(\w+)\s*(?:\((.*)\)|\{(.*)\})?,?$", line)
-        if name:
-            found[name[1]] = len([part for part in (name[2] or name[3] or "").split(",") if part.strip()])
-    return found
-
-
 class Match:
     """What has to hold for values to fit the patterns of a case, and the names that these bind."""
 
@@ -216,7 +206,7 @@ class Compiler:
     def called(self, kind, thing, name):
         """A function as it is called in Python, with how many arguments it takes."""
         if kind == "constant":
-            return str(self.constant(thing)), 0
+            return "%d" % thing.number(), 0
         if kind == LIBRARY:
             value = WORDS[name]
             return "W[%r]" % name, len(inspect.signature(value).parameters) if callable(value) else 0
@@ -224,13 +214,8 @@ class Compiler:
 
     def form(self, thing, name):
         """A form of a data type or an enum as it is called in Python, with how many arguments it takes."""
-        count = variants_of(thing)[name] if hasattr(thing, "kind") else next(
+        count = thing.variants()[name] if hasattr(thing, "kind") else next(
             arguments_of(line) for line in thing.lines[1:] if line.split()[0] == name)
         names = ["x%d" % at for at in range(count)]
         made = "(%s,)" % ", ".join([repr(name), *names])
         return "(lambda %s: %s)" % (", ".join(names), made) if count else made, count
-
-    def constant(self, of):
-        """The number of a constant."""
-        value = re.search(r"= (.*);", of.text)[1].replace("_", "")
-        return int(value, 0)

@@ -7,7 +7,8 @@ import table
 from answers import is_evaluated, steps_of
 from closure import Names
 from compiling import Compiler
-from sources import Sources, read_module, read_spec
+from items import read_module
+from sources import Sources, read_spec
 
 LOW = """\
 -- Shapes. They are this board's own.

@@ -7,7 +7,6 @@ from closure import Names, meanings
 from sources import Definition
 
 ROW = re.compile(r"\((\d+), ")
-CONSTANT = re.compile(r"^\s*(?:pub(?:\([^)]*\))? )?const (\w+): \w+ = ([\d_]+|0x[\dA-Fa-f_]+);", re.M)
 
 
 class Facts:
@@ -58,8 +57,8 @@ class Facts:
     @cache
     def constants(self):
         """The constants of all crates that are numbers, by name."""
-        return {name: int(value.replace("_", ""), 0) for module in self.sources.modules.values()
-                for name, value in CONSTANT.findall(module.text)}
+        numbers = [(of.name, of.number()) for module in self.sources.modules.values() for of in module.types.values()]
+        return {name: number for name, number in numbers if number is not None}
 
     @cache
     def below(self, place, text):
