@@ -1,4 +1,5 @@
 pub mod Plays
+pub mod Steps
 mod Kernels
 pub mod Arrivals
 pub mod Boards

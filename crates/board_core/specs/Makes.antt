@@ -1,5 +1,5 @@
--- A step of a board that shows a world.
-use Rattle.std.specs.Prelude.{◌≡◌, ◌↔◌, ℕ, ◌==◌, if◌then◌else◌, Bool, List, length, map}
+-- A step of a board that shows a world. How one is made is this board's own rule.
+use Rattle.std.specs.Prelude.{◌≡◌, ◌↔◌, ℕ, ◌==◌, if◌then◌else◌, Bool, List, [], ◌∷◌, length, map}
 use Rattle.std.specs.Prelude.{Option, None, Some, Result, IsOk, IsTrue, OnOk, OnErr, option_and_then, option_map}
 use Rattle.tk_base.specs.declared.process.Verb.{Verb}
 use Rattle.tk_base.specs.declared.process.Choice.{Choice}
@@ -9,9 +9,11 @@ use Rattle.process_model.specs.Own.{Own}
 use Rattle.turn_scheduler.specs.RoundRobin.{device_order}
 use Rattle.board_devices.specs.Arriving.{first_act}
 use Rattle.kernel_model.specs.World.{World, after, is_ready, labels}
+use Rattle.kernel_model.specs.Accounts.{IsAccountedFor}
 use Rattle.kernel_model.specs.Parts.{slot_of_name}
 use Rattle.kernel_model.specs.Shown.{shown_by}
 use Rattle.tk_base.specs.declared.process.NotReady.{NotReady}
+use Rattle.board_opening.specs.Alone.{IsReplayed}
 use Rattle.board_drivers.specs.declared.drivers.Drivers.{Drivers}
 use Rattle.board_drivers.specs.declared.moment.Moment.{Moment}
 use Rattle.board_drivers.specs.Calm.{work_then}
@@ -24,6 +26,14 @@ pub record MakesStep (choice : Choice) (old new : World) (before after_it : Emit
   pub ok : OnOk result (new ≡ after old choice)
   pub shown : OnOk result (after_it ≡ shown_by (labels old choice))
   pub refused : OnErr result ((new ≡ old) × (after_it ≡ before))
+
+-- So a board steps; made or refused, the step is accounted for, and where it is made each record is the replay of what
+-- its process did in it, or was told.
+pub record Steps (choice : Choice) (old new : World) (before after_it : Emit)
+    (result : Result Unit NotReady) : Type 0 where
+  pub makes : MakesStep choice old new before after_it result
+  pub accounted : IsAccountedFor old choice
+  pub records : OnOk result (IsReplayed old new (choice ∷ []))
 
 -- what a step shows that printed bytes for a slot's process
 abbrev pub shown_printed : ℕ → List ℕ → Emit

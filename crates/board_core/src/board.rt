@@ -1,22 +1,21 @@
 //! The board.
-ghost use Rattle.std.specs.Prelude.{◌≡◌, ◌+◌, ◌-◌, ◌^◌, [], ◌∷◌, true, ◌≤◌, ◌<◌, ◌↔◌, IsOk};
-ghost use Rattle.std.specs.Prelude.{IsTrue, IfOk, IfSome, Some, OnOk, OnErr, vec_len};
+ghost use Rattle.std.specs.Prelude.{◌≡◌, ◌+◌, ◌-◌, ◌^◌, true, ◌≤◌, ◌<◌};
+ghost use Rattle.std.specs.Prelude.{IsTrue, IfOk, IfSome, Some, vec_len};
 ghost use Rattle.tk_base.specs.declared.process.Choice.TheVariants.{Run, Device, Pass};
 ghost use Rattle.tk_base.specs.declared.process.Dev.TheVariants.{Event};
 ghost use Rattle.tk_base.specs.declared.limits.TheConstants.{SLOT_COUNT, STEP_LIMIT};
 ghost use Rattle.partition_turns.specs.Windows.{window_choice};
 ghost use Rattle.kernel_laws.specs.Windows.{lanes_in};
-ghost use Rattle.kernel_model.specs.World.{is_ready, after, labels};
-ghost use Rattle.kernel_model.specs.Accounts.{IsAccountedFor};
+ghost use Rattle.kernel_model.specs.World.{is_ready};
 ghost use Rattle.kernel_model.specs.Causes.{AreWhole};
 ghost use Rattle.kernel_model.specs.Run.{next};
-ghost use Rattle.kernel_model.specs.Shown.{shown_by, summary_of};
-ghost use Rattle.board_opening.specs.Alone.{IsReplayed, OpensAlone};
+ghost use Rattle.kernel_model.specs.Shown.{summary_of};
+ghost use Rattle.board_opening.specs.Alone.{OpensAlone};
 ghost use Rattle.board_opening.specs.Opening.{opening};
 ghost use Rattle.board_devices.specs.Arriving.{is_time};
 ghost use Rattle.board_drivers.specs.Tells.{tells_one};
 ghost use Rattle.board_core.specs.KnownEnds.{IsKnownOfChoice};
-ghost use Rattle.board_core.specs.Makes.{MakesStep, act_meant};
+ghost use Rattle.board_core.specs.Makes.{MakesStep, Steps, act_meant};
 
 use crate::left::time_ahead;
 use crate::lines::summary;
@@ -269,12 +268,7 @@ impl Board {
     /// on it, and as it was where the step is none of these.
     #[inline(always)]
     pub fn step(&mut self, choice: Choice, emit: &mut Emit) -> Result<(), NotReady>
-        ensures ready { IsOk result ↔ IsTrue (is_ready self.old choice) }
-        ensures ok { OnOk result (self.new ≡ after self.old choice) }
-        ensures shown { OnOk result (emit.new ≡ shown_by (labels self.old choice)) }
-        ensures refused { OnErr result ((self.new ≡ self.old) × (emit.new ≡ emit.old)) }
-        ensures accounted { IsAccountedFor self.old choice }
-        ensures records { OnOk result (IsReplayed self.old self.new (choice ∷ [])) }
+        ensures { Steps choice self.old self.new emit.old emit.new result }
     {
         self.step_with_end(choice, TurnEnd::Went, emit)
     }
@@ -291,12 +285,7 @@ impl Board {
         emit: &mut Emit,
     ) -> Result<(), NotReady>
         requires { IsKnownOfChoice self.old end choice }
-        ensures ready { IsOk result ↔ IsTrue (is_ready self.old choice) }
-        ensures ok { OnOk result (self.new ≡ after self.old choice) }
-        ensures shown { OnOk result (emit.new ≡ shown_by (labels self.old choice)) }
-        ensures refused { OnErr result ((self.new ≡ self.old) × (emit.new ≡ emit.old)) }
-        ensures accounted { IsAccountedFor self.old choice }
-        ensures records { OnOk result (IsReplayed self.old self.new (choice ∷ [])) }
+        ensures { Steps choice self.old self.new emit.old emit.new result }
     {
         self.owns_are_whole();
         steps_are_accounted_for();

@@ -18,8 +18,8 @@ returns-in_default-step_with_end c =
     let there = stretched c.loop-made.invariant c.rounds_join.ensures
     (omega (arith, quiet.most, c.loop-made-test.true)) quiet.stretch _ refl in
     let failed = c.in_default-step_with_end.ensures in
-    failed.refused.0 ∙ stuck there c.in-Some.choice (sym quiet.next ∙ c.in-Some.is)
-    (unready_if_refused _ failed.ready.1)
+    failed.makes.refused.0 ∙ stuck there c.in-Some.choice (sym quiet.next ∙ c.in-Some.is)
+    (unready_if_refused _ failed.makes.ready.1)
 
 pub loop-made-preserved : goal.loop-made-preserved
 loop-made-preserved c =
@@ -27,7 +27,7 @@ loop-made-preserved c =
     let there = stretched c.loop-made.invariant c.rounds_join.ensures
     (omega (arith, quiet.most, c.loop-made-test.true)) quiet.stretch _ refl in
     one_more there c.in-Some.choice c.step_with_end.new.self (omega (arith, quiet.most, c.loop-made-test.true))
-    (sym quiet.next ∙ c.in-Some.is) c.in-Ok.ensures.ok _ (omega arith)
+    (sym quiet.next ∙ c.in-Some.is) c.in-Ok.ensures.makes.ok _ (omega arith)
 
 pub returns : goal.returns
 returns c = made c.loop-made.invariant c.loop-made-test.false

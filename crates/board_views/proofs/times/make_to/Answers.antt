@@ -61,7 +61,7 @@ returns-in_err-tell_step-clause-text g c =
     (omega (arith, quiet.most, some, c.if-part-eq0.false)) (sym quiet.next ∙ c.in-Some.is)
     (omega (arith, quiet.most, some, c.if-part-eq0.false, quiet.stretch.steps))
     (sym c.is_within.ensures ∙ c.if-not-is_within.false) _
-    (rw (c.time-began.ensures, c.in-Ok.ensures.shown) at c.in_err-tell_step.ensures))
+    (rw (c.time-began.ensures, c.in-Ok.ensures.makes.shown) at c.in_err-tell_step.ensures))
 
 pub loop-left-preserved : goal.loop-left-preserved
 loop-left-preserved g c =
@@ -72,8 +72,8 @@ loop-left-preserved g c =
     more c.writes_compose.ensures there c.in-Some.choice
     (omega (arith, quiet.most, some, c.if-part-eq0.false)) (sym quiet.next ∙ c.in-Some.is)
     (omega (arith, quiet.most, some, c.if-part-eq0.false, quiet.stretch.steps))
-    (sym c.is_within.ensures ∙ c.if-not-is_within.false) _ _ _ c.in-Ok.ensures.ok (omega arith)
-    (rw (c.time-began.ensures, c.in-Ok.ensures.shown) at c.in_ok-tell_step.ensures)
+    (sym c.is_within.ensures ∙ c.if-not-is_within.false) _ _ _ c.in-Ok.ensures.makes.ok (omega arith)
+    (rw (c.time-began.ensures, c.in-Ok.ensures.makes.shown) at c.in_ok-tell_step.ensures)
 
 pub returns-clause-text : goal.returns-clause-text
 returns-clause-text g c =

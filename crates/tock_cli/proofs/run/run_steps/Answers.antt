@@ -53,7 +53,7 @@ returns-in_err-tell-clause-text g c =
     c.pass.ensures in
     MatchResult-from_err c.from_residual.result _ _ c.from_residual.ensures.0
     (λ _. part r.1 c.puts_compose.ensures c.devices_answer_one.ensures r.0 (sym quiet.next ∙ c.in-Some.is)
-    c.in-Ok.ensures.shown c.in_err-tell.ensures.text)
+    c.in-Ok.ensures.makes.shown c.in_err-tell.ensures.text)
 
 pub returns-in_err-tell-clause-some : goal.returns-in_err-tell-clause-some
 returns-in_err-tell-clause-some g c =
@@ -62,7 +62,7 @@ returns-in_err-tell-clause-some g c =
     (omega (arith, quiet.most, c.min.ensures, c.loop-made-test.true, c.loop-made.invariant.some)) quiet.stretch
     c.pass.ensures in
     MatchResult-from_err c.from_residual.result _ _ c.from_residual.ensures.0
-    (λ _. world_on r.1 r.0 (sym quiet.next ∙ c.in-Some.is) c.in-Ok.ensures.ok)
+    (λ _. world_on r.1 r.0 (sym quiet.next ∙ c.in-Some.is) c.in-Ok.ensures.makes.ok)
 
 pub returns-in_err-flush-clause-text : goal.returns-in_err-flush-clause-text
 returns-in_err-flush-clause-text g c =
@@ -72,7 +72,7 @@ returns-in_err-flush-clause-text g c =
     c.pass.ensures in
     let told = c.in_ok-tell.ensures in
     let s = one_more r.1 c.puts_compose.ensures c.devices_answer_one.ensures r.0 (sym quiet.next ∙ c.in-Some.is)
-    c.in-Ok.ensures.ok c.in-Ok.ensures.shown told.text told.kept told.count in
+    c.in-Ok.ensures.makes.ok c.in-Ok.ensures.makes.shown told.text told.kept told.count in
     MatchResult-from_err c.from_residual-in_err-flush.result _ _ c.from_residual-in_err-flush.ensures.0
     (λ _. unflushed s c.puts_compose.ensures c.flush.new.out c.in_err-flush.ensures.text)
 
@@ -84,7 +84,7 @@ returns-in_err-flush-clause-some g c =
     c.pass.ensures in
     let told = c.in_ok-tell.ensures in
     let s = one_more r.1 c.puts_compose.ensures c.devices_answer_one.ensures r.0 (sym quiet.next ∙ c.in-Some.is)
-    c.in-Ok.ensures.ok c.in-Ok.ensures.shown told.text told.kept told.count in
+    c.in-Ok.ensures.makes.ok c.in-Ok.ensures.makes.shown told.text told.kept told.count in
     MatchResult-from_err c.from_residual-in_err-flush.result _ _ c.from_residual-in_err-flush.ensures.0
     (λ _. world_here s (omega (arith, r.0)))
 
@@ -96,7 +96,7 @@ loop-made-preserved g c =
     c.pass.ensures in
     let told = c.in_ok-tell.ensures in
     let s = one_more r.1 c.puts_compose.ensures c.devices_answer_one.ensures r.0 (sym quiet.next ∙ c.in-Some.is)
-    c.in-Ok.ensures.ok c.in-Ok.ensures.shown told.text told.kept told.count in
+    c.in-Ok.ensures.makes.ok c.in-Ok.ensures.makes.shown told.text told.kept told.count in
     record {
       on = made_so s _ (omega arith);
       some = omega (
@@ -117,7 +117,7 @@ loop-made-preserved-then-gathered-eq-FLUSH_STEPS g c =
     c.pass.ensures in
     let told = c.in_ok-tell.ensures in
     let s = one_more r.1 c.puts_compose.ensures c.devices_answer_one.ensures r.0 (sym quiet.next ∙ c.in-Some.is)
-    c.in-Ok.ensures.ok c.in-Ok.ensures.shown told.text told.kept told.count in
+    c.in-Ok.ensures.makes.ok c.in-Ok.ensures.makes.shown told.text told.kept told.count in
     record {
       on = flushed (made_so s _ (omega arith)) c.puts_compose.ensures c.flush.new.out c.flush.new.self
           c.in_ok-flush.ensures.text c.in_ok-flush.ensures.empty;
