@@ -1,4 +1,5 @@
 pub mod Plays
+pub mod Following
 pub mod Steps
 mod Kernels
 pub mod Arrivals

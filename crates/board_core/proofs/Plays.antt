@@ -2,9 +2,8 @@
 -- was written (`PlaysOn`). One more at the end of the list adds its step, labels and prints to each part; the exits
 -- (all made, one that was not ready, the sink failed) follow with the laws of runs.
 use Rattle.std.proofs.Common.{◌≡◌, ℕ, suc, ◌+◌, ◌<◌, ◌≤◌, Bool, true, false, ◌&&◌, List, [], ◌∷◌, ◌++◌, take, length}
-use Rattle.std.proofs.Common.{slice_get, slice_index_or, Option, Some, IfSome, refl, sym, ap, subst, ◌∙◌, arith}
+use Rattle.std.proofs.Common.{slice_index_or, Some, refl, sym, ap, subst, ◌∙◌, arith}
 use Rattle.std.proofs.Common.{append_assoc, append-nil, length-append}
-use Rattle.std.specs.Option.{option_map}
 use Rattle.std.proofs.lemmas.Option.{slice_get-get_or}
 use Rattle.std.proofs.KnownBytes.{Appends-trans}
 use Rattle.tk_outside.specs.Count.{Rose}
@@ -15,20 +14,13 @@ use Rattle.tk_outside.specs.Sink.{SinkFacts}
 use Rattle.tk_outside.specs.Writes.{WroteAll, WrotePart}
 use Rattle.tk_outside.specs.Laws.{WritesCompose}
 use Rattle.process_record.specs.declared.emit.Emit.{Emit}
-use Rattle.kernel_model.specs.Record.{Record}
-use Rattle.kernel_model.specs.Turn.{Event}
-use Rattle.kernel_model.specs.declared.settings.Settings.{Settings}
 use Rattle.kernel_model.specs.World.{World, Label, after, is_ready, labels}
 use Rattle.kernel_model.specs.Accounts.{IsAccountedFor}
 use Rattle.kernel_model.specs.Run.{printed}
 use Rattle.kernel_model.specs.Shown.{shown_by}
 use Rattle.kernel_model.proofs.Labels.{shown_by-printed}
-use Rattle.kernel_model.specs.Replay.{RecordIsReplay, RoundFollowsChoices, after_all, history, replay}
+use Rattle.kernel_model.specs.Replay.{after_all}
 use Rattle.kernel_model.specs.Choices.{Throughout, are_ready, labels_of_all, printed_by_all}
-use Rattle.kernel_histories.specs.Edges.{EachEdgeComesOnce}
-use Rattle.kernel_partitions.specs.Moments.{before, timed_history}
-use Rattle.kernel_partitions.specs.Partitions.{ASlotSeesItselfAlone, SameRecordAtEachTime}
-use Rattle.board_opening.specs.Alone.{IsFirstAlone, first_alone}
 use Rattle.board_core.specs.Plays.{FailedAfter, ChoicesMade, PlayedAll, StoppedAt}
 
 -- a choice more, after others
@@ -64,62 +56,10 @@ throughout-more : (w : World) (cs : List Choice) (c : Choice) → Throughout IsA
 throughout-more w [] c all one = (one, tt)
 throughout-more w (d ∷ cs) c all one = (all.0, throughout-more (after w d) cs c all.1 one)
 
--- the laws of runs that are known of the choices made
-pub record LawsOfRuns : Type 0 where
-  pub replayed : RecordIsReplay
-  pub round : RoundFollowsChoices
-  pub edges : EachEdgeComesOnce
-  pub partitioned : ASlotSeesItselfAlone
-  pub record_is : SameRecordAtEachTime
-
-pub laws_of_runs : RecordIsReplay → RoundFollowsChoices → EachEdgeComesOnce → ASlotSeesItselfAlone
-    → SameRecordAtEachTime → LawsOfRuns
-laws_of_runs replayed round edges partitioned record_is = record {
-  replayed = replayed;
-  round = round;
-  edges = edges;
-  partitioned = partitioned;
-  record_is = record_is;
-}
-
 -- a test that is not true is false
 pub unready_if_refused : (b : Bool) → (b ≡ true → false ≡ true) → b ≡ false
 unready_if_refused true e = sym (e refl)
 unready_if_refused false e = refl
-
--- what choices that were made lead to, of each process by itself
-made_of : (old new : World) (cs : List Choice) → LawsOfRuns → are_ready old cs ≡ true → new ≡ after_all old cs
-    → Throughout IsAccountedFor old cs → ChoicesMade old new cs
-made_of old new cs laws ready world accounted =
-    record {
-      ready = ready;
-      world = world;
-      records = replayed;
-      accounted = accounted;
-      edges = λ slot. laws.edges old slot cs;
-      same = λ other others slot place settings first histories.
-          laws.replayed other others place
-          ∙ ap (λ (s : Settings). option_map (replay s (history place other others)) (slice_get other.records place))
-          settings
-          ∙ ap (λ (h : List Event). option_map (replay old.settings h) (slice_get other.records place)) histories
-          ∙ ap (option_map (replay old.settings (history slot old cs))) first
-          ∙ sym (replayed slot);
-      alone = λ opens slot r is.
-          let first : Some r ≡ first_alone old.settings.storage r.object r.process.object.address r.own.layout.start =
-          subst (λ (o : Option Record). IfSome o (IsFirstAlone old.settings.storage)) is (opens slot) in
-          replayed slot ∙ ap (option_map (replay old.settings (history slot old cs))) (is ∙ first);
-      partitioned = λ windows n is slot other alike m time reached there.
-          ap (λ (ds : List Choice). before time (timed_history slot old ds)) is
-          ∙ laws.partitioned slot old other windows alike n m time reached there;
-      record_is = λ windows n is slot other alike m time first there.
-          ap (λ (w : World). slice_get w.records slot) (world ∙ ap (after_all old) is ∙ sym (laws.round n old))
-          ∙ laws.record_is slot old other windows alike n m time first there;
-    }
-  where
-    replayed : (slot : ℕ)
-        → slice_get new.records slot
-        ≡ option_map (replay old.settings (history slot old cs)) (slice_get old.records slot)
-    replayed slot = ap (λ (w : World). slice_get w.records slot) world ∙ laws.replayed old cs slot
 
 number : (i : ℕ) → suc i ≡ i + 1
 number i = omega arith
@@ -131,21 +71,18 @@ rose_later a b c kept rose = omega arith
 -- i choices of a list were made, and all that they printed was written
 pub record PlaysOn {K : Type 0} (tells : K → SinkFacts) (old new : World) (choices : List Choice) (i : ℕ)
     (out now : K) : Type 0 where
-  pub ready : are_ready old (take i choices) ≡ true
-  pub world : new ≡ after_all old (take i choices)
-  pub accounted : Throughout IsAccountedFor old (take i choices)
+  pub made : ChoicesMade old new (take i choices)
   pub wrote : WroteAll tells out now (printed_by_all old (take i choices))
 
 pub begins : {K : Type 0} (tells : K → SinkFacts) (old : World) (choices : List Choice) (out : K) → WritesCompose tells
     → PlaysOn tells old old choices 0 out out
-begins tells old choices out law = record { ready = refl; world = refl; accounted = tt; wrote = law.wrote_nothing out }
+begins tells old choices out law = record {
+  made = record { ready = refl; world = refl; accounted = tt };
+  wrote = law.wrote_nothing out;
+}
 
 module _ {K : Type 0} {tells : K → SinkFacts} {old new : World} {choices : List Choice} {i : ℕ} {out now : K}
     (p : PlaysOn tells old new choices i out now) where
-  -- what was made is known of each process
-  made : LawsOfRuns → ChoicesMade old new (take i choices)
-  made law = made_of old new (take i choices) law p.ready p.world p.accounted
-
   module _ (c : Choice) (h : i < length choices) (is : slice_index_or choices i c ≡ c) where
     one_longer : take (i + 1) choices ≡ take i choices ++ c ∷ []
     one_longer = take_more choices i c h ∙ ap (λ (x : Choice). take i choices ++ x ∷ []) is
@@ -154,47 +91,38 @@ module _ {K : Type 0} {tells : K → SinkFacts} {old new : World} {choices : Lis
         → printed_by_all old (take (i + 1) choices) ≡ printed_by_all old (take i choices) ++ step.printed.items
     bytes step s =
         ap (printed_by_all old) one_longer ∙ printed-more old (take i choices) c
-        ∙ ap (λ (w : World). printed_by_all old (take i choices) ++ printed (labels w c)) (sym p.world)
+        ∙ ap (λ (w : World). printed_by_all old (take i choices) ++ printed (labels w c)) (sym p.made.world)
         ∙ ap (λ (xs : List ℕ). printed_by_all old (take i choices) ++ xs)
         (sym (ap (λ (x : Emit). x.printed.items) s ∙ shown_by-printed (labels new c)))
 
     -- one more was made
-    steps : (then : World) → is_ready new c ≡ true → then ≡ after new c
-        → (are_ready old (take (i + 1) choices) ≡ true) × (then ≡ after_all old (take (i + 1) choices))
-    steps then r e = (
-      ap (are_ready old) one_longer
-          ∙ ready-more old (take i choices) c p.ready (ap (λ (w : World). is_ready w c) (sym p.world) ∙ r),
-      e ∙ ap (λ (w : World). after w c) p.world ∙ sym (after-more old (take i choices) c)
-          ∙ ap (after_all old) (sym one_longer),
-    )
-
-    accounted_then : IsAccountedFor new c → Throughout IsAccountedFor old (take (i + 1) choices)
-    accounted_then one =
-        subst (Throughout IsAccountedFor old) (sym one_longer)
-        (throughout-more old (take i choices) c p.accounted (subst (λ (w : World). IsAccountedFor w c) p.world one))
+    made_then : (then : World) → is_ready new c ≡ true → then ≡ after new c → IsAccountedFor new c
+        → ChoicesMade old then (take (i + 1) choices)
+    made_then then r e one = subst (ChoicesMade old then) (sym one_longer) (record {
+      ready = ready-more old (take i choices) c p.made.ready
+          (ap (λ (w : World). is_ready w c) (sym p.made.world) ∙ r);
+      world = e ∙ ap (λ (w : World). after w c) p.made.world ∙ sym (after-more old (take i choices) c);
+      accounted = throughout-more old (take i choices) c p.made.accounted
+          (subst (λ (w : World). IsAccountedFor w c) p.made.world one);
+    })
 
     pub plays_on : WritesCompose tells → (then : World) (later : K) (step : Emit) → is_ready new c ≡ true
         → then ≡ after new c → step ≡ shown_by (labels new c) → IsAccountedFor new c
         → WroteAll tells now later step.printed.items → PlaysOn tells old then choices (i + 1) out later
     plays_on law then later step r e s one w = record {
-      ready = (steps then r e).0;
-      world = (steps then r e).1;
-      accounted = accounted_then one;
+      made = made_then then r e one;
       wrote = subst (λ (text : List ℕ). WroteAll tells out later text) (sym (bytes step s))
           (law.all_then_all p.wrote w);
     }
 
     -- the sink failed after it
-    pub failed : WritesCompose tells → LawsOfRuns → (then : World) (later : K) (step : Emit) → is_ready new c ≡ true
+    pub failed : WritesCompose tells → (then : World) (later : K) (step : Emit) → is_ready new c ≡ true
         → then ≡ after new c → step ≡ shown_by (labels new c) → IsAccountedFor new c
         → WrotePart tells now later step.printed.items → FailedAfter tells old then choices out later
-    failed law each then later step r e s one w = record {
+    failed law then later step r e s one w = record {
       before = i;
       within = h;
-      made = made_of old then (take (suc i) choices) each
-          (ap (λ (k : ℕ). are_ready old (take k choices)) (number i) ∙ (steps then r e).0)
-          ((steps then r e).1 ∙ ap (λ (k : ℕ). after_all old (take k choices)) (sym (number i)))
-          (subst (λ (k : ℕ). Throughout IsAccountedFor old (take k choices)) (sym (number i)) (accounted_then one));
+      made = subst (λ (k : ℕ). ChoicesMade old then (take k choices)) (sym (number i)) (made_then then r e one);
       wrote = record {
         front = printed_by_all old (take i choices) ++ w.front;
         missing = w.missing;
@@ -211,20 +139,20 @@ module _ {K : Type 0} {tells : K → SinkFacts} {old new : World} {choices : Lis
     }
 
     -- it was not ready
-    pub stopped : LawsOfRuns → is_ready new c ≡ false → StoppedAt tells old new choices out now i
-    stopped each r = record {
+    pub stopped : is_ready new c ≡ false → StoppedAt tells old new choices out now i
+    stopped r = record {
       choice = c;
       there = slice_get-get_or choices i c h ∙ ap Some is;
       refused = r;
-      made = made each;
+      made = p.made;
       wrote = p.wrote;
     }
 
   -- all were made
-  pub whole : LawsOfRuns → length choices ≤ i → PlayedAll tells old new choices out now
-  whole each h =
+  pub whole : length choices ≤ i → PlayedAll tells old new choices out now
+  whole h =
       let all : take i choices ≡ choices = take_all i choices h in
       record {
-        made = subst (λ (cs : List Choice). ChoicesMade old new cs) all (made each);
+        made = subst (λ (cs : List Choice). ChoicesMade old new cs) all p.made;
         wrote = subst (λ (cs : List Choice). WroteAll tells out now (printed_by_all old cs)) all p.wrote;
       }

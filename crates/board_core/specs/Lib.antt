@@ -1,5 +1,6 @@
 pub mod Stretches
 pub mod Plays
+pub mod Following
 pub mod Looks
 pub mod Expecting
 pub mod Running

@@ -19,7 +19,7 @@ mod turns;
 
 pub use board::Board;
 pub use driver_requests::Waiting;
-pub use play::PlayEnd;
+pub use play::{PlayEnd, processes_follow_their_own_events};
 pub use stretch::QuietTurns;
 pub use tk_base::NotReady;
 pub use tk_outside::NoMemory;

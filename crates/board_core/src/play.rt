@@ -1,4 +1,5 @@
 //! Choices from outside, one after another.
+ghost use Rattle.board_core.specs.Following.{ProcessesFollowTheirOwnEvents};
 ghost use Rattle.board_core.specs.Plays.{Plays};
 
 use crate::board::Board;
@@ -28,26 +29,12 @@ impl Board {
     /// first such one: the board then shows the world after those before it, and all that they
     /// printed was written. `Failed` comes only where the sink's count of faults rose; what was
     /// written is a front of what the choices made print, and they are as few as print more than
-    /// that. No memory is taken.
-    ///
-    /// Each edge of a button that comes meanwhile, while a process lives, has that button enabled
-    /// and knew the other state of it, schedules upcall 0 of the buttons for it once, in the order
-    /// of the script: the wait for that upcall alone is given, null or not; else a null one does
-    /// nothing, and another is put last, or dropped and counted where as many are pending as may
-    /// be. No other step schedules, gives or drops one of them ([`each_edge_comes_once`]; TRD 104,
-    /// "Subscribe", "Yield").
-    ///
-    /// With time partitions and no operator who is to act, and where the choices are the board's own,
-    /// what a slot's process does, and when, is the same in a run of any other world that is alike in
-    /// that slot, up to each time that both have reached; and it has the same record where the two
-    /// first reach a time ([`a_partition_sees_itself_alone`]).
+    /// that. No memory is taken. Of each process by itself [`processes_follow_their_own_events`]
+    /// says what the choices lead to.
     pub fn play<K: Sink>(&mut self, choices: &[Choice], out: &mut K) -> Result<(), PlayEnd>
         ensures { Plays K.tells self.old self.new choices.now out.old out.new result }
     {
         writes_compose::<K>();
-        a_record_is_the_replay_of_its_events();
-        each_edge_comes_once();
-        a_partition_sees_itself_alone();
         let mut emit = Emit::new();
         for (place, choice) in choices.iter().enumerate() {
             let Ok(()) = self.step(*choice, &mut emit) else {
@@ -59,4 +46,27 @@ impl Board {
         }
         Ok(())
     }
+}
+
+/// Whatever choices lead from one world to another, as those do that [`Board::play`] makes: the record
+/// of each process is the replay of its own turns and of the answers to it, and so the same as that of
+/// any process that began with the same record and had the same turns and answers; from a boot it is a
+/// function of its object, of its place and of these.
+///
+/// Each edge of a button that comes meanwhile, while a process lives, has that button enabled and knew
+/// the other state of it, schedules upcall 0 of the buttons for it once, in the order of the script:
+/// the wait for that upcall alone is given, null or not; else a null one does nothing, and another is
+/// put last, or dropped and counted where as many are pending as may be. No other step schedules, gives
+/// or drops one of them ([`each_edge_comes_once`]; TRD 104, "Subscribe", "Yield").
+///
+/// With time partitions and no operator who is to act, and where the choices are the board's own, what
+/// a slot's process does, and when, is the same in a run of any other world that is alike in that slot,
+/// up to each time that both have reached; and it has the same record where the two first reach a time
+/// ([`a_partition_sees_itself_alone`]). The function does nothing.
+pub fn processes_follow_their_own_events()
+    ensures { ProcessesFollowTheirOwnEvents }
+{
+    a_record_is_the_replay_of_its_events();
+    each_edge_comes_once();
+    a_partition_sees_itself_alone();
 }
