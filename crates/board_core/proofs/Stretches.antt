@@ -56,6 +56,7 @@ use Rattle.board_drivers.specs.declared.moment.Moment.{Moment}
 use Rattle.board_drivers.specs.Driven.{AreDriven, devices_of, ids_waiting_in}
 use Rattle.board_core.specs.Makes.{ready_in}
 use Rattle.board_core.specs.Shows.{IsBoard, recorded, residents, world_of}
+use Rattle.board_core.specs.Stretches.{StopsAt}
 use Rattle.board_drivers.specs.Residents.{HasLost, IsResident, Resident, record_of, resident_turns}
 use Rattle.board_core.specs.KnownEnds.{EndsSo, IsKnownOfChoice}
 use Rattle.board_core.specs.Running.{is_running, slot_runs}
@@ -624,6 +625,18 @@ module _ (b : BoardState) (board : IsBoard b) where
             (still_free k (record_of b.machine.home.flash 0 (q.at.before, [])))
             (still_runs k (record_of b.machine.home.flash 0 (q.at.before, [])))
             ∙ ap (λ (o : Own). not q.at.before.0.held && has_turn q.at.before.0.state (due o.inbox)) kept
+
+-- a stretch stops where it does not go on
+pub stops_at : {w : World} → (GoesOn w → ⊥) → StopsAt w
+stops_at never slot before limit chosen is_there runs goes = never (record {
+  slot = slot;
+  before = before;
+  chosen = chosen;
+  is_there = is_there;
+  runs = runs;
+  goes = goes;
+  limit = limit;
+})
 
 -- what is used of a slice, after so many turns
 pub used_within : (before slice first k used : ℕ) → before ≤ slice → 1 ≤ slice → (k ≡ 0 → used ≡ before)

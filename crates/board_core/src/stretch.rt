@@ -5,10 +5,10 @@ ghost use Rattle.kernel_model.specs.Accounts.{IsAccountedFor};
 ghost use Rattle.kernel_model.specs.Choices.{Throughout};
 ghost use Rattle.kernel_model.specs.Replay.{chosen};
 ghost use Rattle.kernel_model.specs.Run.{next};
-ghost use Rattle.kernel_model.specs.Stretch.{GoesOn, IsStretch};
+ghost use Rattle.kernel_model.specs.Stretch.{IsStretch};
 ghost use Rattle.kernel_model.specs.World.{is_ready};
 ghost use Rattle.board_core.specs.KnownEnds.{IsKnownOfChoice};
-ghost use Rattle.board_core.specs.Stretches.{EndsStretch};
+ghost use Rattle.board_core.specs.Stretches.{StopsAt};
 
 use crate::board::Board;
 use crate::slices::{is_over, running_in, turns_left};
@@ -46,7 +46,7 @@ impl Board {
         requires { 0 < most }
         ensures most { result.made ≤ most }
         ensures stretch { IsStretch result.made self.old self.new }
-        ensures ends { EndsStretch most result self.new }
+        ensures ends { result.is_over ≡ true → result.made < most → StopsAt self.new }
         ensures more { result.is_over ≡ false → 0 < result.made }
         ensures next { result.is_over ≡ true → result.next_choice ≡ next self.new }
         ensures known { result.is_over ≡ true
@@ -111,7 +111,7 @@ impl Board {
         ensures most { result.made ≤ most }
         ensures stretch { IsStretch result.made self.old self.new }
         ensures accounted { Throughout IsAccountedFor self.old (chosen result.made self.old) }
-        ensures ends { result.made < most → GoesOn self.new → ⊥ }
+        ensures ends { result.made < most → StopsAt self.new }
         ensures next { result.next_choice ≡ next self.new }
         ensures known { IfSome result.next_choice (IsKnownOfChoice self.new result.end) }
         ensures ready { IfSome result.next_choice

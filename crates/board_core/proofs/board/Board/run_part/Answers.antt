@@ -24,23 +24,24 @@ use Rattle.board_core.specs.KnownEnds.{IsKnownOfChoice}
 use Rattle.board_core.specs.Running.{slot_runs}
 use Rattle.board_core.proofs.Ready.{calm_shown}
 use Rattle.board_core.proofs.Stretches.{alone_shown, end_known, ends_shown, looked_ahead, next_stays, nothing_comes}
-use Rattle.board_core.proofs.Stretches.{rests_there, runs_within, still, stretch_shown, turns_later, used_within}
+use Rattle.board_core.proofs.Stretches.{rests_there, runs_within, still, stops_at, stretch_shown, turns_later}
+use Rattle.board_core.proofs.Stretches.{used_within}
 use Rattle.board_core.proofs.Boards.{may_turn_on}
 use Rattle.board_core.proofs.board.Board.run_part.Goals as goal
 use Rattle.board_core.proofs.board.Board.run_part.Goals.{After-is_over}
 
 pub returns-in_default-clause-ends : goal.returns-in_default-clause-ends
-returns-in_default-clause-ends c e h goes =
+returns-in_default-clause-ends c e h = stops_at (λ goes.
     let g = subst GoesOn (sym c.self.view_is) goes in
     rests_there c.self.inside.state c.self.invariant g.slot g.chosen
     (ap (λ (ps : List Process). slot_runs (slice_get ps g.slot)) (sym c.deref.ensures.value)
     ∙ c.in_default.ensures.none g.slot
-    (c.next_choice-next_choice.ensures.next ∙ sym (ap next c.self.view_is) ∙ g.chosen)) g
+    (c.next_choice-next_choice.ensures.next ∙ sym (ap next c.self.view_is) ∙ g.chosen)) g)
 
 pub returns-then-self-clause-ends : goal.returns-then-self-clause-ends
-returns-then-self-clause-ends c e h g =
+returns-then-self-clause-ends c e h = stops_at (λ g.
     nothing_comes c.self.inside.state c.self.invariant g
-    c.next_is_ready.ensures.ahead (c.calm_ahead-self-inside.ensures.come c.if-self.true)
+    c.next_is_ready.ensures.ahead (c.calm_ahead-self-inside.ensures.come c.if-self.true))
 
 -- the board that looked up to when no device step is ready
 abbrev looking_ahead : BoardState → ℕ → BoardState
@@ -202,7 +203,7 @@ returns-clause-stretch c =
     c.from-ticks.ensures c.self.view_is)
 
 pub returns-clause-ends : goal.returns-clause-ends
-returns-clause-ends c e h g =
+returns-clause-ends c e h =
     let a = (goal.at.returns-clause-ends c).After-is_over in
     let b = looking_ahead c.self.inside.state c.calm_ahead-self-inside.result in
     let board = looked_ahead c.self.inside.state c.calm_ahead-self-inside.result c.self.invariant
@@ -211,8 +212,8 @@ returns-clause-ends c e h g =
     let most = c.turns_at-stretch.ensures.most in
     let present = c.go_on.new.self in
     let q = c.turns_at-stretch.ensures.quiet in
-    ends_shown b board c.in-Some.slot c.turns_at-stretch.result.went c.turns_left-left.result present.used
-    present.slot
+    stops_at (λ g.
+    ends_shown b board c.in-Some.slot c.turns_at-stretch.result.went c.turns_left-left.result present.used present.slot
     c.turns_at-stretch.new.self c.turns_at-stretch.new.processes.items q
     (chosen c) (ap slot_runs (sym q.at.was) ∙ runs_there c) c.used_before-before.result
     c.used_before-before.ensures.value c.last_turn-last.result (omega (arith, left.last, most)) (alone_or a)
@@ -222,7 +223,7 @@ returns-clause-ends c e h g =
     c.calm_ahead-self-inside.result c.from-ticks.ensures most (c.is_over.ensures.over e) left.last left.until
     (omega (arith, c.used_before-before.ensures.within, c.last_turn-last.ensures.within))
     (omega (arith, c.if-self.false)) c.requires left.all
-    (subst (λ (y : BoardState). GoesOn (world_of y)) (same_board a) g)
+    (subst (λ (y : BoardState). GoesOn (world_of y)) (same_board a) g))
 
 pub returns-clause-next : goal.returns-clause-next
 returns-clause-next c e =
