@@ -147,9 +147,9 @@ module _ (slot : ℕ) (x y : Machine) (order : Order) (answer : Reply × Option 
       → ((r : Record) → ServingComesTo (given (with_process r p) answer) (with_process r q) o)
       → Finishes slot x y call o (resident x.home slot p) (resident y.home slot q)
   unfolding served by_form
-  finishes p q call o is for come object same gives = (
-    c.acts,
-    λ storage.
+  finishes p q call o is for come object same gives = record {
+    acts = c.acts;
+    serves = λ storage.
         let beside = beside_in x.drivers storage in
         let r = record_in x.home.flash p own beside in
         ap (λ (b : Bool). cond b (by_form around r call) (refused_with r Permission (failure_of call Permission)))
@@ -173,9 +173,9 @@ module _ (slot : ℕ) (x y : Machine) (order : Order) (answer : Reply × Option 
           acts =
               c.acts;
         }) (sym object)
-        ∙ ap (λ (f : List ℕ). record { after = record_in f q after beside; outcome = o; acts = c.acts }) (sym same),
-    come.2,
-  )
+        ∙ ap (λ (f : List ℕ). record { after = record_in f q after beside; outcome = o; acts = c.acts }) (sym same);
+    drives = come.2;
+  }
     where
       around : CommandContext
       around = seen_by_commands x
@@ -215,13 +215,13 @@ pub served_itself : (slot : ℕ) (x y : Machine) (p q : Process) (call : CallFor
     → IsServed x.moment.settings.strict slot x.home y.home p q call o
     → Drives (id_of slot (own_of x.home slot)) (acts_for o) x.drivers y.drivers
     → Finishes slot x y call o (resident x.home slot p) (resident y.home slot q)
-served_itself slot x y p q call o is drives = (
-  acts_for o,
-  λ storage.
+served_itself slot x y p q call o is drives = record {
+  acts = acts_for o;
+  serves = λ storage.
       let beside = beside_in x.drivers storage in
-      is.comes (surroundings x.moment.settings x.moment.time (record_of_slot x.home slot p beside)) beside,
-  drives,
-)
+      is.comes (surroundings x.moment.settings x.moment.time (record_of_slot x.home slot p beside)) beside;
+  drives = drives;
+}
 
 -- a process that stays in its place stays seated
 pub stays_seated : (flash : List ℕ) (steps : ℕ) (p p' : Process) (own own' : Own) → StaysInPlace own own'

@@ -131,5 +131,5 @@ pub finished_in_place : CommandsStayInPlace → (slot : ℕ) (x y : Machine) (ca
     → DiffersInMark (own_of x.home slot).layout (own_of y.home slot).layout
 finished_in_place law slot x y call o p q none finish =
     let before = record_in x.home.flash p (own_of x.home slot) (beside_in x.drivers []) in
-    subst (λ (s : Served). DiffersInMark (own_of x.home slot).layout s.after.own.layout) (finish.1 [])
+    subst (λ (s : Served). DiffersInMark (own_of x.home slot).layout s.after.own.layout) (finish.serves [])
     (call_stays before law x.moment.settings.strict (surroundings x.moment.settings x.moment.time before) call none)

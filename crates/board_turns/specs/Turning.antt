@@ -109,16 +109,16 @@ Settles policy flash denial old new = (beside : Beside) →
 abbrev pub Turns : ℕ → Machine → Machine → Shown → Resident → Resident → Type 0
 Turns slot old new shown = Does (turned old.moment.settings old.moment.time) slot old new shown
 
--- what a call of the process in a slot leaves, what comes of it, and what the drivers of a machine do for it
-abbrev pub Finishes : ℕ → Machine → Machine → CallForm → Outcome → Resident → Resident → Type 0
-Finishes slot old new call outcome r s =
-    (acts : List BoardRequest)
-    × ((storage : List ℕ) →
-    let beside = beside_in old.drivers storage in
-    let before = record_in old.home.flash r.0 r.1 beside in
-    served old.moment.settings.strict (surroundings old.moment.settings old.moment.time before) before call
-    ≡ record { after = record_in new.home.flash s.0 s.1 beside; outcome = outcome; acts = acts })
-    × Drives (id_of slot r.1) acts old.drivers new.drivers
+-- What a call of the process in a slot comes to: what it asks of the board, which the drivers of a machine do; and,
+-- whatever the process's storage is, what it leaves of the process, and what comes of it.
+pub record Finishes (slot : ℕ) (old new : Machine) (call : CallForm) (outcome : Outcome) (r s : Resident) : Type 0 where
+  pub acts : List BoardRequest
+  pub serves : (storage : List ℕ) →
+      let beside = beside_in old.drivers storage in
+      let before = record_in old.home.flash r.0 r.1 beside in
+      served old.moment.settings.strict (surroundings old.moment.settings old.moment.time before) before call
+      ≡ record { after = record_in new.home.flash s.0 s.1 beside; outcome = outcome; acts = acts }
+  pub drives : Drives (id_of slot r.1) acts old.drivers new.drivers
 
 -- So many turns of the process in a slot may be made on a machine: it is as it is to be, so many steps are left, and
 -- the registers protect whomever they are set for.

@@ -27,6 +27,6 @@ call_shown-requires c = λ reply rule e.
     let r = record_of_slot x.home c.args.slot c.args.process.now (beside_in x.drivers []) in
     let strict = x.moment.settings.strict in
     let around = surroundings x.moment.settings x.moment.time r in
-    let is = c.serve-outcome.ensures.serves.1 [] in
+    let is = c.serve-outcome.ensures.serves.serves [] in
     sym (ap (λ (s : Served). arguments s.after.process.regs) is)
     ∙ reply_stands strict around r _ reply rule (ap (λ (s : Served). s.outcome) is ∙ e)
