@@ -1,6 +1,6 @@
 -- Choices from outside, by induction on how many were made: the first i were ready in turn, led here, and printed what
--- was written (`PlaysOn`). One more at the end of the list adds its step, labels and prints to each part; the exits
--- (all made, one that was not ready, the sink failed) follow with the laws of runs.
+-- was written (`PlaysOn`). One more at the end of the list adds its step, labels and prints to each part; from there
+-- each exit is a lemma (all made, one that was not ready, the sink failed).
 use Rattle.std.proofs.Common.{◌≡◌, ℕ, suc, ◌+◌, ◌<◌, ◌≤◌, Bool, true, false, ◌&&◌, List, [], ◌∷◌, ◌++◌, take, length}
 use Rattle.std.proofs.Common.{slice_index_or, Some, refl, sym, ap, subst, ◌∙◌, arith}
 use Rattle.std.proofs.Common.{append_assoc, append-nil, length-append}

@@ -1,6 +1,5 @@
--- Each kind of step keeps `MakesStep` of its own choice, so each clause of the step is a field of it, arm by arm; the
--- known end is handed on to the turn alone. That records are replays and that steps are accounted for are laws of the
--- world.
+-- Each kind of step keeps `MakesStep` of its own choice, and `steps_so` makes the step of it, arm by arm; the known end
+-- is handed on to the turn alone. That records are replays and that steps are accounted for are laws of the world.
 use Rattle.std.proofs.Common.{ap, subst, sym, ◌∙◌}
 use Rattle.tk_base.specs.declared.process.Choice.TheVariants.{Run, Device}
 use Rattle.kernel_model.specs.World.{World}
