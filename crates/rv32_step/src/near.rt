@@ -1,10 +1,9 @@
 //! A processor that executes instructions which are known, as long as what they touch is near.
-ghost use Rattle.std.specs.Prelude.{◌≡◌, ◌↔◌, ◌+◌, ◌*◌, ◌/◌, ◌%◌, ◌<◌, ◌^◌, IsTrue};
+ghost use Rattle.std.specs.Prelude.{◌≡◌, ◌↔◌, ◌+◌, ◌/◌, ◌%◌, ◌<◌, ◌^◌, IsTrue};
 ghost use Rattle.tk_base.specs.Regs.{with_register};
-ghost use Rattle.rv32_model.specs.UserTurn.{user_turn, w32_of};
-ghost use Rattle.rv32_step.specs.Executed.{at_pc};
+ghost use Rattle.rv32_model.specs.UserTurn.{w32_of};
 ghost use Rattle.rv32_step.specs.declared.near.Served.TheVariants.{Jumped, Straight};
-ghost use Rattle.rv32_step.specs.Near.{address_of, IsTurned};
+ghost use Rattle.rv32_step.specs.Near.{address_of, standing_of, surroundings_of, TurnsNear};
 
 use crate::execute::{extend, read_width};
 use crate::operate::{operate, takes};
@@ -50,19 +49,10 @@ impl<B: Predecoded> Near<'_, B> {
     #[inline(always)]
     pub fn turn(&mut self) -> Served
         requires { self.old.place < B.count self.old.bus.now }
-        ensures turned { let bytes = B.bytes self.old.bus.now in
-            let start = B.start self.old.bus.now in
-            IsTurned result
-            (user_turn (B.denies self.old.bus.now) bytes (at_pc self.old.regs.now (address_of start self.old.place)))
-            start (B.count self.old.bus.now)
-            (record { regs = self.old.regs.now; bytes = bytes; place = self.old.place })
-            (record { regs = self.new.regs.now; bytes = B.bytes self.new.bus.now; place = self.new.place }) }
-        ensures denies { B.denies self.new.bus.now ≡ B.denies self.old.bus.now }
-        ensures frame { B.frame self.new.bus.now ≡ B.frame self.old.bus.now }
-        ensures start { B.start self.new.bus.now ≡ B.start self.old.bus.now }
-        ensures count { B.count self.new.bus.now ≡ B.count self.old.bus.now }
-        ensures regs { self.new.regs.ghost_name ≡ self.old.regs.ghost_name }
-        ensures bus { self.new.bus.ghost_name ≡ self.old.bus.ghost_name }
+        ensures turned { TurnsNear result (surroundings_of B.denies B.frame B.start B.count self.old)
+            (standing_of B.bytes self.old) (standing_of B.bytes self.new) }
+        ensures stays { surroundings_of B.denies B.frame B.start B.count self.new
+            ≡ surroundings_of B.denies B.frame B.start B.count self.old }
     {
         // All places lie in the lower half of the addresses.
         self.bus.start();
@@ -133,28 +123,14 @@ impl<B: Predecoded> Near<'_, B> {
 
 /// What is denied, or may be, is left to others: a processor that looks for a rule.
 impl<B: Predecoded> InstrVisitor for Near<'_, B> {
-    ghost use Rattle.std.specs.Prelude.{◌+◌, ◌*◌};
-    ghost use Rattle.rv32_model.specs.UserTurn.{executed};
-    ghost use Rattle.rv32_step.specs.Executed.{at_pc};
-    ghost use Rattle.rv32_step.specs.Near.{StandsAtPlace, IsServedNear};
+    ghost use Rattle.rv32_step.specs.Near.{ServesNear, standing_of, surroundings_of};
 
     type Answer = Served;
 
     ghost handles = { λ before instr answer after.
-        let bytes = B.bytes before.bus.now in
-        let start = B.start before.bus.now in
-        (StandsAtPlace start (B.count before.bus.now) before.place before.length instr →
-        IsServedNear answer
-        (executed (B.denies before.bus.now) bytes before.length instr
-        (at_pc before.regs.now (start + 2 * before.place))) start before.length instr
-        (record { regs = before.regs.now; bytes = bytes; place = before.place })
-        (record { regs = after.regs.now; bytes = B.bytes after.bus.now; place = after.place }))
-        × (B.denies after.bus.now ≡ B.denies before.bus.now)
-        × (B.frame after.bus.now ≡ B.frame before.bus.now)
-        × (B.start after.bus.now ≡ start)
-        × (B.count after.bus.now ≡ B.count before.bus.now)
-        × (after.regs.ghost_name ≡ before.regs.ghost_name)
-        × (after.bus.ghost_name ≡ before.bus.ghost_name) };
+        ServesNear before.length instr answer
+        (surroundings_of B.denies B.frame B.start B.count before) (standing_of B.bytes before)
+        (surroundings_of B.denies B.frame B.start B.count after) (standing_of B.bytes after) };
 
     #[inline(always)]
     #[tactic(auto, unfolding(rv32_model::specs::UserTurn::executed))]
