@@ -18,7 +18,7 @@ sys.path.insert(0, os.path.join(REPOSITORY, "tools"))
 from debugger.board import Board, Refused, find_look
 from session.cells import Cells, cut, parts_of, picture_of, width_of
 from session.console import Console
-from session.kept import FARTHEST, PLACES, KeptBoards
+from session.kept import FARTHEST, MOST_STEPS, PLACES, KeptBoards
 from session.plain import Plain
 from session.recorded import Event, Recorded
 from session.sitting import DEEDS, Sitting
@@ -55,6 +55,7 @@ def chance_command(chance, sitting):
     kinds += ["back %d" % chance.choice((1, 30, 1000)), "to %d" % chance.randrange(6000), "undo", "later keep",
               "later drop", "type %s" % ("x" * chance.choice((0, 3, 70))), "send \\x00\\n",
               "tap %d" % chance.randrange(3)]
+    kinds += ["to %d" % (event.time + chance.randrange(2)) for event in sitting.recorded.events[-1:]]
     kinds += ["press 0", "release 0"] + ["%s %s" % (verb, name) for verb in (
         "list", "stop", "start", "start", "restart", "terminate")]
     return chance.choice(kinds)
@@ -71,16 +72,29 @@ def differs(program, sitting):
     return None if end.stdout == told else "%r in place of %r" % (end.stdout, told)
 
 
+def strayed(sitting):
+    """Where the session is not where a board of its script comes to in that time."""
+    board = Board(find_look(), sitting.image, sitting.out)
+    board.ask("to", 0, sitting.present.now, MOST_STEPS)
+    told, own = board.ask("state"), sitting.present.board.ask("state")
+    board.end()
+    return None if told == own else "at %d: %r in place of %r" % (sitting.present.now, own, told)
+
+
 def session_by_chance(program, chance, sitting):
     """What differs at some place of a session, and the commands up to there."""
     made = []
     sitting.save(sitting.out)
     for _ in range(COMMANDS):
         made.append(chance_command(chance, sitting))
+        now = sitting.present.now
         try:
             sitting.do(made[-1])
             if sitting.present.time > sitting.present.now:
                 return "after %r: it is at %d, past the present" % (made, sitting.present.time)
+            wrong = strayed(sitting) if sitting.present.now < now else None
+            if wrong:
+                return "after %r: %s" % (made, wrong)
             # As on a screen.
             sitting.present.go_to(sitting.present.now + chance.choice((0, 0, 400)))
         except Refused:
@@ -93,7 +107,8 @@ def session_by_chance(program, chance, sitting):
 
 
 def by_chance(program):
-    """Sessions of commands by chance: at each point the script, which is saved, gives that session on the program."""
+    """Sessions of commands by chance: at each point the script, which is saved, gives that session on the program; and
+    back a session is where a board of its script comes to in that time."""
     chance = random.Random(11)
     for image, script in SESSIONS:
         with tempfile.TemporaryDirectory() as folder:
@@ -170,6 +185,39 @@ def events_at_each_step(program):
     return None
 
 
+# Images of which one makes turns all the time, and others wait, each with a script; and what is done before one goes
+# back. With windows a board that has nothing left to do has passes as soon as an event is to come.
+BUTTONS, WINDOWS = "buttons 1\n", "partition 3\nat 40 input 41\n"
+BACK_IN = [("crunch", BUTTONS), ("press", BUTTONS), ("lights", BUTTONS), ("together", BUTTONS),
+           ("beside_hostile", BUTTONS), ("three", WINDOWS)]
+BEFORE_BACK = {BUTTONS: ["tap 0", "run 100", "send a", "run 30", "tap 0", "run 170", "type b", "run 300"],
+               WINDOWS: ["run 700", "send a", "to 650"]}
+
+
+def back_at_events(program):
+    """Back before an event, at its time, or behind it a session is where a board of its script comes to in that time,
+    though the board that it goes on from was kept before the event was made; and then it goes on with each event."""
+    for image, script in BACK_IN:
+        with tempfile.TemporaryDirectory() as folder:
+            sitting, wrong = sitting_at(folder, image, script), None
+            try:
+                for line in BEFORE_BACK[script]:
+                    sitting.do(line)
+                wrong = strayed(sitting)
+                times = {event.time + ticks for event in sitting.recorded.events for ticks in (0, 1, 2)}
+                for now in sorted(times, reverse=True):
+                    sitting.do("to %d" % now)
+                    wrong = wrong or strayed(sitting)
+                sitting.do("run 900")
+                sitting.save(sitting.out)
+                wrong = wrong or differs(program, sitting)
+            finally:
+                sitting.close()
+        if wrong:
+            return "%s %s" % (image, wrong)
+    return None
+
+
 class Counted:
     """The commands that the board of a session gets, and how many steps it makes by them."""
 
@@ -192,8 +240,8 @@ class Counted:
 
 
 def costs(program):
-    """An event is one command to the board, however many steps it made; going back makes few of them again. Where
-    nothing else is done both are done at once."""
+    """An event is one command to the board, however many steps it made; going back makes few of them again, and an
+    event there none, though it drops another one. Where nothing else is done all this is done at once."""
     with tempfile.TemporaryDirectory() as folder:
         write(folder, "given", "")
         sitting = Sitting(find_look(), IMAGE % "crunch", os.path.join(folder, "given"), None)
@@ -209,6 +257,9 @@ def costs(program):
                 commands, steps, took = counted.of(lambda: sitting.do("back %d" % ticks))
                 if commands[0] != "return" or steps > FARTHEST or is_quiet() and took > BACK_SECONDS:
                     return "back by %d: %s, %d steps, %.3f s" % (ticks, commands, steps, took)
+                commands, steps, _ = counted.of(lambda: sitting.do("type x"))
+                if steps or len(sitting.recorded.events) > 1:
+                    return "an event back by %d: %s, %d steps" % (ticks, commands, steps)
             return "an event took %.3f s" % event_took if is_quiet() and event_took > EVENT_SECONDS else None
         finally:
             sitting.close()
@@ -217,6 +268,9 @@ def costs(program):
 def is_quiet():
     """Whether the machine does little else, so that times tell something."""
     return os.getloadavg()[0] < os.cpu_count() / 2
+
+
+LARGE_IMAGE = 1 << 20
 
 
 class AnyBoard:
@@ -231,7 +285,7 @@ class AnyBoard:
 
 def kept_boards(program):
     """There are places for the boards that are kept, up to a billion steps and also after going back; the next one is
-    never far, and near about the present."""
+    never far, and near about the present. Of a large image fewer are kept."""
     chance, board = random.Random(3), AnyBoard()
     kept = KeptBoards(board)
     end = 1000000000
@@ -245,6 +299,8 @@ def kept_boards(program):
         gaps = [after - before for before, after in zip(found, found[1:])]
         if max(gaps) > FARTHEST or stop - max(steps for steps in found if steps <= stop) > kept.nearest:
             return "after %d steps: %s" % (stop, found)
+    if KeptBoards(board, LARGE_IMAGE).farthest <= FARTHEST:
+        return "keeps as many boards of a large image"
     return None if max(board.places) < PLACES else "takes place %d" % max(board.places)
 
 
@@ -257,6 +313,10 @@ BREAK_RULES = [
      "4294967295 ticks, and here it is 4294967350"),
     ("buttons 1\n", ["run 30", "send a", "run 70", "send b", "back 70", "press 1"], "line 3 of the script is refused: "
      "out-of-range: there is no button 1: by line 1 the buttons are 0 to 0"),
+    ("buttons 1\n", ["tap 0", "run 150", "send a", "to 1", "run 149", "back 50", "press 1"], "line 4 of the script is "
+     "refused: out-of-range: there is no button 1: by line 1 the buttons are 0 to 0"),
+    ("buttons 1\n", ["run 100", "send a", "back 70", "run 60", "press 1"], "line 2 of the script is refused: "
+     "out-of-range: there is no button 1: by line 1 the buttons are 0 to 0"),
     (MANY, ["run 30", "send a", "run 70", "send b", "back 20", "tap 0"], "line 4098 of the script is refused: "
      "too-many: there are at most 4096 lines `at`"),
     ("# %s\n" % ("x" * 262000), ["send a", "type " + "x" * 64], "the script would be too long: it has at most 262144 "
@@ -265,7 +325,7 @@ BREAK_RULES = [
 
 def rules(program):
     """Where an event breaks a rule of the script, that is told in words, and nothing changes; also where the second of
-    two events is refused, or others were dropped for it."""
+    two events is refused, or others were dropped for it, before which the board was where it had been kept."""
     for script, (*lines, last), said in BREAK_RULES:
         with tempfile.TemporaryDirectory() as folder:
             sitting = sitting_at(folder, "press", script)
@@ -312,6 +372,9 @@ def later(program):
                 return "has %s" % events()
             for _ in range(4):
                 sitting.do("undo")
+            # Also what was done at the start, where one went back to that meanwhile.
+            for line in ("press 0", "run 90", "to 0", "undo"):
+                sitting.do(line)
             return None if (events(), sitting.present.now) == (["500 press 1"], 0) else "at last has %s" % events()
         finally:
             sitting.close()
@@ -473,7 +536,7 @@ def checks(program):
     except Refused as error:
         print("live: not tried: %s" % error)
         return []
-    found = (by_chance, places, events_at_each_step, later, rules, kept_boards, costs, of_document, of_picture, refused,
-             helped, on_any_screen)
+    found = (by_chance, places, events_at_each_step, back_at_events, later, rules, kept_boards, costs, of_document,
+             of_picture, refused, helped, on_any_screen)
     return [("live-" + check.__name__.replace("_", "-"), lambda check=check: check(program))
             for check in found + terminals.CHECKS]

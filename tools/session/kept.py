@@ -93,7 +93,9 @@ class KeptBoards:
 
     def keep_here(self, events):
         """Keeps the board where the present went back to, so that what is done there needs no run, whatever it drops;
-        of such boards the last one."""
+        of such boards the last one. The one of the start, which has the events of the script alone, stays."""
+        if self.board.steps == 0:
+            return
         if self.back_at is not None and self.back_at % self.nearest:
             self.found.pop(self.back_at, None)
         self.back_at = self.board.steps

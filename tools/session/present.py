@@ -66,7 +66,7 @@ class Present:
         or came before it. Where one of them breaks a rule all stays as it was."""
         before = self.events, self.now, self.steps
         try:
-            self.stand(events, now, self.steps)
+            self.stand(events, now, self.steps if now == self.now else MOST_STEPS)
         except BrokenRule:
             self.stand(*before)
             raise
@@ -78,14 +78,18 @@ class Present:
         """Has the board have these events, and be at a time, after at most so many steps."""
         missing = self.here().missing(events) if now == self.now else None
         if missing is None:
-            kept, missing = self.kept.last_before(now, most, events)
+            # In the present what is done comes behind all steps that were made, also one that ended at this time.
+            kept, missing = self.kept.last_before(now if now < self.now else now + 1, most, events)
             self.board.return_to(kept.place, kept.told)
             self.events = kept.events
-            self.add_all([event for event in missing if event.time < now])
+            self.add_all([event for event in missing if event.time <= now])
             self.move("to", now, most - self.steps)
+            # Of what comes in later this board has nothing, for it may be dropped.
             self.kept.keep_here(self.events)
-            missing = [event for event in missing if event.time >= now]
+            missing = [event for event in missing if event.time > now]
         self.add_all(missing)
+        # After an event that was refused the board may still be where it was kept.
+        self.move("to", now, most - self.steps)
         self.now = now
 
     def add_all(self, missing):
