@@ -241,7 +241,8 @@ class Counted:
 
 def costs(program):
     """An event is one command to the board, however many steps it made; going back makes few of them again, and an
-    event there none, though it drops another one. Where nothing else is done all this is done at once."""
+    event there none, though it drops another one; on from there it makes those since again. Where nothing else is done
+    all this is done at once."""
     with tempfile.TemporaryDirectory() as folder:
         write(folder, "given", "")
         sitting = Sitting(find_look(), IMAGE % "crunch", os.path.join(folder, "given"), None)
@@ -260,6 +261,12 @@ def costs(program):
                 commands, steps, _ = counted.of(lambda: sitting.do("type x"))
                 if steps or len(sitting.recorded.events) > 1:
                     return "an event back by %d: %s, %d steps" % (ticks, commands, steps)
+            sitting.do("back %d" % (DEEP // 4))
+            first = sitting.present.steps
+            sitting.do("run %d" % (DEEP // 5))
+            commands, steps, _ = counted.of(lambda: sitting.do("type x"))
+            if steps > sitting.present.steps - first:
+                return "an event back and on: %d steps, from %d on" % (steps, first)
             return "an event took %.3f s" % event_took if is_quiet() and event_took > EVENT_SECONDS else None
         finally:
             sitting.close()

@@ -86,14 +86,16 @@ class KeptBoards:
         """Keeps the board as it is, with its events, in place of one that had as many steps; and no more those that
         are not wanted here."""
         now = self.board.steps
-        self.found = {steps: kept for steps, kept in self.found.items() if steps != now and self.is_wanted(steps, now)}
+        self.found = {steps: kept for steps, kept in self.found.items()
+                      if steps != now and (steps == self.back_at or self.is_wanted(steps, now))}
         place = min(set(range(PLACES)) - {kept.place for kept in self.found.values()})
         self.board.keep(place)
         self.found[now] = Kept(self.board.told, events, place)
 
     def keep_here(self, events):
-        """Keeps the board where the present went back to, so that what is done there needs no run, whatever it drops;
-        of such boards the last one. The one of the start, which has the events of the script alone, stays."""
+        """Keeps the board where the present went back to, so that what is done there, or behind it, needs no run up to
+        there, whatever it drops; of such boards the last one. The one of the start, which has the events of the script
+        alone, stays."""
         if self.board.steps == 0:
             return
         if self.back_at is not None and self.back_at % self.nearest:
