@@ -1,11 +1,13 @@
-"""Reads worked cases: of the files `Worked.antt` of proofs each statement, by its type. It has the relations that the
+"""Reads worked cases: of the files `Worked*.antt` of proofs each statement, by its type. It has the relations that the
 type concludes; where that is `⊥`, it refuses the relation before it."""
 
+import glob
+import os
 import re
 from dataclasses import dataclass
 
 from relations import Term
-from sources import read_spec
+from sources import contents, read_spec
 from terms import bare, behind, concluded, parts, read
 
 BLOCK = re.compile(r"^\S.*(?:\n(?:[ \t].*)?)*", re.M)
@@ -41,10 +43,17 @@ def case_of(relations, term, name):
                 {relations.relation(term, found, means) for found, means in heads if means and len(heads) == 1})
 
 
-def cases_of(relations, crate, text):
+def files_of(crates):
+    """The files of cases of all crates in a folder, each as its crate, its name and its text."""
+    paths = sorted(glob.glob(os.path.join(crates, "*", "proofs", "Worked*.antt")))
+    places = [(path, os.path.relpath(path, crates).removesuffix(".antt").split(os.sep, 1)) for path in paths]
+    return [(crate, file, contents(path)) for path, (crate, file) in places]
+
+
+def cases_of(relations, crate, file, text):
     """The cases of a file of proofs of a crate. A relation of the file itself is opened: it says what others do."""
     blocks = BLOCK.findall(re.sub(r"(?m)^\s*--.*$", "", text))
-    spec = read_spec(crate, "proofs/Worked", "\n".join(block.rstrip() for block in blocks if LOCAL.match(block)))
+    spec = read_spec(crate, file, "\n".join(block.rstrip() for block in blocks if LOCAL.match(block)))
     relations.names.constructors[spec.crate, spec.file] = {}
     relations.giving.update({(found.place, name): True for name, found in spec.definitions.items()})
     found = [CASE.fullmatch(block.rstrip()) for block in blocks]
@@ -56,7 +65,7 @@ class Worked:
 
     def __init__(self, relations, files):
         self.relations = relations
-        self.cases = [case for crate, text in files for case in cases_of(relations, crate, text)]
+        self.cases = [case for file in files for case in cases_of(relations, *file)]
 
     def of(self, term):
         """The cases that a relation has, and those that it refuses: its own, those of its parts, and of what is refused

@@ -94,7 +94,7 @@ decides, or words that are no texts, and are not evaluated.
 | Of these definitions | |
 |---|---|"""
 STATEMENTS = """
-A function is evaluated; a statement is not, but cases of it, or of its parts, are proved, in files `Worked.antt` of \
+A function is evaluated; a statement is not, but cases of it, or of its parts, are proved, in files `Worked*.antt` of \
 proofs (`checks/cases`).
 """
 FUNCTIONS = """\

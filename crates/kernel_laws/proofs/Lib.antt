@@ -36,3 +36,4 @@ pub mod EdgeSteps
 pub mod Arrivals
 mod Windows
 mod Worked
+mod WorkedSteps
