@@ -65,21 +65,14 @@ impl<B> Hart<'_, B> {
 /// A denied load or store, a breakpoint and bits that are no instruction leave registers and bytes as they
 /// were; a system call leaves pc at its address.
 impl<B: Bus> InstrVisitor for Hart<'_, B> {
-    ghost use Rattle.rv32_model.specs.UserTurn.{executed};
-    ghost use Rattle.rv32_step.specs.Executed.{LeavesTurn, at_pc, turn_end_of};
+    ghost use Rattle.rv32_step.specs.Executed.{Executes, hart_surroundings, hart_state, turn_end_of};
 
     type Answer = bool;
 
     ghost handles = { λ before instr went after.
-        let bytes = B.bytes before.bus.now in
-        let turn = executed (B.denies before.bus.now) bytes before.length instr
-        (at_pc before.regs.now before.pc) in
-        LeavesTurn turn bytes (at_pc after.regs.now after.pc) (B.bytes after.bus.now)
-        (turn_end_of went after.denial)
-        × (B.denies after.bus.now ≡ B.denies before.bus.now)
-        × (B.frame after.bus.now ≡ B.frame before.bus.now)
-        × (after.regs.ghost_name ≡ before.regs.ghost_name)
-        × (after.bus.ghost_name ≡ before.bus.ghost_name) };
+        Executes before.length instr (turn_end_of went after.denial)
+        (hart_surroundings B.denies B.frame before) (hart_state B.bytes before)
+        (hart_surroundings B.denies B.frame after) (hart_state B.bytes after) };
 
     #[inline(always)]
     #[tactic(auto, unfolding(rv32_model::specs::UserTurn::executed))]
