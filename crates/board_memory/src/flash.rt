@@ -92,6 +92,7 @@ impl Flash {
     }
 
     /// The bytes.
+    #[inline(always)]
     pub fn bytes(&self) -> &[u8]
         ensures { result.now ≡ self.now }
     {
@@ -99,6 +100,7 @@ impl Flash {
     }
 
     /// What is known of the even places.
+    #[inline(always)]
     pub fn entries(&self) -> &[Entry]
         ensures { AreEntries self.now result.now }
     {

@@ -79,12 +79,13 @@ impl Memory {
     }
 
     /// What a process reaches, in user mode, under these registers.
+    #[inline(always)]
     pub fn view<'a>(&'a mut self, pmp: &'a Pmp) -> View<'a>
         requires { StoresLieIn (length self.old.ram) pmp.now }
         ensures* writes_back { sem 𝓛 (LendsView self.entry result) }
-        ensures flash { result.flash.now ≡ self.old.flash }
+        ensures flash { result.sight.flash.now ≡ self.old.flash }
         ensures ram { result.ram.now ≡ self.old.ram }
-        ensures pmp { result.pmp.now ≡ pmp.now }
+        ensures pmp { result.sight.pmp.now ≡ pmp.now }
     {
         let flash = &self.flash;
         let ram = self.ram.as_mut_slice();

@@ -2,13 +2,12 @@
 ghost use Rattle.std.specs.Prelude.{◌≡◌, ◌≤◌, length};
 ghost use Rattle.tk_base.specs.declared.access.TheConstants.{RAM_START};
 ghost use Rattle.board_memory.specs.Bytes.{StoresLieIn};
-ghost use Rattle.board_memory.specs.Known.{AreEntries};
+ghost use Rattle.board_memory.specs.Sight.{IsSight};
 ghost use Rattle.process_model.specs.Instruction.{ram_after};
 ghost use Rattle.process_seat.specs.Reach.{InstructionLaws, GoesUnder, StopsUnder, turn_under};
 
-use board_memory::{Memory, View, a_store_in_ram_is_put, bytes_tell_the_ram};
+use board_memory::{Memory, Sight, View, a_store_in_ram_is_put, bytes_tell_the_ram};
 use pmp_regions::Pmp;
-use rv32_entries::Entry;
 use rv32_model::{TurnEnd, one_is_the_turn, sees_only_permitted, writes_are_permitted};
 use rv32_step::{Stretch, turns};
 use tk_base::{Regs, a_store_is_put};
@@ -24,24 +23,16 @@ pub fn instruction_laws()
     sees_only_permitted();
 }
 
-/// As many instructions over the bytes of flash and of RAM as go, at most `most`, and how the next
-/// one ends.
-fn turns_over(
-    regs: &mut Regs,
-    flash: &[u8],
-    entries: &[Entry],
-    ram: &mut [u8],
-    pmp: &Pmp,
-    most: u32,
-) -> Stretch
-    requires known { AreEntries flash.now entries.now }
-    requires stores { StoresLieIn (length ram.old) pmp.now }
+/// As many instructions over RAM as go, at most `most`, and how the next one ends.
+#[inline(always)]
+fn turns_over(regs: &mut Regs, sight: Sight<'_>, ram: &mut [u8], most: u32) -> Stretch
+    requires { IsSight (length ram.old) sight }
     ensures most { result.went ≤ most }
-    ensures goes { GoesUnder pmp.now flash.now result.went regs.old ram.old regs.new ram.new }
-    ensures stops { StopsUnder pmp.now flash.now most result.went result.end regs.new ram.new }
+    ensures goes { GoesUnder sight.entry.pmp.now sight.entry.flash.now result.went regs.old ram.old regs.new ram.new }
+    ensures stops { StopsUnder sight.entry.pmp.now sight.entry.flash.now most result.went result.end regs.new ram.new }
     ensures long { length ram.new ≡ length ram.old }
 {
-    let mut view = View::new(flash, entries, ram, pmp);
+    let mut view = View::of(sight, ram);
     turns(regs, &mut view, most)
 }
 
@@ -57,14 +48,8 @@ pub fn turns_in(regs: &mut Regs, memory: &mut Memory, pmp: &Pmp, most: u32) -> S
     ensures long { length memory.new.ram ≡ length memory.old.ram }
     ensures rest { memory.new ≡ record memory.old { ram = memory.new.ram } }
 {
-    let View {
-        flash,
-        entries,
-        ram,
-        pmp,
-        ..
-    } = memory.view(pmp);
-    turns_over(regs, flash, entries, ram, pmp, most)
+    let View { sight, ram } = memory.view(pmp);
+    turns_over(regs, sight, ram, most)
 }
 
 /// One instruction over flash and RAM.
