@@ -37,39 +37,50 @@ permitted pmp access first size from to start long window words at width low hig
     let inside = words.inside some in
     window.permits at width (omega (arith, inside.0, low)) (omega (arith, inside.1, high))
 
-pub is_data : (size most : ℕ) (pmp : List Entry) (from to start long : ℕ) → PermitsBetween pmp Load from to
-    → PermitsBetween pmp Store from to → most ≤ size → most < 2 ^ 31 → AreWords RAM_START most from to start long
-    → IsData size pmp start long
-is_data size most pmp from to start long loads stores fits small words =
+-- words in a part lie in the whole
+pub of_more : (first most size from to start long : ℕ) → AreWords first most from to start long → most ≤ size
+    → AreWords first size from to start long
+of_more first most size from to start long words fits =
     let ends = words.ends in
     record {
       aligned = words.aligned;
       words = words.words;
       starts = words.starts;
       ends = omega (arith, ends, fits);
-      wraps = omega (arith, ends, small);
-      loads = permitted pmp Load RAM_START most from to start long loads words;
-      stores = permitted pmp Store RAM_START most from to start long stores words;
+      inside = words.inside;
     }
 
-pub is_code : (flash code : List ℕ) (most : ℕ) (pmp : List Entry) (from to start long : ℕ)
-    → PermitsBetween pmp Fetch from to
-    → PermitsBetween pmp Load from to → most ≤ RAM_START - FLASH_START → most ≤ length flash
-    → AreWords FLASH_START most from to start long
-    → length code ≡ long → code ≡ take long (drop (start - FLASH_START) flash) → IsCode flash pmp start code
-is_code flash code most pmp from to start long fetches loads below within words size bytes =
+pub is_data : (size : ℕ) (pmp : List Entry) (from to start long : ℕ) → PermitsBetween pmp Load from to
+    → PermitsBetween pmp Store from to → AreWords RAM_START size from to start long → start + long ≤ 2 ^ 32
+    → IsData size pmp start long
+is_data size pmp from to start long loads stores words wraps = record {
+  aligned = words.aligned;
+  words = words.words;
+  starts = words.starts;
+  ends = words.ends;
+  wraps = wraps;
+  loads = permitted pmp Load RAM_START size from to start long loads words;
+  stores = permitted pmp Store RAM_START size from to start long stores words;
+}
+
+pub is_code : (flash code : List ℕ) (pmp : List Entry) (from to start long : ℕ) → PermitsBetween pmp Fetch from to
+    → PermitsBetween pmp Load from to → AreWords FLASH_START (length flash) from to start long
+    → start + long ≤ RAM_START → length code ≡ long → code ≡ take long (drop (start - FLASH_START) flash)
+    → IsCode flash pmp start code
+is_code flash code pmp from to start long fetches loads words below size bytes =
     let ends = words.ends in
+    let starts = words.starts in
     record {
       starts = words.starts;
-      ends = omega (arith, ends, below, size);
-      inside = omega (arith, ends, within, size);
+      ends = omega (arith, below, size);
+      inside = omega (arith, starts, ends, size);
       bytes = subst (λ (n : ℕ). code ≡ take n (drop (start - FLASH_START) flash)) (sym size) bytes;
       may = subst (λ (n : ℕ). (at : ℕ) (width : Width) → start ≤ at → at + width_bytes width ≤ start + n
           → denied_by_registers pmp Fetch at width ≡ None) (sym size)
-          (permitted pmp Fetch FLASH_START most from to start long fetches words);
+          (permitted pmp Fetch FLASH_START (length flash) from to start long fetches words);
       loads = subst (λ (n : ℕ). (at : ℕ) (width : Width) → start ≤ at → at + width_bytes width ≤ start + n
           → denied_by_registers pmp Load at width ≡ None) (sym size)
-          (permitted pmp Load FLASH_START most from to start long loads words);
+          (permitted pmp Load FLASH_START (length flash) from to start long loads words);
       aligned = words.aligned;
       words = subst (λ (n : ℕ). n % 4 ≡ 0) (sym size) words.words;
     }

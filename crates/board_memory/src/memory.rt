@@ -4,11 +4,13 @@ ghost use Rattle.tk_base.specs.declared.access.TheConstants.{RAM_START};
 ghost use Rattle.std.specs.Borrow.{sem};
 ghost use Rattle.board_memory.specs.Bytes.{StoresLieIn};
 
-use crate::flash::Flash;
+use crate::flash::{cold_entries, decode_between};
 use crate::parts::Block;
 use crate::view::View;
+use crate::windows::Windows;
 use pmp_regions::Pmp;
 use process_layout::Layout;
+use rv32_entries::Entry;
 use std::alloc::Global;
 use std::marker::Model;
 use tk_base::{Addr, FLASH_START, NoMemory, RAM_START};
@@ -17,8 +19,12 @@ use tk_base::{Addr, FLASH_START, NoMemory, RAM_START};
 /// has the address [`RAM_START`]. All processes have their blocks in the one RAM.
 #[derive(Drop)]
 pub struct Memory {
-    flash: Flash,
+    flash: Vec<u8>,
+    /// Of each even place of flash the instruction there, or nothing known.
+    entries: Vec<Entry>,
     ram: Vec<u8>,
+    /// The windows of the registers under which memory was last reached, or empty ones.
+    windows: Windows,
 }
 
 impl Model for Memory {
@@ -26,7 +32,14 @@ impl Model for Memory {
 
     ghost Value = { MemoryBytes };
 
-    ghost view = { λ m. record { flash = m.flash; ram = m.ram.items } };
+    ghost use Rattle.std.specs.Prelude.{length};
+    ghost use Rattle.board_memory.specs.Known.{AreEntries};
+    ghost use Rattle.board_memory.specs.Windows.{AreWindows};
+
+    ghost view = { λ m. record { flash = m.flash.items; ram = m.ram.items } };
+
+    ghost invariant = { λ m. AreEntries m.flash.items m.entries.items
+        × AreWindows m.flash.items m.entries.items (length m.ram.items) m.windows };
 }
 
 impl Memory {
@@ -40,8 +53,13 @@ impl Memory {
             (λ memory. memory ≡ record { flash = flash.items; ram = replicate ram 0 }) }
     {
         let ram = vec![in alloc; 0u8; ram as usize]?;
-        let flash = Flash::new(alloc, flash)?;
-        Ok(Memory { flash, ram })
+        let entries = cold_entries(alloc, flash.as_slice())?;
+        Ok(Memory {
+            flash,
+            entries,
+            ram,
+            windows: Windows::none(),
+        })
     }
 
     /// The same memory again. The one error is want of memory.
@@ -49,8 +67,14 @@ impl Memory {
         ensures { IfOk result (λ memory. memory ≡ self.now) }
     {
         let ram = self.ram.as_slice().to_vec(alloc)?;
-        let flash = self.flash.copied(alloc)?;
-        Ok(Memory { flash, ram })
+        let flash = self.flash.as_slice().to_vec(alloc)?;
+        let entries = self.entries.as_slice().to_vec(alloc)?;
+        Ok(Memory {
+            flash,
+            entries,
+            ram,
+            windows: Windows::none(),
+        })
     }
 
     /// Decodes the instructions of flash between two addresses, so that they need not be decoded when they are
@@ -58,14 +82,15 @@ impl Memory {
     pub fn decode(&mut self, from: Addr, to: Addr)
         ensures { self.new ≡ self.old }
     {
-        self.flash.decode(from, to);
+        decode_between(self.flash.as_slice(), &mut self.entries, from, to);
+        self.windows = Windows::none();
     }
 
     /// The bytes of flash.
     pub fn flash(&self) -> &[u8]
         ensures { result.now ≡ self.now.flash }
     {
-        self.flash.bytes()
+        self.flash.as_slice()
     }
 
     /// Makes every byte of a block 0. Nothing else of memory changes.
@@ -87,9 +112,14 @@ impl Memory {
         ensures ram { result.ram.now ≡ self.old.ram }
         ensures pmp { result.sight.pmp.now ≡ pmp.now }
     {
-        let flash = &self.flash;
+        let size = self.ram.len();
+        self.windows
+            .follow(self.flash.as_slice(), self.entries.as_slice(), size, pmp);
+        let windows = self.windows;
+        let flash = self.flash.as_slice();
+        let entries = self.entries.as_slice();
         let ram = self.ram.as_mut_slice();
-        View::new(flash.bytes(), flash.entries(), ram, pmp)
+        View::new(flash, entries, ram, pmp, windows)
     }
 
     /// The accessible flash of a process, and its block with the place of the kernel break in it. What is
@@ -109,7 +139,7 @@ impl Memory {
         );
         let (from, to) = (layout.start - RAM_START, layout.end - RAM_START);
         let cut = (layout.kernel_break - layout.start) as usize;
-        let flash = &self.flash.bytes()[flash_from as usize..flash_to as usize];
+        let flash = &self.flash.as_slice()[flash_from as usize..flash_to as usize];
         Block::new(flash, self.ram.slice_mut(from as usize..to as usize), cut)
     }
 

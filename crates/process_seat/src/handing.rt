@@ -25,6 +25,7 @@ pub(crate) fn in_order(layout: &Layout)
 }
 
 /// Swaps the pair in a block of memory.
+#[inline(always)]
 fn swap_in(
     memory: &mut Memory,
     layout: &mut Layout,
@@ -77,6 +78,7 @@ fn note_handed(layout: &mut Layout, inbox: &mut Inbox, handover: Handover)
 
 /// Hands a pair of the process in a seat to a driver. [`NoRoom`] tells the break and the kernel break of the process,
 /// in which nothing has changed.
+#[inline(always)]
 pub fn hand_at(
     memory: &mut Memory,
     seat: &mut Seat,
