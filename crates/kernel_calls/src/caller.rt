@@ -178,6 +178,7 @@ impl Caller<'_> {
     }
 
     /// Hands a pair to a driver, and gives the former one.
+    #[inline(always)]
     pub fn hand(&mut self, handover: Handover) -> Result<(u32, u32), NoRoom>
         requires pair { CanHand handover }
         requires may { IsTrue (may_share handover.kind self.old.own.layout handover.pair) }
