@@ -1,7 +1,8 @@
 -- That a request asks for what its command said, by the rows of the drivers' tables: each leaves the request of a
 -- queue, takes it away, or puts the one that its arguments ask for. A turn follows by the walk over calls; an answer,
 -- event by event, leaves none, or one that goes on from the one before (`GoesOnAs`).
-use Rattle.std.proofs.Common.{◌≡◌, ◌⊎◌, inl, inr, ℕ, ◌+◌, ◌-◌, ◌==◌, Bool, true, false, cond, nat_le, List, [], ◌∷◌, Option}
+use Rattle.std.proofs.Common.{◌≡◌, ◌⊎◌, inl, inr, ℕ, ◌+◌, ◌-◌, ◌==◌, Bool, true, false, cond, nat_le, List, []}
+use Rattle.std.proofs.Common.{◌∷◌, Option}
 use Rattle.std.proofs.Common.{None, Some, Result, Ok, Err, IfSome, slice_get, slice_set, unwrap_or, refl}
 use Rattle.std.proofs.Common.{sym, ap, ap₂, subst, ◌∙◌, eqb-true}
 use Rattle.std.specs.Prelude.{IsSomeAnd}
@@ -61,7 +62,8 @@ use Rattle.driver_model.specs.Storage as storage
 use Rattle.driver_model.specs.Storage.{storages}
 use Rattle.kernel_model.specs.Record.{Record, record_with_step}
 use Rattle.kernel_model.specs.declared.settings.Settings.{Settings}
-use Rattle.kernel_model.specs.Calls.{Served, comes_to, deliver, driver_answered, failure_of, refused_with, replied as replied_to}
+use Rattle.kernel_model.specs.Calls.{Served, comes_to, deliver, driver_answered, failure_of, refused_with}
+use Rattle.kernel_model.specs.Calls.{replied as replied_to}
 use Rattle.kernel_model.specs.Calls.{restart, served, yield_for, yield_now, yielding}
 use Rattle.kernel_model.specs.Laws.{DriversPromise}
 use Rattle.kernel_model.specs.Parts.{own_swapped, restarted_by, restarted_main, with_break_at, with_process}
@@ -147,7 +149,8 @@ other_driver : (here queue : QueueName) → ((kind_in here).driver == (kind_in q
 other_driver here queue apart request own =
     ap (option_and_then (kind_in queue).told) (kept_beside (kind_in here).driver (kind_in queue).driver _ own apart)
 
-pub beside_asks : (here queue : QueueName) → is_same here queue ≡ false → (request : Option (RequestOf here)) (own : Own)
+pub beside_asks : (here queue : QueueName) → is_same here queue ≡ false → (request : Option (RequestOf here))
+    (own : Own)
     → asks queue (with_request (kind_in here) request own) ≡ asks queue own
 unfolding beside_told
 beside_asks Writes Writes apart = absurd (false≢true (sym apart))
@@ -274,7 +277,8 @@ module _ (number x y : ℕ) (own : Own) where
       (row Writes console.console number x y own 1 _ _
       (λ is. asking_here Writes console.console number x y own (record { length = x; taken = 0 }) ((refl, is), refl))
       (row Writes console.console number x y own 2 _ _
-      (λ is. if_so Writes console.console number x y own (x == 0) _ _ (refused Writes console.console number x y own Empty)
+      (λ is. if_so Writes console.console number x y own (x == 0) _ _ (refused Writes console.console number x y own
+      Empty)
       (asking_other Writes console.console number x y own Reads refl (record { length = x })))
       (row Writes console.console number x y own 3 _ _ (λ is. cancelled (request_in console_reads own))
       (refused Writes console.console number x y own NoCommand))))
@@ -294,7 +298,8 @@ module _ (number x y : ℕ) (own : Own) where
       (row Reads console.console number x y own 1 _ _
       (λ is. asking_other Reads console.console number x y own Writes refl (record { length = x; taken = 0 }))
       (row Reads console.console number x y own 2 _ _
-      (λ is. if_so Reads console.console number x y own (x == 0) _ _ (refused Reads console.console number x y own Empty)
+      (λ is. if_so Reads console.console number x y own (x == 0) _ _ (refused Reads console.console number x y own
+      Empty)
       (asking_here Reads console.console number x y own (record { length = x }) ((refl, is), refl)))
       (row Reads console.console number x y own 3 _ _ (λ is. cancelled (request_in console_reads own))
       (refused Reads console.console number x y own NoCommand))))
@@ -325,7 +330,8 @@ module _ (number x y : ℕ) (own : Own) where
   unfolding storage.commands
   stores_leave size =
       row Stores storage.storage number x y own 0 _ _ (λ is. replied Stores storage.storage number x y own Success)
-      (row Stores storage.storage number x y own 1 _ _ (λ is. replied Stores storage.storage number x y own (SuccessU32 size))
+      (row Stores storage.storage number x y own 1 _ _ (λ is. replied Stores storage.storage number x y own
+      (SuccessU32 size))
       (row Stores storage.storage number x y own 2 _ _
       (λ is. if_fits (record { kind = Read; offset = x; length = y }) (inl ((refl, is), refl)))
       (row Stores storage.storage number x y own 3 _ _
@@ -419,7 +425,8 @@ follows_kept queue own o call grants lives =
     follows_same queue own o call (waits_same queue own o (grants_same queue own o grants) lives)
 
 -- one that starts again has none
-pub of_restart : (Q : Own → Type 0) (s : Record) → Q s.own → ((brk : ℕ) → Q (own_restarted brk s.own)) → Q (restart s).own
+pub of_restart : (Q : Own → Type 0) (s : Record) → Q s.own → ((brk : ℕ) → Q (own_restarted brk s.own)) → Q
+    (restart s).own
 unfolding restart
 of_restart Q s same again = by_reading (header_reading s.object)
   where
@@ -564,7 +571,8 @@ module _ (promise : DriversPromise) (queue : QueueName) (r : Record) (form : Cal
         commands = λ driver number x y taker same there.
             let c = taker (surroundings settings time r) number x y r.own in
             by_answer driver number x y same c
-            (ap (λ (o : Own). o.lives) (promise.stay driver taker there (surroundings settings time r) number x y r.own))
+            (ap (λ (o : Own). o.lives) (promise.stay driver taker there (surroundings settings time r) number x y
+            r.own))
             (command_leaves queue (surroundings settings time r) number x y r.own driver taker there) c.answer refl;
         ends = λ kind code same. tt;
         again = λ kind code same.
@@ -791,7 +799,8 @@ module _ (own : Own) where
     where
       by_waiting : (waiting : Option StorageRequest)
           → GoesOn Stores (asks Stores own) (asks Stores (own_after (unwrap_or (option_map
-          (λ (request : StorageRequest). storage.finished (storage.storage_served fault flash bytes request own)) waiting)
+          (λ (request : StorageRequest). storage.finished (storage.storage_served fault flash bytes request own))
+          waiting)
           (unanswered None own)).step))
       by_waiting None = goes_same Stores (asks Stores own) _ refl
       by_waiting (Some request) =
