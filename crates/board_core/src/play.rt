@@ -29,12 +29,14 @@ impl Board {
     /// first such one: the board then shows the world after those before it, and all that they
     /// printed was written. `Failed` comes only where the sink's count of faults rose; what was
     /// written is a front of what the choices made print, and they are as few as print more than
-    /// that. No memory is taken. Of each process by itself [`processes_follow_their_own_events`]
-    /// says what the choices lead to.
+    /// that. No memory is taken. Clause `each` says of each process by itself what the choices lead to
+    /// ([`processes_follow_their_own_events`]).
     pub fn play<K: Sink>(&mut self, choices: &[Choice], out: &mut K) -> Result<(), PlayEnd>
-        ensures { Plays K.tells self.old self.new choices.now out.old out.new result }
+        ensures plays { Plays K.tells self.old self.new choices.now out.old out.new result }
+        ensures each { ProcessesFollowTheirOwnEvents }
     {
         writes_compose::<K>();
+        processes_follow_their_own_events();
         let mut emit = Emit::new();
         for (place, choice) in choices.iter().enumerate() {
             let Ok(()) = self.step(*choice, &mut emit) else {
