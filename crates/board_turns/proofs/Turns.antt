@@ -31,10 +31,15 @@ use Rattle.upcall_queue.specs.Pending.{due}
 use Rattle.kernel_calls.specs.Outcomes.{deliver_due}
 use Rattle.kernel_model.specs.Calls.{restart}
 use Rattle.kernel_model.specs.Parts.{restarted_by, restarted_main}
-use Rattle.kernel_model.specs.Turn.{Turned, turn_counted, at_turn_end, faulted, idle, turn_in, turned}
+use Rattle.kernel_model.specs.Calls.{Served}
+use Rattle.kernel_model.specs.Turn.{Turned, called, made as call_made, turn_counted, at_turn_end, faulted, idle, turn_in, turned}
+use Rattle.process_record.specs.declared.outcome.Outcome.{Outcome}
+use Rattle.process_record.specs.declared.outcome.Outcome.TheVariants as outcomes
+use Rattle.syscall_abi.specs.declared.form.CallForm.{CallForm}
+use Rattle.tk_base.specs.Regs.{Registers}
 use Rattle.kernel_model.specs.Parts.{calls, delivery}
 use Rattle.kernel_model.specs.Parts.{unknown_call}
-use Rattle.driver_model.specs.Commands.{leaving_all}
+use Rattle.driver_model.specs.Commands.{BoardRequest, leaving_all}
 use Rattle.board_turns.specs.declared.guard.ActivePmp.{ActivePmp}
 use Rattle.board_turns.specs.declared.machine.Machine.{Machine}
 use Rattle.board_turns.specs.Guards.{GuardsOnly, IsSetFor}
@@ -44,6 +49,7 @@ use Rattle.kernel_model.specs.Laws.{DropsAtMostOne}
 use Rattle.kernel_model.proofs.Places.{free_turned}
 use Rattle.board_drivers.specs.Driven.{Drives, MayServe, beside_in}
 use Rattle.board_drivers.specs.Residents.{IsResident, Resident, id_of, resident}
+use Rattle.board_turns.specs.Turning.{Finishes, ReplyStands, answered, asked}
 use Rattle.board_turns.specs.Turning.{InTurn, IsMade, LeavesMachine, MayTurn, ServesCall, Settles, Turns, TurnsOut}
 use Rattle.board_turns.specs.Turning.{after_instruction, machine_instructed, next_instruction, nothing_shown}
 use Rattle.board_drivers.proofs.Orders.{drives_nothing}
@@ -212,6 +218,42 @@ unknown_faults slot x y old new denial shown none is e settles drives = λ acces
       settles beside,
       record { call = ap (λ (s : Shown). s.call) (sym e); denial = ap (λ (s : Shown). s.denial) (sym e) },
       drives,
+    )
+
+-- a call that was asked for, with what came of it, is the call that was made
+answered_is_made : (regs : Registers) (outcome : Outcome) (after : Registers) → ReplyStands regs outcome after
+    → answered (asked regs) outcome after ≡ call_made regs outcome
+answered_is_made regs (outcomes.Replied reply rule) after stands =
+    ap (λ (words : List ℕ). record (asked regs) { reply = Some words; rule = rule }) (stands reply rule refl)
+answered_is_made regs outcomes.ToDriver after stands = refl
+answered_is_made regs outcomes.Waits after stands = refl
+answered_is_made regs outcomes.Delivered after stands = refl
+answered_is_made regs outcomes.GoesOn after stands = refl
+answered_is_made regs outcomes.Ended after stands = refl
+answered_is_made regs outcomes.Again after stands = refl
+
+-- a call of a known class is served, and shown with what came of it
+pub call_serves : (slot : ℕ) (x y : Machine) (old new : Resident) (call : CallForm) (outcome : Outcome)
+    (after : Registers) (shown : Shown) → call_of old.0.regs ≡ Some call → Finishes slot x y call outcome old new
+    → ChangesOnly slot x.home y.home → ReplyStands old.0.regs outcome after
+    → shown ≡ record { call = Some (answered (asked old.0.regs) outcome after); denial = None }
+    → ServesCall slot x y shown old new
+call_serves slot x y old new call outcome after shown known finishes only stands e = λ accesses storage.
+    let m = x.moment in
+    let beside = beside_in x.drivers storage in
+    let r = record_in x.home.flash old.0 old.1 beside in
+    let is = finishes.serves storage in
+    as_known slot x y shown beside old new _ (called r accesses call _)
+    (ap (calls m.settings m.time r accesses) known) (
+      ap (λ (s : Served). s.after) is
+          ∙ ap (λ (flash : List ℕ). record_in flash new.0 new.1 beside) (only_flash slot x.home y.home only),
+      record {
+        call = ap (λ (s : Served). Some (call_made old.0.regs s.outcome)) is
+            ∙ ap Some (sym (answered_is_made old.0.regs outcome after stands)) ∙ ap (λ (s : Shown). s.call) (sym e);
+        denial = ap (λ (s : Shown). s.denial) (sym e);
+      },
+      subst (λ (acts : List BoardRequest). Drives (id_of slot old.1) acts x.drivers y.drivers)
+          (sym (ap (λ (s : Served). s.acts) is)) finishes.drives,
     )
 
 -- the start again of a process that faulted is that of one whose denial was recorded

@@ -7,7 +7,7 @@ use Rattle.rv32_model.specs.declared.turn_end.TurnEnd.{TurnEnd}
 use Rattle.rv32_model.specs.declared.turn_end.TurnEnd.TheVariants.{Went}
 use Rattle.tk_base.specs.Regs.{Registers}
 use Rattle.tk_base.specs.declared.call.CallRule.{CallRule}
-use Rattle.syscall_abi.specs.Call.{call_of}
+use Rattle.syscall_abi.specs.Call.{call_of, class}
 use Rattle.syscall_abi.specs.Reply.{put_reply}
 use Rattle.syscall_abi.specs.declared.reply.Reply.{Reply}
 use Rattle.process_record.specs.declared.outcome.Outcome.TheVariants.{Replied}
@@ -15,6 +15,7 @@ use Rattle.process_model.specs.Own.{Own}
 use Rattle.process_model.specs.Instruction.{with_write}
 use Rattle.process_record.specs.Process.{after_turn}
 use Rattle.process_record.specs.Parts.{after_fault}
+use Rattle.process_record.specs.declared.emit.CallMade.{CallMade}
 use Rattle.process_record.specs.declared.emit.Emit.{Emit}
 use Rattle.process_record.specs.declared.process.Process.{Process}
 use Rattle.grant_enter.specs.Homes.{ChangesOnly, Homes, with_own}
@@ -22,7 +23,7 @@ use Rattle.tk_base.specs.declared.access.Denial.{Denial}
 use Rattle.fault_policy.specs.Policy.{decision}
 use Rattle.fault_policy.specs.declared.Policy.{Policy}
 use Rattle.kernel_model.specs.Record.{Record, instruction}
-use Rattle.kernel_model.specs.Turn.{Turned, arguments, settled, surroundings, turned}
+use Rattle.kernel_model.specs.Turn.{Turned, arguments, rule_shown, settled, surroundings, turned}
 use Rattle.kernel_model.specs.Parts.{calls}
 use Rattle.kernel_calls.specs.Own.{Beside, record_in}
 use Rattle.kernel_model.specs.Calls.{served}
@@ -98,6 +99,19 @@ abbrev pub ReplyStands : Registers → Outcome → Registers → Type 0
 ReplyStands before outcome after =
     (reply : Reply) (rule : Option CallRule) → outcome ≡ Replied reply rule →
     arguments after ≡ arguments (put_reply reply before)
+
+-- the call that registers make, as a step shows it where nothing came of it yet
+abbrev pub asked : Registers → CallMade
+asked regs = record { class = class regs; args = arguments regs; reply = None; rule = None }
+
+-- the reply to a call, where what came of it is one, from the registers that have it
+abbrev pub reply_in : Outcome → Registers → Option (List ℕ)
+reply_in (Replied reply rule) after = Some (arguments after)
+reply_in other after = None
+
+-- that call with what came of it
+abbrev pub answered : CallMade → Outcome → Registers → CallMade
+answered call outcome after = record call { reply = reply_in outcome after; rule = rule_shown outcome }
 
 -- a fault of a process is settled as a policy decides, whatever the process has beside
 abbrev pub Settles : Policy → List ℕ → Denial → Resident → Resident → Type 0

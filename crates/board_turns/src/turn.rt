@@ -11,14 +11,14 @@ ghost use Rattle.process_model.specs.Flash.{object_in};
 ghost use Rattle.kernel_calls.specs.Own.{Beside, record_in};
 ghost use Rattle.board_drivers.specs.Driven.{Drives, MayServe};
 ghost use Rattle.kernel_model.specs.Calls.{restart};
-ghost use Rattle.kernel_model.specs.Turn.{arguments, made};
+ghost use Rattle.kernel_model.specs.Turn.{arguments};
 ghost use Rattle.kernel_model.specs.Parts.{unknown_call};
 ghost use Rattle.board_drivers.specs.Residents.{IsResident, id_of, resident};
 ghost use Rattle.board_turns.specs.Guards.{IsSetFor};
 ghost use Rattle.board_turns.specs.Turning.{Finishes, HasProcess, InTurn, IsKnownEnd, IsMade};
-ghost use Rattle.board_turns.specs.Turning.{LeavesMachine, MayTurn, ReplyStands, ServesCall};
+ghost use Rattle.board_turns.specs.Turning.{LeavesMachine, MayTurn, ServesCall};
 ghost use Rattle.board_turns.specs.Turning.{Settles, StepsInSlot, Turns, next_instruction};
-ghost use Rattle.board_turns.specs.Turning.{machine_instructed, nothing_shown, told_in_emit, with_shown};
+ghost use Rattle.board_turns.specs.Turning.{answered, asked, machine_instructed, nothing_shown, told_in_emit, with_shown};
 
 use crate::machine::Machine;
 use board_drivers::Order;
@@ -45,11 +45,21 @@ fn arguments_of(regs: &Regs) -> [u32; 4]
     [regs.get(10), regs.get(11), regs.get(12), regs.get(13)]
 }
 
-/// The call as a step shows it, from the registers before it and what came of it. Its reply stands
-/// in the registers after it.
-fn call_shown(before: &Regs, outcome: Outcome, after: &Regs) -> CallMade
-    requires { ReplyStands before.now outcome after.now }
-    ensures { result ≡ made before.now outcome }
+/// The call that the registers make, as a step shows it where nothing came of it yet.
+fn call_asked(regs: &Regs) -> CallMade
+    ensures { result ≡ asked regs.now }
+{
+    CallMade {
+        class: regs.get(Call::CLASS),
+        args: arguments_of(regs),
+        reply: None,
+        rule: None,
+    }
+}
+
+/// That call with what came of it. Its reply stands in the registers after it.
+fn call_shown(call: CallMade, outcome: Outcome, after: &Regs) -> CallMade
+    ensures { result ≡ answered call outcome after.now }
 {
     let (reply, rule) = match outcome {
         Outcome::Replied(_reply, rule) => (Some(arguments_of(after)), rule),
@@ -60,9 +70,10 @@ fn call_shown(before: &Regs, outcome: Outcome, after: &Regs) -> CallMade
         | Outcome::Ended
         | Outcome::Again => (None, None),
     };
+    let args = call.args;
     CallMade {
-        class: before.get(Call::CLASS),
-        args: arguments_of(before),
+        class: call.class,
+        args,
         reply,
         rule,
     }
@@ -254,13 +265,13 @@ impl Machine {
             (resident self.new.home slot process.new) }
         ensures emit { emit.new ≡ with_shown emit.old (told_in_emit emit.new) }
     {
-        let before = process.regs;
-        let Some(call) = Call::of(&before) else {
+        let asked = call_asked(&process.regs);
+        let Some(call) = Call::of(&process.regs) else {
             let denial = unknown_class(process);
             return self.fault_at(process, slot, denial, emit);
         };
         let outcome = self.serve(process, slot, &call);
-        emit.made = Some(call_shown(&before, outcome, &process.regs));
+        emit.made = Some(call_shown(asked, outcome, &process.regs));
     }
 
     /// The turn of a process that runs: an instruction of it, and what a system call or a denial
