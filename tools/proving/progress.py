@@ -4,7 +4,7 @@ import sys
 import time
 
 # How many seconds a KiB of functions takes before any was measured here, on four processors.
-EXPECTED = 1.5
+EXPECTED = 1.0
 
 # How many seconds nothing is told after something was.
 PAUSE = 10
