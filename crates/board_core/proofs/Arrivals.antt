@@ -23,7 +23,7 @@ use Rattle.board_drivers.specs.declared.drivers.Drivers.{Drivers}
 use Rattle.board_drivers.specs.Calm.{IsCalm}
 use Rattle.board_drivers.specs.Driven.{devices_of}
 use Rattle.board_drivers.specs.Parts.{AreBoardParts}
-use Rattle.board_drivers.specs.Residents.{record_of}
+use Rattle.kernel_calls.specs.Residents.{record_of}
 use Rattle.board_drivers.specs.Tells.{Arrives}
 use Rattle.board_drivers.proofs.Edges as parts
 use Rattle.board_turns.specs.Guards.{GuardsOnly}

@@ -49,10 +49,10 @@ use Rattle.board_drivers.specs.declared.drivers.Drivers.{Drivers}
 use Rattle.board_drivers.specs.Calm.{end_at, only_of}
 use Rattle.kernel_model.specs.Shown.{summary_of}
 use Rattle.board_core.specs.declared.state.BoardState.{BoardState}
-use Rattle.board_drivers.specs.Residents.{Resident, resident, resident_turns, can_turn_in, resident_line}
+use Rattle.kernel_calls.specs.Residents.{Resident, resident, resident_turns, can_turn_in, resident_line}
 use Rattle.board_core.specs.Shows.{IsBoard, recorded, world_of, residents}
 use Rattle.board_drivers.proofs.Records.{beside_get, reads_shown, owns_shown, seated_there}
-use Rattle.board_drivers.proofs.Pairs.{get_or-zip, length-firsts}
+use Rattle.kernel_calls.proofs.Pairs.{get_or-zip, length-firsts}
 use Rattle.board_turns.specs.Turning.{HasProcess, MayTurn}
 
 -- each process has storage

@@ -23,11 +23,11 @@ use Rattle.board_core.specs.declared.state.BoardState.{BoardState}
 use Rattle.board_drivers.specs.declared.moment.Moment.{Moment}
 use Rattle.board_turns.specs.declared.turn.Shown.{Shown}
 use Rattle.board_drivers.specs.Driven.{devices_of}
-use Rattle.board_drivers.specs.Residents.{Resident, record_of, id_of, IsResident}
+use Rattle.kernel_calls.specs.Residents.{Resident, record_of, id_of, IsResident}
 use Rattle.board_turns.specs.Turning.{ChangesSlot, StepsInSlot, Turns}
 use Rattle.board_core.specs.Shows.{world_of, residents}
 use Rattle.board_turns.proofs.Turns.{rests_seated_on}
-use Rattle.board_drivers.proofs.Pairs.{zip-set, zip-get}
+use Rattle.kernel_calls.proofs.Pairs.{zip-set, zip-get}
 use Rattle.board_drivers.proofs.Routing.{drives_shown}
 use Rattle.board_drivers.proofs.Records.{bytes_of, record_found}
 use Rattle.board_turns.specs.declared.machine.Machine.{Machine}

@@ -49,7 +49,7 @@ use Rattle.board_drivers.specs.Calm.{AlarmsTell, IsCalm}
 use Rattle.board_drivers.specs.Driven.{AreDriven, IsQueueOf, devices_of, ids_waiting_in}
 use Rattle.board_turns.specs.Guards.{GuardsOnly}
 use Rattle.board_core.specs.Makes.{MakesStep, shown_printed}
-use Rattle.board_drivers.specs.Residents.{HasLost, IsResident, record_of}
+use Rattle.kernel_calls.specs.Residents.{HasLost, IsResident, record_of}
 use Rattle.board_turns.specs.Turning.{ChangesSlot}
 use Rattle.board_core.specs.Shows.{IsBoard, recorded, world_of, residents}
 use Rattle.board_drivers.specs.Tells.{DeviceTold, is_alarm, tells_one}

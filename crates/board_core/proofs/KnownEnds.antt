@@ -10,7 +10,7 @@ use Rattle.process_record.specs.declared.process.Process.{Process}
 use Rattle.grant_enter.specs.Homes.{nobody, own_of}
 use Rattle.kernel_model.specs.Record.{Record}
 use Rattle.kernel_model.specs.World.{World}
-use Rattle.board_drivers.specs.Residents.{resident}
+use Rattle.kernel_calls.specs.Residents.{resident}
 use Rattle.board_drivers.proofs.Records.{beside, record_found}
 use Rattle.board_turns.specs.Turning.{IsKnownEnd as IsKnownOf}
 use Rattle.board_core.specs.declared.state.BoardState.{BoardState}

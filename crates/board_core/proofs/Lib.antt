@@ -18,3 +18,4 @@ pub mod Tables
 pub mod InWindows
 pub mod KnownEnds
 pub mod Gone
+pub mod Fresh

@@ -22,7 +22,7 @@ use Rattle.kernel_model.specs.Named.{can_run}
 use Rattle.kernel_model.specs.Turn.{has_turn}
 use Rattle.kernel_model.specs.World.{is_ready, may_be_made}
 use Rattle.board_core.specs.declared.state.BoardState.{BoardState}
-use Rattle.board_drivers.specs.Residents.{Resident}
+use Rattle.kernel_calls.specs.Residents.{Resident}
 use Rattle.board_core.specs.Shows.{IsBoard, recorded, residents, world_of}
 use Rattle.tk_base.specs.declared.process.ProcessId.{ProcessId}
 use Rattle.driver_requests.specs.Waiting.{waits}
@@ -34,7 +34,7 @@ use Rattle.board_drivers.specs.Driven.{IsQueueOf, IsThere, ids_waiting_in}
 use Rattle.board_core.specs.Looks.{LivesThere}
 use Rattle.board_core.proofs.Boards.{has_storage}
 use Rattle.board_drivers.proofs.Records.{owns_shown}
-use Rattle.board_drivers.proofs.Pairs.{length-firsts, zip-get}
+use Rattle.kernel_calls.proofs.Pairs.{length-firsts, zip-get}
 use Rattle.board_drivers.proofs.Records.{beside_get}
 
 module _ (b : BoardState) (board : IsBoard b) (slot : ℕ) where

@@ -49,7 +49,7 @@ use Rattle.board_drivers.specs.Calm.{AlarmsTell, IsCalm}
 use Rattle.board_drivers.proofs.Lanes.{few_still, same_free, same_lanes, same_ticks}
 use Rattle.board_devices.specs.Storage.{StoredSlots}
 use Rattle.board_drivers.specs.Driven.{AreDriven, IsQueueOf, devices_of, ids_waiting_in}
-use Rattle.board_drivers.specs.Residents.{IsResident, id_of, record_of}
+use Rattle.kernel_calls.specs.Residents.{IsResident, id_of, record_of}
 use Rattle.board_drivers.specs.Tells.{Arrives, owns_told}
 use Rattle.board_drivers.proofs.Lines.{line_after}
 use Rattle.board_drivers.proofs.Records.{bytes_of, owns_shown, seated_there}

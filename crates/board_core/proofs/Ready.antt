@@ -1,7 +1,7 @@
 -- Which device steps of a board are ready, when the next one becomes so, and that a Pass leads up to it. Each of the
 -- six tests of the world is that of the board's own devices, since they have the same owns and lines; where it is calm
 -- all six are false. After ticks alone all that holds of a board holds still.
-use Rattle.board_drivers.specs.Residents.{HasLost, IsResident}
+use Rattle.kernel_calls.specs.Residents.{HasLost, IsResident}
 use Rattle.tk_base.specs.declared.limits.TheConstants.{STEP_LIMIT}
 use Rattle.alarm_capsule.proofs.KeptTimes.{all_later}
 use Rattle.driver_model.specs.Laws.{TimeBringsNearer}

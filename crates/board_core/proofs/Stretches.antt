@@ -57,7 +57,7 @@ use Rattle.board_drivers.specs.Driven.{AreDriven, devices_of, ids_waiting_in}
 use Rattle.board_core.specs.Makes.{ready_in}
 use Rattle.board_core.specs.Shows.{IsBoard, recorded, residents, world_of}
 use Rattle.board_core.specs.Stretches.{StopsAt}
-use Rattle.board_drivers.specs.Residents.{HasLost, IsResident, Resident, record_of, resident_turns}
+use Rattle.kernel_calls.specs.Residents.{HasLost, IsResident, Resident, record_of, resident_turns}
 use Rattle.board_core.specs.KnownEnds.{EndsSo, IsKnownOfChoice}
 use Rattle.board_core.specs.Running.{is_running, slot_runs}
 use Rattle.board_turns.specs.Quiet.{Quietly}
@@ -69,7 +69,7 @@ use Rattle.board_drivers.proofs.Records.{beside, bytes_of}
 use Rattle.board_core.proofs.Changes.{resident_was, residents_after, with_step}
 use Rattle.board_core.proofs.Devices.{lost_where, still_lost_on}
 use Rattle.board_drivers.proofs.Lines.{line_after}
-use Rattle.board_drivers.proofs.Pairs.{get-firsts}
+use Rattle.kernel_calls.proofs.Pairs.{get-firsts}
 use Rattle.board_drivers.proofs.Records.{reads_shown}
 use Rattle.board_core.proofs.Boards.{next_in_calm, resident_at, turns_shown}
 use Rattle.board_core.proofs.Ready.{calm_ready, devices_shown, next_shown, owns_in_world}

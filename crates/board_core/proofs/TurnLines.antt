@@ -47,9 +47,9 @@ use Rattle.std.proofs.lemmas.Bool.{false≢true}
 use Rattle.board_core.specs.declared.state.BoardState.{BoardState}
 use Rattle.board_turns.specs.declared.turn.Shown.{Shown}
 use Rattle.board_drivers.specs.Driven.{AreDriven, Drives, HasLanes, IsQueueOf, MayServe, ids_waiting_in}
-use Rattle.board_drivers.specs.Residents.{IsResident, id_of, record_of, resident_turns}
+use Rattle.kernel_calls.specs.Residents.{IsResident, id_of, record_of, resident_turns}
 use Rattle.board_turns.specs.Turning.{StepsInSlot, Turns}
-use Rattle.board_drivers.specs.Residents.{can_turn_in}
+use Rattle.kernel_calls.specs.Residents.{can_turn_in}
 use Rattle.board_drivers.specs.Calm.{AlarmsTell, IsCalm}
 use Rattle.board_drivers.proofs.Lanes.{few_still, later_free, same_free, same_lanes, same_ticks}
 use Rattle.board_devices.specs.Storage.{StoredSlots}
@@ -59,7 +59,7 @@ use Rattle.board_core.proofs.Changes.{as_many, as_many_owns, still_seated, turn_
 use Rattle.board_core.proofs.Devices.{lost_where, still_lost}
 use Rattle.board_drivers.proofs.Records.{lost_there, seated_there}
 use Rattle.board_drivers.proofs.Lines.{line_after}
-use Rattle.board_drivers.proofs.Pairs.{zip-get}
+use Rattle.kernel_calls.proofs.Pairs.{zip-get}
 use Rattle.board_turns.proofs.Turns.{loses_one}
 use Rattle.board_turns.specs.declared.machine.Machine.{Machine}
 use Rattle.board_turns.specs.ReadySlots.{TurnsTell}

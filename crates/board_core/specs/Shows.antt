@@ -6,7 +6,7 @@ use Rattle.tk_base.specs.declared.limits.TheConstants.{SLOT_COUNT}
 use Rattle.kernel_model.specs.Record.{Record}
 use Rattle.kernel_model.specs.World.{World}
 use Rattle.board_turns.specs.Machines.{IsMachine}
-use Rattle.board_drivers.specs.Residents.{Resident, record_of, IsResident}
+use Rattle.kernel_calls.specs.Residents.{Resident, record_of, IsResident}
 use Rattle.board_drivers.specs.Driven.{devices_of}
 use Rattle.board_core.specs.declared.state.BoardState.{BoardState}
 use Rattle.board_turns.specs.ReadySlots.{TurnsTell}

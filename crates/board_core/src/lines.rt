@@ -5,7 +5,7 @@ ghost use Rattle.tk_base.specs.declared.limits.TheConstants.{OBJECT_LIMIT, SLOT_
 ghost use Rattle.process_record.specs.Name.{name_of};
 ghost use Rattle.process_model.specs.Flash.{object_in};
 ghost use Rattle.kernel_model.specs.Shown.{summary_of};
-ghost use Rattle.board_drivers.specs.Residents.{InFlash, resident_line};
+ghost use Rattle.kernel_calls.specs.Residents.{InFlash, resident_line};
 ghost use Rattle.board_core.specs.Shows.{IsBoard, world_of};
 
 use crate::state::BoardState;

@@ -39,7 +39,7 @@ use Rattle.board_drivers.specs.declared.drivers.Drivers.{Drivers}
 use Rattle.board_drivers.specs.Calm.{AlarmsTell}
 use Rattle.board_drivers.specs.Driven.{IsQueueOf, IsThere, devices_of, ids_waiting_in}
 use Rattle.board_drivers.specs.Parts.{AreBoardParts, BoardParts, world_shown}
-use Rattle.board_drivers.specs.Residents.{HasLost, IsResident, Resident, record_of}
+use Rattle.kernel_calls.specs.Residents.{HasLost, IsResident, Resident, record_of}
 use Rattle.board_drivers.specs.Tells.{Arrives, owns_told}
 
 -- what is a process's own once it was told an edge, if there was one

@@ -3,7 +3,6 @@ pub mod Lines
 pub mod Routing
 pub mod Orders
 pub mod OwnFlash
-pub mod Pairs
 pub mod Records
 pub mod Serving
 pub mod Parts

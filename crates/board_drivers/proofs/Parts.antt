@@ -3,7 +3,7 @@ use Rattle.std.proofs.Common.{◌≡◌, ◌≤◌, length, arith}
 use Rattle.std.specs.List.{zip}
 use Rattle.kernel_model.specs.World.{owns_in}
 use Rattle.board_drivers.specs.Parts.{AreBoardParts, BoardParts, world_shown}
-use Rattle.board_drivers.proofs.Pairs.{length-firsts}
+use Rattle.kernel_calls.proofs.Pairs.{length-firsts}
 use Rattle.board_drivers.proofs.Records.{owns_shown}
 
 pub owns_in_parts : (b : BoardParts) → AreBoardParts b → owns_in (world_shown b) ≡ b.home.owns

@@ -5,8 +5,8 @@ use Rattle.std.specs.List.{zip}
 use Rattle.std.specs.Option.{option_map}
 use Rattle.std.proofs.lemmas.List.{set-get_or}
 use Rattle.kernel_model.specs.Record.{Record}
-use Rattle.board_drivers.specs.Residents.{Resident, record_of, HasLost, IsResident}
-use Rattle.board_drivers.proofs.Pairs.{zip-set, zip-get, length-firsts}
+use Rattle.kernel_calls.specs.Residents.{Resident, record_of, HasLost, IsResident}
+use Rattle.kernel_calls.proofs.Pairs.{zip-set, zip-get, length-firsts}
 use Rattle.std.proofs.lemmas.Option.{slice_get-map, slice_get_within, get_or_from_slice_get}
 use Rattle.tk_base.specs.declared.limits.TheConstants.{SLOT_COUNT}
 use Rattle.process_model.specs.Own.{Own}

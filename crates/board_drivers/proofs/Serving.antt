@@ -70,7 +70,7 @@ use Rattle.kernel_model.specs.World.{receive_step, serving, storing, transmittin
 use Rattle.board_drivers.specs.declared.drivers.Drivers.{Drivers}
 use Rattle.board_drivers.specs.Calm.{only_of}
 use Rattle.board_drivers.specs.Driven.{AreDriven, IsThere, devices_of, ids_waiting_in, slots_of, waiting_by}
-use Rattle.board_drivers.specs.Residents.{HasLost, IsResident, record_of}
+use Rattle.kernel_calls.specs.Residents.{HasLost, IsResident, record_of}
 use Rattle.board_drivers.proofs.Records.{beside, bytes_of, record_found}
 use Rattle.board_drivers.specs.Tells.{Acted, HoldsFor, IsFreeSoon, DeviceServes, DeviceTold}
 use Rattle.board_drivers.proofs.Records.{found_at, lost_there, seated_there}

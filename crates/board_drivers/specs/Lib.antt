@@ -1,5 +1,4 @@
 pub mod Driven
 pub mod Calm
-pub mod Residents
 pub mod Tells
 pub mod Parts

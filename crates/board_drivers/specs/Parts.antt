@@ -8,7 +8,7 @@ use Rattle.kernel_model.specs.World.{World}
 use Rattle.board_drivers.specs.declared.drivers.Drivers.{Drivers}
 use Rattle.board_drivers.specs.declared.moment.Moment.{Moment}
 use Rattle.board_drivers.specs.Driven.{AreDriven, HasLanes, devices_of}
-use Rattle.board_drivers.specs.Residents.{HasLost, IsResident, record_of}
+use Rattle.kernel_calls.specs.Residents.{HasLost, IsResident, record_of}
 
 -- the processes with their memory, the drivers, the moment, and a world that has the rest
 pub record BoardParts : Type 0 where

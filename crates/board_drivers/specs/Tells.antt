@@ -23,7 +23,7 @@ use Rattle.kernel_model.specs.World.{answering, can_act, device_step_of}
 use Rattle.board_drivers.specs.declared.drivers.Drivers.{Drivers}
 use Rattle.board_drivers.specs.declared.moment.Moment.{Moment}
 use Rattle.board_drivers.specs.Driven.{devices_of, ids_waiting_in}
-use Rattle.board_drivers.specs.Residents.{record_of}
+use Rattle.kernel_calls.specs.Residents.{record_of}
 use Rattle.board_drivers.specs.Parts.{AreBoardParts, BoardParts, world_shown}
 
 -- whether a device tells one process something: bytes that come in tell nobody anything, and an edge of a button is

@@ -7,7 +7,7 @@ ghost use Rattle.grant_enter.specs.Homes.{own_of, ChangesOnly};
 ghost use Rattle.process_seat.specs.Visits.{is_stale};
 ghost use Rattle.kernel_model.specs.World.{lane_count, sending_time};
 ghost use Rattle.board_drivers.specs.Calm.{AlarmsTell};
-ghost use Rattle.board_drivers.specs.Residents.{HasLost};
+ghost use Rattle.kernel_calls.specs.Residents.{HasLost};
 ghost use Rattle.board_drivers.specs.Tells.{Acts, Arrives, is_alarm, tells_one};
 ghost use Rattle.tk_base.specs.declared.limits.TheConstants.{SLOT_COUNT, STEP_LIMIT};
 ghost use Rattle.board_drivers.specs.Driven.{AreDriven, AreFresh, Commands, Drives, HasLanes, IsTaken};

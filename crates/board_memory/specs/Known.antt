@@ -3,7 +3,7 @@ use Rattle.std.specs.Prelude.{◌≡◌, ℕ, ◌+◌, ◌-◌, ◌*◌, ◌/◌
 use Rattle.tk_base.specs.declared.access.TheConstants.{FLASH_START}
 use Rattle.rv32_entries.specs.declared.entry.Entry.{Entry}
 use Rattle.rv32_entries.specs.Entries.{entry_reach}
-use Rattle.rv32_predecode.specs.Decoded.{TellsStanding}
+use Rattle.rv32_entries.specs.Standing.{TellsStanding}
 
 -- an entry for each even place of flash tells nothing, or the instruction that stands there
 pub record AreEntries (flash : List ℕ) (entries : List Entry) : Type 0 where

@@ -1,10 +1,11 @@
 //! Flash and RAM.
-ghost use Rattle.std.specs.Prelude.{◌≡◌, ◌+◌, ◌-◌, ◌≤◌, length, replicate, IfOk};
+ghost use Rattle.std.specs.Prelude.{◌≡◌, ◌+◌, ◌-◌, ◌*◌, ◌/◌, ◌<◌, ◌≤◌, length, replicate, IfOk};
 ghost use Rattle.tk_base.specs.declared.access.TheConstants.{RAM_START};
 ghost use Rattle.std.specs.Borrow.{sem};
+ghost use Rattle.rv32_entries.specs.Standing.{TellsStanding};
 ghost use Rattle.board_memory.specs.Bytes.{StoresLieIn};
+ghost use Rattle.board_memory.specs.Known.{AreEntries};
 
-use crate::flash::{cold_entries, decode_between};
 use crate::parts::Block;
 use crate::view::View;
 use crate::windows::Windows;
@@ -42,6 +43,13 @@ impl Model for Memory {
         × AreWindows m.flash.items m.entries.items (length m.ram.items) m.windows };
 }
 
+/// As many entries, of which nothing is known.
+fn cold_entries(alloc: Global, bytes: &[u8]) -> Result<Vec<Entry>, NoMemory>
+    ensures { IfOk result (λ entries. AreEntries bytes.now entries.items) }
+{
+    Ok(vec![in alloc; Entry::Cold; bytes.len() / 2]?)
+}
+
 impl Memory {
     ghost use Rattle.board_memory.specs.Lending.{LendsView, LendsBlock, LendsPart};
     ghost use Rattle.board_memory.specs.Memory.{IsPlaced, block_cleared, ram_between, accessible_flash};
@@ -77,12 +85,14 @@ impl Memory {
         })
     }
 
-    /// Decodes the instructions of flash between two addresses, so that they need not be decoded when they are
+    /// Keeps the instruction that stands at an even place of flash, so that it need not be decoded when it is
     /// executed.
-    pub fn decode(&mut self, from: Addr, to: Addr)
+    pub fn know(&mut self, place: usize, entry: Entry)
+        requires inside { place < length self.old.flash / 2 }
+        requires tells { TellsStanding self.old.flash (2 * place) entry }
         ensures { self.new ≡ self.old }
     {
-        decode_between(self.flash.as_slice(), &mut self.entries, from, to);
+        self.entries[place] = entry;
         self.windows = Windows::none();
     }
 

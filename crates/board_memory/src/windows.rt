@@ -54,26 +54,21 @@ impl Windows {
         }
     }
 
-    /// Those of some registers, over flash and so many bytes of RAM.
+    /// Finds those of some registers, over flash and so many bytes of RAM.
     #[cold]
     #[inline(never)]
-    fn of(flash: &[u8], entries: &[Entry], size: usize, pmp: &Pmp) -> Windows
+    fn find(&mut self, flash: &[u8], entries: &[Entry], size: usize, pmp: &Pmp)
         requires { AreEntries flash.now entries.now }
-        ensures windows { AreWindows flash.now entries.now size result }
-        ensures permit { Permit pmp.now result }
+        ensures windows { AreWindows flash.now entries.now size self.new }
+        ensures permit { Permit pmp.now self.new }
     {
         let executable = pmp.executable();
         let writable = pmp.writable();
-        let code = code_words(&executable, flash.len());
-        let count = known_count(flash, entries, code);
-        let near = near_words(&writable, size);
-        Windows {
-            executable: ends_of(&executable),
-            writable: ends_of(&writable),
-            code,
-            count,
-            near,
-        }
+        self.code = code_words(&executable, flash.len());
+        self.count = known_count(flash, entries, self.code);
+        self.near = near_words(&writable, size);
+        self.executable = ends_of(&executable);
+        self.writable = ends_of(&writable);
     }
 
     /// Makes them those of some registers.
@@ -85,7 +80,7 @@ impl Windows {
         ensures permit { Permit pmp.now self.new }
     {
         if !self.are_of(pmp) {
-            *self = Windows::of(flash, entries, size, pmp);
+            self.find(flash, entries, size, pmp);
         }
     }
 

@@ -35,7 +35,7 @@ use Rattle.kernel_model.specs.Calls.{restart}
 use Rattle.kernel_model.specs.Parts.{restarted_by, restarted_main}
 use Rattle.tbf_headers.specs.Meaning.{main_by}
 use Rattle.kernel_lives.specs.Counts.{CountsAddUp, WaitingAreThere, turns_of_all}
-use Rattle.driver_model.specs.Commands.{QueueName}
+use Rattle.driver_model.specs.Commands.{QueueName, Writes, Reads, Randoms, Stores}
 use Rattle.driver_model.specs.Lines.{has_waiting}
 use Rattle.process_model.proofs.Changes.{keeps_none}
 use Rattle.process_model.specs.Pairs.{OnlyHandingChangesPairs}
@@ -46,7 +46,7 @@ use Rattle.kernel_lives.specs.Registers.{HasRegisters}
 use Rattle.kernel_lives.proofs.Registers.{start_many}
 use Rattle.kernel_lives.specs.Lists.{ListsAreOfRequests, asks_at, once_if, times_in}
 use Rattle.kernel_lives.specs.StoredBytes.{AsksWithin}
-use Rattle.board_drivers.proofs.Routing.{slots_by}
+use Rattle.kernel_model.specs.Named.{slots_in}
 use Rattle.kernel_model.specs.Lives.{AreApart, BlocksAreApart, HasOrder, HasPendingWithinLimit, IsAsAtFirst, IsAtFirst}
 use Rattle.kernel_model.specs.Lives.{LivesAsItRuns}
 use Rattle.kernel_model.specs.Replay.{after_all}
@@ -427,10 +427,17 @@ pub opens_apart : (script : Script) (flash : List ℕ) → BlocksAreApart (openi
 opens_apart script flash =
     all_apart script.storage flash RAM_START (opening script flash).records (opening_opened script flash)
 
+-- nobody waits there
+none_wait : (queue : QueueName) → slots_in queue (record { writes = []; reads = []; randoms = []; stores = [] }) ≡ []
+none_wait Writes = refl
+none_wait Reads = refl
+none_wait Randoms = refl
+none_wait Stores = refl
+
 pub opens_with_none_waiting : (script : Script) (flash : List ℕ) → WaitingAreThere (opening script flash)
 unfolding opening
 opens_with_none_waiting script flash = λ queue.
-    subst (All (λ slot. slot < length (opening script flash).records)) (sym (slots_by (λ q. []) queue)) (All-nil _)
+    subst (All (λ slot. slot < length (opening script flash).records)) (sym (none_wait queue)) (All-nil _)
 
 -- all counts are 0 at first
 no_turns : (storage : ℕ) (flash : List ℕ) (low : ℕ) (rs : List Record) → AreOpened storage flash low rs
@@ -494,7 +501,7 @@ asks_none queue (Some r) nothing = ap once_if (sym (nothing queue))
 pub opens_with_lists : (script : Script) (flash : List ℕ) → ListsAreOfRequests (opening script flash)
 unfolding opening
 opens_with_lists script flash = record {
-  each = λ queue slot. ap (times_in slot) (slots_by (λ q. []) queue) ∙ asks_none queue _ (nothing slot);
+  each = λ queue slot. ap (times_in slot) (none_wait queue) ∙ asks_none queue _ (nothing slot);
   lives = opens_living script flash;
 }
   where

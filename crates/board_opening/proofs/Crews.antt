@@ -14,7 +14,6 @@ use Rattle.std.proofs.lemmas.List.{get_or-take, get_or-drop, get_or-map, length-
 use Rattle.std.proofs.lemmas.List.Elements.{filter_map-append, All-push}
 use Rattle.std.proofs.lemmas.List.Kept.{AllPairs-cons}
 use Rattle.std.proofs.lemmas.List.Sums.{sum_by-cons}
-use Rattle.arrayvec.specs.ArrayVec.{ArrayVec}
 use Rattle.tk_base.specs.declared.access.TheConstants.{FLASH_START, RAM_START}
 use Rattle.tk_base.specs.declared.limits.TheConstants.{RAM_LIMIT, SLOT_COUNT}
 use Rattle.tk_base.specs.declared.process.PlaceFault.{PlaceFault}
@@ -41,29 +40,20 @@ use Rattle.app_placement.specs.Placement.{extents, IsAccessible, IsLaidOut, Lies
 use Rattle.app_placement.specs.Placement.{is_placed}
 use Rattle.app_placement.specs.Parts.{Place}
 use Rattle.process_record.specs.declared.process.Process.{Process}
-use Rattle.process_record.specs.Summary.{Unplaced}
 use Rattle.process_record.specs.Process.{started}
-use Rattle.script_text.specs.Settings.{ScriptSettings as Script}
-use Rattle.grant_enter.specs.Homes.{Homes, CanMoveIn, EndsBefore, FootprintBefore as StandsBefore}
+use Rattle.grant_enter.specs.Homes.{CanMoveIn, EndsBefore, FootprintBefore as StandsBefore}
 use Rattle.process_seat.specs.Places.{FitsMemory}
 use Rattle.process_model.specs.Flash.{object_in}
 use Rattle.process_restart.specs.Own.{CanStart, HasStart, IsApplication}
 use Rattle.process_record.specs.Process.{is_alive}
 use Rattle.kernel_model.specs.Record.{Record}
-use Rattle.kernel_model.specs.World.{World, Devices}
-use Rattle.board_drivers.specs.declared.drivers.Drivers.{Drivers}
-use Rattle.board_drivers.specs.Driven.{AreFresh, devices_of}
-use Rattle.board_opening.proofs.Fresh.{devices_fresh, records_fresh}
 use Rattle.board_opening.specs.declared.boot.LoadedProcesses.{LoadedProcesses}
 use Rattle.board_opening.specs.Boot.{IsCrew, IsFirst, footprint_of, fresh_record, layout_at, layout_in}
-use Rattle.board_opening.specs.Opening.{opening_record, record_placed, unplaced_at}
+use Rattle.board_opening.specs.Opening.{opening_record, record_placed}
 use Rattle.board_opening.specs.Parts.{opened_by, record_with_place}
-use Rattle.board_opening.specs.Opening.{placed_applications, opening}
-use Rattle.board_drivers.specs.Residents.{IsResident, record_of}
-use Rattle.kernel_model.specs.declared.settings.Settings.{Settings}
-use Rattle.board_opening.specs.Settings.{is_partitioned, visible_settings}
-use Rattle.board_opening.specs.Parts.{erased, pace}
-use Rattle.board_drivers.proofs.Pairs.{zip-more, length-firsts}
+use Rattle.kernel_calls.specs.Residents.{IsResident}
+use Rattle.board_opening.specs.Parts.{erased}
+use Rattle.kernel_calls.proofs.Pairs.{zip-more, length-firsts}
 
 -- a byte of an object is one of flash
 object_byte : (flash : List ℕ) (from size k : ℕ) → k < size
@@ -543,44 +533,3 @@ all_ordered flash fs first i d h =
     let f : Footprint = record { object = record { address = 0; size = 0 }; layout = d } in
     let within : i < length fs = omega (arith, length-map fs (λ (f : Footprint). f.layout)) in
     subst IsOrdered (sym (get_or-map (λ (f : Footprint). f.layout) fs i f d within)) (first i f within).ordered
-
--- the world of a board before its first step
-module _ (script : Script) (flash : List ℕ) where
-  abbrev world_with : List Record → List Unplaced → Settings → Devices → World
-  world_with records unplaced visible devices =
-      record {
-        records = records;
-        unplaced = unplaced;
-        settings = visible;
-        pace = pace script;
-        devices =
-            devices;
-        clock = record { time = 0; steps = 0 };
-        present = record { slot = None; used = 0 };
-      }
-
-  pub opening_shown : (home : Homes) (footprints : List Footprint) (processes : List Process)
-      (unplaced : ArrayVec Unplaced) (visible : Settings) (d : Drivers)
-      → home ≡ record { flash = flash; owns = map own_opened footprints } → length processes ≡ length footprints
-      → length processes ≤ SLOT_COUNT
-      → map (fresh_record script.storage flash) (zip processes (map own_opened footprints))
-      ≡ filter_map (record_placed script.storage flash) (placed_applications (is_partitioned script) script.ram flash)
-      → unplaced.items ≡ filter_map unplaced_at (placed_applications (is_partitioned script) script.ram flash)
-      → visible ≡ visible_settings script
-      → AreFresh script d
-      → world_with (map (record_of home.flash d.buttons.pressed) (zip (zip processes home.owns) d.stores.slots))
-      unplaced.items visible (devices_of d) ≡ opening script flash
-  unfolding opening
-  opening_shown home footprints processes unplaced visible d h count few e u v fresh =
-      let owns = map own_opened footprints in
-      let residents : length (zip processes owns) ≤ SLOT_COUNT =
-      omega (arith, few, length-firsts processes owns (length-map footprints own_opened ∙ sym count)) in
-      let records : map (record_of home.flash d.buttons.pressed) (zip (zip processes home.owns) d.stores.slots)
-      ≡ filter_map (record_placed script.storage flash) (placed_applications (is_partitioned script) script.ram flash) =
-      ap (λ (x : Homes). map (record_of x.flash d.buttons.pressed) (zip (zip processes x.owns) d.stores.slots)) h
-      ∙ records_fresh script d flash (zip processes owns) residents fresh ∙ e in
-      ap₂ (λ (rs : List Record) (us : List Unplaced). world_with rs us visible (devices_of d)) records u
-      ∙ ap₂ (λ (s : Settings) (ds : Devices). world_with
-      (filter_map (record_placed script.storage flash) (placed_applications (is_partitioned script) script.ram flash))
-      (filter_map unplaced_at (placed_applications (is_partitioned script) script.ram
-      flash)) s ds) v (devices_fresh script d fresh)

@@ -1,4 +1,3 @@
-pub mod Fresh
 pub mod Crews
 pub mod Openings
 pub mod Alone

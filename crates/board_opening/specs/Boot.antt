@@ -16,7 +16,7 @@ use Rattle.app_placement.specs.declared.placed.Placed.{Placed}
 use Rattle.board_opening.specs.declared.boot.LoadedProcesses.{LoadedProcesses}
 use Rattle.kernel_model.specs.Record.{Record}
 use Rattle.board_opening.specs.Opening.{record_placed}
-use Rattle.board_drivers.specs.Residents.{IsResident, Resident, record_of}
+use Rattle.kernel_calls.specs.Residents.{IsResident, Resident, record_of}
 use Rattle.board_opening.specs.Parts.{erased}
 
 -- the application at an offset has this place

@@ -7,7 +7,7 @@ ghost use Rattle.app_placement.specs.Placement.{LiesBefore, LiesInFlash, LiesInR
 ghost use Rattle.app_placement.specs.Placement.{is_placed};
 ghost use Rattle.board_opening.specs.Opening.{placed_applications, unplaced_at};
 ghost use Rattle.board_opening.specs.Parts.{record_with_place};
-ghost use Rattle.board_drivers.specs.Residents.{IsResident};
+ghost use Rattle.kernel_calls.specs.Residents.{IsResident};
 ghost use Rattle.board_opening.specs.Boot.{at_offset, footprint_of, fresh_record, IsCrew, IsFirst};
 ghost use Rattle.board_opening.specs.Boot.{StartsInRam};
 

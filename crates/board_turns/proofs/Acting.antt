@@ -15,7 +15,7 @@ use Rattle.kernel_calls.specs.Own.{Beside, record_in}
 use Rattle.kernel_calls.proofs.Starts.{starts_again}
 use Rattle.kernel_model.specs.Turn.{operated}
 use Rattle.board_memory.specs.Registers.{Protect}
-use Rattle.board_drivers.specs.Residents.{IsResident}
+use Rattle.kernel_calls.specs.Residents.{IsResident}
 use Rattle.board_turns.specs.declared.guard.ActivePmp.{ActivePmp}
 use Rattle.board_turns.specs.Guards.{GuardsOnly, GuardsOthers}
 

@@ -38,7 +38,7 @@ use Rattle.kernel_calls.specs.Outcomes.{is_taken, record_of_slot}
 use Rattle.kernel_model.specs.Turn.{surroundings}
 use Rattle.board_drivers.specs.declared.drivers.Order.{Order}
 use Rattle.board_drivers.specs.Driven.{Commands, Drives, MayServe, beside_in}
-use Rattle.board_drivers.specs.Residents.{IsResident, Resident, id_of, resident}
+use Rattle.kernel_calls.specs.Residents.{IsResident, Resident, id_of, resident}
 use Rattle.board_turns.specs.declared.machine.Machine.{Machine}
 use Rattle.board_turns.specs.Turning.{Finishes}
 

@@ -12,7 +12,7 @@ use Rattle.kernel_calls.specs.Own.{Beside, record_in}
 use Rattle.process_restart.specs.Own.{IsOwnObject}
 use Rattle.kernel_model.specs.Record.{Record, byte_at, instruction}
 use Rattle.kernel_model.specs.Stretch.{AllGo, after_instructions, instruction_made}
-use Rattle.board_drivers.specs.Residents.{IsResident, Resident, record_of}
+use Rattle.kernel_calls.specs.Residents.{IsResident, Resident, record_of}
 use Rattle.board_turns.specs.Turning.{nothing_beside}
 use Rattle.board_turns.specs.Quiet.{Quietly}
 use Rattle.board_turns.proofs.Sight.{sees_record}

@@ -10,7 +10,7 @@ use Rattle.grant_enter.specs.Homes.{IsInPlace}
 use Rattle.kernel_calls.specs.Own.{record_in}
 use Rattle.process_restart.specs.Own.{IsOwnObject}
 use Rattle.kernel_model.specs.Record.{byte_at}
-use Rattle.board_drivers.specs.Residents.{Resident}
+use Rattle.kernel_calls.specs.Residents.{Resident}
 use Rattle.board_turns.specs.Turning.{nothing_beside}
 
 -- a byte of an object is one of flash

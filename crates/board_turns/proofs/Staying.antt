@@ -31,7 +31,7 @@ use Rattle.kernel_model.proofs.Memops.{by_test}
 use Rattle.kernel_calls.specs.Own.{record_in}
 use Rattle.grant_enter.specs.Homes.{own_of}
 use Rattle.board_drivers.specs.Driven.{beside_in}
-use Rattle.board_drivers.specs.Residents.{resident}
+use Rattle.kernel_calls.specs.Residents.{resident}
 use Rattle.board_turns.specs.declared.machine.Machine.{Machine}
 use Rattle.board_turns.specs.Guards.{DiffersInMark, may_move}
 use Rattle.board_turns.specs.Turning.{Finishes}

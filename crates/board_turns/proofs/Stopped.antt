@@ -19,7 +19,7 @@ use Rattle.process_record.specs.declared.process.Process.{Process}
 use Rattle.grant_enter.specs.Homes.{ChangesOnly, Homes, nobody, own_of}
 use Rattle.kernel_calls.specs.Own.{record_in}
 use Rattle.kernel_model.specs.Record.{byte_at}
-use Rattle.board_drivers.specs.Residents.{resident}
+use Rattle.kernel_calls.specs.Residents.{resident}
 use Rattle.board_turns.specs.Turning.{IsMade, next_instruction, nothing_beside}
 
 -- as it is, a home is one of which one slot changed at the most

@@ -5,7 +5,7 @@ use Rattle.std.proofs.lemmas.Option.{slice_get-get_or}
 use Rattle.process_record.specs.declared.process.Process.{Process}
 use Rattle.grant_enter.specs.Homes.{nobody}
 use Rattle.board_turns.specs.declared.machine.Machine.{Machine}
-use Rattle.board_drivers.specs.Residents.{Resident, resident}
+use Rattle.kernel_calls.specs.Residents.{Resident, resident}
 use Rattle.board_turns.specs.Turning.{HasProcess, LeavesMachine, StepsInSlot}
 
 -- The process in a slot of the tables, which was looked up there.

@@ -32,7 +32,8 @@ use Rattle.kernel_calls.specs.Outcomes.{deliver_due}
 use Rattle.kernel_model.specs.Calls.{restart}
 use Rattle.kernel_model.specs.Parts.{restarted_by, restarted_main}
 use Rattle.kernel_model.specs.Calls.{Served}
-use Rattle.kernel_model.specs.Turn.{Turned, called, made as call_made, turn_counted, at_turn_end, faulted, idle, turn_in, turned}
+use Rattle.kernel_model.specs.Turn.{Turned, called, made as call_made, turn_counted, at_turn_end, faulted, idle}
+use Rattle.kernel_model.specs.Turn.{turn_in, turned}
 use Rattle.process_record.specs.declared.outcome.Outcome.{Outcome}
 use Rattle.process_record.specs.declared.outcome.Outcome.TheVariants as outcomes
 use Rattle.syscall_abi.specs.declared.form.CallForm.{CallForm}
@@ -48,7 +49,7 @@ use Rattle.board_turns.specs.declared.turn.Shown.{Shown}
 use Rattle.kernel_model.specs.Laws.{DropsAtMostOne}
 use Rattle.kernel_model.proofs.Places.{free_turned}
 use Rattle.board_drivers.specs.Driven.{Drives, MayServe, beside_in}
-use Rattle.board_drivers.specs.Residents.{IsResident, Resident, id_of, resident}
+use Rattle.kernel_calls.specs.Residents.{IsResident, Resident, id_of, resident}
 use Rattle.board_turns.specs.Turning.{Finishes, ReplyStands, answered, asked}
 use Rattle.board_turns.specs.Turning.{InTurn, IsMade, LeavesMachine, MayTurn, ServesCall, Settles, Turns, TurnsOut}
 use Rattle.board_turns.specs.Turning.{after_instruction, machine_instructed, next_instruction, nothing_shown}

@@ -11,10 +11,10 @@ use Rattle.std.proofs.lemmas.List.{get_or-set_same, get_or-set_other}
 use Rattle.std.specs.List.{zip}
 use Rattle.process_record.specs.declared.process.Process.{Process}
 use Rattle.process_model.specs.Own.{Own}
-use Rattle.board_drivers.specs.Residents.{Resident, can_turn_in, resident_turns}
+use Rattle.kernel_calls.specs.Residents.{Resident, can_turn_in, resident_turns}
 use Rattle.std.proofs.lemmas.Option.{slice_get-get_or}
 use Rattle.grant_enter.specs.Homes.{Homes, nobody, own_of}
-use Rattle.board_drivers.proofs.Pairs.{length-firsts, zip-get}
+use Rattle.kernel_calls.proofs.Pairs.{length-firsts, zip-get}
 use Rattle.board_turns.specs.ReadySlots.{NoneBeyond, OtherTurnsTell, TellsUpTo, TurnsTell}
 
 -- a slot that is set has what it is set to, and every other has what it had

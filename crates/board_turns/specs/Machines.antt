@@ -12,7 +12,7 @@ use Rattle.kernel_model.specs.World.{Work}
 use Rattle.board_drivers.specs.declared.served.Served.{Served}
 use Rattle.board_drivers.specs.Calm.{AlarmsTell, IsCalm, work_of_served, work_then}
 use Rattle.board_drivers.specs.Driven.{AreDriven, HasLanes}
-use Rattle.board_drivers.specs.Residents.{HasLost}
+use Rattle.kernel_calls.specs.Residents.{HasLost}
 use Rattle.board_drivers.specs.Tells.{is_alarm}
 use Rattle.board_turns.specs.declared.machine.Machine.{Machine}
 use Rattle.board_turns.specs.Guards.{GuardsOnly}

@@ -7,7 +7,7 @@ use Rattle.driver_model.specs.Commands.{BoardRequest, leaving_all}
 use Rattle.kernel_model.specs.Turn.{operated}
 use Rattle.kernel_calls.specs.Own.{Beside, record_in}
 use Rattle.board_drivers.specs.Driven.{Drives}
-use Rattle.board_drivers.specs.Residents.{Resident, id_of}
+use Rattle.kernel_calls.specs.Residents.{Resident, id_of}
 use Rattle.board_turns.specs.declared.machine.Machine.{Machine}
 
 -- what the drivers do for a process on which an operator acts

@@ -4,7 +4,7 @@ use Rattle.rv32_model.specs.declared.turn_end.TurnEnd.{TurnEnd}
 use Rattle.rv32_model.specs.declared.turn_end.TurnEnd.TheVariants.{Went}
 use Rattle.kernel_model.specs.Record.{instruction}
 use Rattle.kernel_model.specs.Stretch.{AllGo, after_instructions}
-use Rattle.board_drivers.specs.Residents.{Resident, record_of}
+use Rattle.kernel_calls.specs.Residents.{Resident, record_of}
 
 -- So many turns of a process, of at most so many, lead from it to another, whatever its storage is and whichever
 -- buttons are pressed: each only executes an instruction. Where they are fewer, the next instruction makes a system

@@ -1,6 +1,6 @@
 -- What is kept of which processes can have a turn. Only proofs use this.
 use Rattle.std.specs.Prelude.{◌≡◌, ◌≢◌, ◌<◌, ◌≤◌, ℕ, Bool, false, List, filter, length, slice_get, slice_index_or}
-use Rattle.board_drivers.specs.Residents.{Resident, can_turn_in}
+use Rattle.kernel_calls.specs.Residents.{Resident, can_turn_in}
 
 -- it tells of each slot whether its process can have a turn
 abbrev pub TurnsTell : List Bool → List Resident → Type 0

@@ -35,7 +35,7 @@ use Rattle.board_turns.specs.declared.machine.Machine.{Machine}
 use Rattle.board_turns.specs.Guards.{GuardsOnly, IsSetFor}
 use Rattle.board_drivers.specs.Driven.{Drives, beside_in}
 use Rattle.driver_model.specs.Commands.{BoardRequest}
-use Rattle.board_drivers.specs.Residents.{Resident, resident, id_of, IsResident}
+use Rattle.kernel_calls.specs.Residents.{Resident, resident, id_of, IsResident}
 
 -- no bytes of storage, and no button pressed
 abbrev pub nothing_beside : Beside

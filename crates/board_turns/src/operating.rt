@@ -2,7 +2,7 @@
 ghost use Rattle.std.specs.Prelude.{◌≡◌, ℕ};
 ghost use Rattle.process_record.specs.Operator.{ends_by};
 ghost use Rattle.board_drivers.specs.Driven.{Drives};
-ghost use Rattle.board_drivers.specs.Residents.{resident};
+ghost use Rattle.kernel_calls.specs.Residents.{resident};
 ghost use Rattle.board_turns.specs.Operating.{IsActedOn, verb_acts};
 ghost use Rattle.board_turns.specs.Turning.{HasProcess, LeavesMachine, MayTurn, StepsInSlot};
 

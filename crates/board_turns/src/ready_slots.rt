@@ -3,7 +3,7 @@ ghost use Rattle.std.specs.Prelude.{◌≡◌, ◌<◌, ◌≤◌, ◌==◌, fal
 ghost use Rattle.std.specs.Prelude.{slice_index_or, nat_lt, slice_set};
 ghost use Rattle.std.specs.List.{zip};
 ghost use Rattle.tk_base.specs.declared.limits.TheConstants.{SLOT_COUNT};
-ghost use Rattle.board_drivers.specs.Residents.{can_turn_in};
+ghost use Rattle.kernel_calls.specs.Residents.{can_turn_in};
 ghost use Rattle.board_turns.specs.ReadySlots.{NoneBeyond, TurnsTell, how_many};
 
 use grant_enter::Home;

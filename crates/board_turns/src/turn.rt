@@ -13,12 +13,13 @@ ghost use Rattle.board_drivers.specs.Driven.{Drives, MayServe};
 ghost use Rattle.kernel_model.specs.Calls.{restart};
 ghost use Rattle.kernel_model.specs.Turn.{arguments};
 ghost use Rattle.kernel_model.specs.Parts.{unknown_call};
-ghost use Rattle.board_drivers.specs.Residents.{IsResident, id_of, resident};
+ghost use Rattle.kernel_calls.specs.Residents.{IsResident, id_of, resident};
 ghost use Rattle.board_turns.specs.Guards.{IsSetFor};
 ghost use Rattle.board_turns.specs.Turning.{Finishes, HasProcess, InTurn, IsKnownEnd, IsMade};
 ghost use Rattle.board_turns.specs.Turning.{LeavesMachine, MayTurn, ServesCall};
 ghost use Rattle.board_turns.specs.Turning.{Settles, StepsInSlot, Turns, next_instruction};
-ghost use Rattle.board_turns.specs.Turning.{answered, asked, machine_instructed, nothing_shown, told_in_emit, with_shown};
+ghost use Rattle.board_turns.specs.Turning.{answered, asked, machine_instructed, nothing_shown};
+ghost use Rattle.board_turns.specs.Turning.{told_in_emit, with_shown};
 
 use crate::machine::Machine;
 use board_drivers::Order;

@@ -26,7 +26,7 @@ use Rattle.process_model.specs.Instruction.{instruction_of, ram_after, with_writ
 use Rattle.process_seat.specs.declared.seat.Seat.{Seat}
 use Rattle.grant_enter.specs.declared.home.Home.TheInside.{Inside}
 use Rattle.grant_enter.specs.Homes.{Homes, IsInPlace, own_of, MakesInstruction}
-use Rattle.process_seat.specs.Reach.{turn_under}
+use Rattle.memory_turns.specs.Reach.{turn_under}
 use Rattle.process_seat.specs.Seats.{IsKept, Reseats, SitsIn, owned, kernel_in, own_in}
 use Rattle.grant_enter.specs.Housed.{homes_of}
 use Rattle.process_seat.proofs.Windows.{length_window, windows_same, put_outside, put_window, widened}

@@ -27,7 +27,7 @@ use Rattle.board_memory.specs.Bytes.{memory_byte_at, StoresLieIn}
 use Rattle.board_memory.specs.Registers.{Protect}
 use Rattle.process_seat.specs.declared.seat.Seat.{Seat}
 use Rattle.process_seat.specs.Places.{FitsMemory}
-use Rattle.process_seat.specs.Reach.{turn_under}
+use Rattle.memory_turns.specs.Reach.{turn_under}
 use Rattle.process_seat.specs.Seats.{own_in}
 use Rattle.process_seat.proofs.Windows.{window_at}
 

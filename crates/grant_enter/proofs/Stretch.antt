@@ -17,11 +17,11 @@ use Rattle.process_model.specs.Instruction.{Sees, instruction_of, ram_after, wit
 use Rattle.grant_enter.specs.declared.home.Home.TheInside.{Inside}
 use Rattle.process_seat.specs.declared.seat.Seat.{Seat}
 use Rattle.grant_enter.specs.Homes.{Homes, IsStopped, MakesAll, own_of}
-use Rattle.process_seat.specs.Reach.{InstructionLaws, GoesUnder, StopsUnder, turn_under}
+use Rattle.memory_turns.specs.Reach.{InstructionLaws, GoesUnder, StopsUnder, turn_under}
 use Rattle.process_seat.specs.Seats.{Reseats, SitsIn, own_in}
 use Rattle.grant_enter.specs.Housed.{homes_of}
 use Rattle.grant_enter.proofs.Instructions.{Writes, own_in_place, protects, writes_own}
-use Rattle.process_seat.proofs.Left.{written_is}
+use Rattle.memory_turns.proofs.Left.{written_is}
 use Rattle.grant_enter.proofs.Moves.{Reads, sits_before, still_shows}
 use Rattle.process_seat.proofs.Reseated.{reseats_on, same_memory}
 use Rattle.grant_enter.proofs.Sight.{same_turn, stores_in_ram}

@@ -14,12 +14,14 @@ ghost use Rattle.grant_enter.specs.Homes.{IsStopped, CanMoveIn, FootprintBefore,
 ghost use Rattle.grant_enter.specs.Homes.{MakesAll};
 ghost use Rattle.process_seat.specs.Places.{has_permissions};
 
+use crate::decode::decode_between;
 use board_memory::{Memory, set_process};
 use grant_model::what_is_laid_is_read_back;
+use memory_turns::{instruction_laws, turn_in, turns_in};
 use pmp_regions::Pmp;
 use process_layout::Layout;
 use process_model::Footprint;
-use process_seat::{Seat, block_at, instruction_laws, restart_seat, turn_in, turns_in};
+use process_seat::{Seat, block_at, restart_seat};
 use rv32_model::{TurnEnd, sees_only_permitted, writes_are_permitted};
 use rv32_step::Stretch;
 use std::alloc::Global;
@@ -179,7 +181,7 @@ impl Home {
         }
         seat.decoded = true;
         let layout = seat.layout;
-        self.memory.decode(layout.flash_start, layout.flash_end);
+        decode_between(&mut self.memory, layout.flash_start, layout.flash_end);
     }
 
     /// Starts the process in a slot again, with its first break (TRD 104, "Exit"): every byte of

@@ -3,6 +3,7 @@
 //! process to a call alone.
 #![tactic(auto)]
 
+mod decode;
 mod grant;
 mod home;
 mod lend;

@@ -3,3 +3,4 @@ pub mod AtOnce
 pub mod Handed
 pub mod Drivers
 pub mod Lending
+pub mod Pairs

@@ -3,3 +3,4 @@ pub mod Outcomes
 pub mod Given
 pub mod Called
 pub mod Lent
+pub mod Residents

@@ -15,4 +15,3 @@ mod Keeping
 pub mod Alive
 mod Entering
 mod Wholes
-pub mod Left

@@ -1,5 +1,4 @@
 pub mod Places
-pub mod Reach
 pub mod Windows
 pub mod Seats
 pub mod Seen

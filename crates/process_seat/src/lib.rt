@@ -5,7 +5,6 @@
 mod entered;
 mod flag;
 mod handing;
-mod instruction;
 mod kept;
 mod laws;
 mod restart;
@@ -15,7 +14,6 @@ mod visit;
 pub use entered::{Entered, put_from};
 pub use flag::put_flag_at;
 pub use handing::hand_at;
-pub use instruction::{instruction_laws, turn_in, turns_in};
 pub use laws::{a_buffer_is_written, buffers_are_whole, frames_join};
 pub use restart::restart_seat;
 pub use seat::Seat;

@@ -1,6 +1,5 @@
 -- What an entry tells: the instruction that was decoded, and its length in bytes.
 use Rattle.std.specs.Prelude.{◌≡◌, ℕ, ◌+◌, ◌%◌, Bool, true, false, if◌then◌else◌, Option, None, Some}
-use Rattle.std.specs.Prelude.{is_some}
 use Rattle.tk_base.specs.declared.access.Width.TheVariants as widths
 use Rattle.rv32_model.specs.declared.instr.Op.TheVariants as ops
 use Rattle.rv32_model.specs.declared.instr.BranchTest.TheVariants as tests
@@ -200,10 +199,3 @@ distance instrs.Ebreak = 0
 -- a jump or a branch is by whole parcels
 abbrev pub HopsByParcels : Instr → Type 0
 HopsByParcels instr = distance instr % 2 ≡ 0
-
--- what handing an instruction over comes to: there is none, and the handler is as it was; or it was handled by one that
--- knows the length
-abbrev pub HandsOver : {H Answer : Type 0} → Option Instr → (H → Option Instr → Answer → H → Type 0) → H
-    → Option Answer → H → H → Type 0
-HandsOver instr handles sized None before after = (instr ≡ None) × (after ≡ before)
-HandsOver instr handles sized (Some answer) before after = (is_some instr ≡ true) × handles sized instr answer after

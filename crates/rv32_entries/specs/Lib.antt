@@ -1,3 +1,4 @@
 pub mod Registers
 pub mod Entries
 pub mod Fetched
+pub mod Standing

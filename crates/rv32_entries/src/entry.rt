@@ -1,4 +1,7 @@
 //! An instruction that was decoded before, with one variant for each thing to do.
+ghost use Rattle.std.specs.Prelude.{◌≡◌};
+ghost use Rattle.rv32_entries.specs.Entries.{entry_reach};
+
 use crate::register::{Register, Target};
 
 /// An instruction, and by its variant its length; or nothing known of what stands at a place. No variant groups several
@@ -336,4 +339,28 @@ pub enum Entry {
         rs1: Register,
         rs2: Register,
     },
+}
+
+impl Entry {
+    /// How many bytes from its place on hold the instruction, and the first parcel of the one behind it where it may go
+    /// on there; 0 where nothing is known.
+    #[inline(always)]
+    pub fn reach(self) -> u8
+        ensures { result ≡ entry_reach self }
+    {
+        match self {
+            Entry::Cold => 0,
+            Entry::CJal { .. } | Entry::CJ { .. } | Entry::CJalr { .. } | Entry::CJr { .. } => 2,
+            Entry::CBeq { .. } | Entry::CBne { .. } => 2,
+            Entry::Jal { .. } | Entry::J { .. } | Entry::Jalr { .. } | Entry::Jr { .. } => 4,
+            Entry::Ecall | Entry::CNop => 4,
+            Entry::Beq { .. } | Entry::Bne { .. } | Entry::Blt { .. } => 4,
+            Entry::Bge { .. } | Entry::Bltu { .. } | Entry::Bgeu { .. } => 4,
+            Entry::CLui { .. } | Entry::CLw { .. } | Entry::CSw { .. } => 4,
+            Entry::CAddi { .. } | Entry::CAndi { .. } | Entry::CSlli { .. } => 4,
+            Entry::CSrli { .. } | Entry::CSrai { .. } | Entry::CAdd { .. } => 4,
+            Entry::CSub { .. } | Entry::CXor { .. } | Entry::COr { .. } | Entry::CAnd { .. } => 4,
+            _ => 6,
+        }
+    }
 }

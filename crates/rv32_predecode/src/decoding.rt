@@ -1,6 +1,6 @@
 //! Bytes to entries.
 ghost use Rattle.std.specs.Prelude.{◌≤◌, length};
-ghost use Rattle.rv32_predecode.specs.Decoded.{TellsStanding};
+ghost use Rattle.rv32_entries.specs.Standing.{TellsStanding};
 
 use crate::as_entry::ToEntry;
 use rv32_compressed::handle16;
@@ -27,4 +27,17 @@ pub fn entry_in(bytes: &[u8], at: usize) -> Entry
     }
     let second = number_in(bytes, at + 2, Width::Half);
     handle32(first + second * 65536, &mut ToEntry { length: 4 })
+}
+
+/// The instruction at a place of some bytes, where it lies before an end, and what it may go on to behind it too; else
+/// nothing known.
+pub fn entry_before(bytes: &[u8], at: usize, end: usize) -> Entry
+    requires { at ≤ length bytes.now }
+    ensures { TellsStanding bytes.now at result }
+{
+    let entry = entry_in(bytes, at);
+    if usize::from(entry.reach()) > end.saturating_sub(at) {
+        return Entry::Cold;
+    }
+    entry
 }

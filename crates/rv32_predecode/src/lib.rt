@@ -5,4 +5,4 @@ mod as_entry;
 mod decoding;
 
 pub use as_entry::ToEntry;
-pub use decoding::entry_in;
+pub use decoding::{entry_before, entry_in};

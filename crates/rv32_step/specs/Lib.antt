@@ -1,3 +1,4 @@
 pub mod Executed
 pub mod Fetched
 pub mod Near
+pub mod Handling

@@ -2,6 +2,7 @@
 #![tactic(auto)]
 
 mod execute;
+mod handling;
 mod near;
 mod nothing_ahead;
 pub mod operate;

@@ -6,8 +6,9 @@ ghost use Rattle.rv32_step.specs.declared.near.Served.TheVariants.{Jumped, Strai
 ghost use Rattle.rv32_step.specs.Near.{address_of, standing_of, surroundings_of, TurnsNear};
 
 use crate::execute::{extend, read_width};
+use crate::handling::{SizedVisitor, handle_entry};
 use crate::operate::{operate, takes};
-use rv32_entries::{Predecoded, SizedVisitor, handle_entry};
+use rv32_entries::Predecoded;
 use rv32_model::{BranchTest, InstrVisitor, LoadKind, Op};
 use tk_base::{Addr, Regs, Width};
 

@@ -6,7 +6,8 @@ use crate::access::Addr;
 use std::marker::Model;
 
 /// The integer registers x0 to x31 and the program counter (RISC-V unprivileged manual,
-/// "Programmers' Model for Base Integer ISA"). x0 is 0 at all times, so it is read as the others are, and never written.
+/// "Programmers' Model for Base Integer ISA"). x0 is 0 at all times, so it is read as the others are,
+/// and never written.
 #[derive(Clone, Copy, Debug, PartialEq, Eq)]
 pub struct Regs {
     x: [u32; 32],

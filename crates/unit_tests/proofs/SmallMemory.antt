@@ -9,8 +9,8 @@ use Rattle.rv32_model.specs.UserTurn.{fetched, parcel_at, with_second}
 use Rattle.rv32_entries.specs.declared.entry.Entry.{Entry}
 use Rattle.rv32_entries.specs.Entries.{entry_instr, entry_length, entry_reach, goes_straight, reach_of}
 use Rattle.rv32_entries.specs.Fetched.{IsFetched, TellsFetched, length_of}
-use Rattle.rv32_predecode.specs.Decoded.{StandsIn, TellsStanding, parcel_in}
-use Rattle.rv32_predecode.specs.Decoded.{word_in}
+use Rattle.rv32_entries.specs.Standing.{StandsIn, TellsStanding, parcel_in}
+use Rattle.rv32_entries.specs.Standing.{word_in}
 use Rattle.unit_tests.specs.SmallMemory.{small_denies}
 
 parcel : (bytes : List ℕ) (at : ℕ) → at + 2 ≤ 32

@@ -1,7 +1,7 @@
 use Rattle.std.proofs.Common.{List, ap, slice_get, sym, ◌∙◌}
 use Rattle.std.specs.List.{zip}
 use Rattle.process_record.specs.declared.process.Process.{Process}
-use Rattle.board_drivers.specs.Residents.{can_turn_in}
+use Rattle.kernel_calls.specs.Residents.{can_turn_in}
 use Rattle.board_core.proofs.Boards.{run_shown}
 use Rattle.board_core.proofs.left.can_run_alone.Goals as goal
 

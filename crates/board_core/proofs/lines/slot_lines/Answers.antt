@@ -1,4 +1,4 @@
-use Rattle.board_drivers.specs.Residents.{resident_line}
+use Rattle.kernel_calls.specs.Residents.{resident_line}
 use Rattle.board_core.proofs.Boards.{line_is, lines_more, lines_all}
 use Rattle.board_core.proofs.lines.slot_lines.Goals as goal
 

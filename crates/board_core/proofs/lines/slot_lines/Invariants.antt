@@ -1,6 +1,6 @@
 use Rattle.std.proofs.Common.{◌≡◌, map, take}
 use Rattle.std.specs.List.{zip}
-use Rattle.board_drivers.specs.Residents.{resident_line}
+use Rattle.kernel_calls.specs.Residents.{resident_line}
 use Rattle.board_core.proofs.lines.slot_lines.Given as goal
 
 abbrev pub invariant-loop-place : goal.invariant-loop-place

@@ -2,9 +2,9 @@ use Rattle.std.proofs.Common.{All, List, ap, map, sym, subst, ◌∙◌}
 use Rattle.grant_enter.specs.Homes.{nobody}
 use Rattle.process_record.specs.declared.process.Process.{Process}
 use Rattle.std.specs.List.{zip}
-use Rattle.board_drivers.specs.Residents.{InFlash, IsResident, resident_line}
+use Rattle.kernel_calls.specs.Residents.{InFlash, IsResident, resident_line}
 use Rattle.board_core.proofs.Boards.{summary_shown}
-use Rattle.board_drivers.proofs.Pairs.{all-firsts}
+use Rattle.kernel_calls.proofs.Pairs.{all-firsts}
 use Rattle.board_core.proofs.lines.summary.Goals as goal
 
 pub slot_lines-requires-clause-objects : goal.slot_lines-requires-clause-objects

@@ -7,7 +7,7 @@ use Rattle.process_layout.specs.Ordered.{IsOrdered}
 use Rattle.process_model.specs.Own.{opened}
 use Rattle.process_record.specs.Process.{started}
 use Rattle.board_opening.specs.Boot.{footprint_of}
-use Rattle.board_drivers.specs.Residents.{IsResident}
+use Rattle.kernel_calls.specs.Residents.{IsResident}
 use Rattle.board_opening.proofs.Crews.{application_known, starts, process_first, process_shown, process_seated}
 use Rattle.board_opening.proofs.boot.first_process.Goals as goal
 use Rattle.board_opening.proofs.boot.first_process.Goals.{After-start}

@@ -6,7 +6,7 @@ use Rattle.upcall_queue.specs.declared.inbox.Delivery.{Delivery}
 use Rattle.upcall_queue.specs.Pending.{due}
 use Rattle.grant_enter.specs.Homes.{own_of}
 use Rattle.kernel_model.specs.Turn.{has_turn}
-use Rattle.board_drivers.specs.Residents.{can_turn_in, resident}
+use Rattle.kernel_calls.specs.Residents.{can_turn_in, resident}
 use Rattle.board_turns.proofs.TurnsKept.{slot_found, slot_missing}
 use Rattle.board_turns.proofs.ready_slots.can_run.Goals as goal
 use Rattle.board_turns.proofs.ready_slots.can_run.Goals.{In-Some}

@@ -23,12 +23,11 @@ use Rattle.board_opening.specs.Settings.{visible_settings}
 use Rattle.board_opening.specs.Boot.{IsFirst, fresh_record, layout_at}
 use Rattle.board_opening.specs.Opening.{opening, record_placed}
 use Rattle.board_opening.specs.Opening.{placed_applications, unplaced_at}
-use Rattle.board_drivers.specs.Residents.{HasLost, IsResident, record_of}
+use Rattle.kernel_calls.specs.Residents.{HasLost, IsResident, record_of}
 use Rattle.board_opening.specs.Alone.{OpensAlone}
 use Rattle.board_opening.proofs.Alone.{openings_are_alone}
 use Rattle.board_opening.proofs.Crews.{all_apart, all_move_in, all_ordered, all_settled, all_stand_apart, few_processes}
-use Rattle.board_opening.proofs.Crews.{opening_shown}
-use Rattle.board_opening.proofs.Fresh.{all_same, driven_first, lanes_first}
+use Rattle.board_core.proofs.Fresh.{all_same, driven_first, lanes_first, opening_shown}
 use Rattle.kernel_model.specs.World.{World, lane_count}
 use Rattle.board_core.proofs.Boards.{first_tell}
 use Rattle.board_turns.specs.ReadySlots.{NoneBeyond, TurnsTell}

@@ -14,7 +14,7 @@ use Rattle.kernel_laws.specs.Alone.{IsAlone}
 use Rattle.board_drivers.specs.Calm.{AlarmsTell, IsCalm}
 use Rattle.board_drivers.proofs.Lanes.{few_still}
 use Rattle.board_drivers.specs.Driven.{AreDriven}
-use Rattle.board_drivers.specs.Residents.{HasLost, IsResident}
+use Rattle.kernel_calls.specs.Residents.{HasLost, IsResident}
 use Rattle.board_drivers.specs.declared.drivers.Drivers.{Drivers}
 use Rattle.board_turns.specs.declared.machine.Machine.{Machine}
 use Rattle.board_core.specs.declared.slices.PresentSlot.{PresentSlot}

@@ -2,7 +2,7 @@ use Rattle.std.proofs.Common.{◌&&◌, Bool, Option, ap, slice_get, sym, ◌∙
 use Rattle.turn_scheduler.specs.Parts.{place_is_ready}
 use Rattle.kernel_model.specs.Run.{ready_slots}
 use Rattle.kernel_model.specs.World.{World, is_let}
-use Rattle.board_drivers.specs.Residents.{can_turn_in}
+use Rattle.kernel_calls.specs.Residents.{can_turn_in}
 use Rattle.board_core.specs.Shows.{residents}
 use Rattle.board_core.proofs.Boards.{slot_shown}
 use Rattle.board_core.proofs.board.BoardSituated.slot_is_ready.Goals as goal

@@ -4,12 +4,12 @@ use Rattle.turn_scheduler.specs.Parts.{place_is_ready}
 use Rattle.kernel_model.specs.Run.{ready_slots}
 use Rattle.kernel_model.specs.World.{World, is_let}
 use Rattle.board_drivers.specs.Calm.{only_of}
-use Rattle.board_drivers.specs.Residents.{can_turn_in}
+use Rattle.kernel_calls.specs.Residents.{can_turn_in}
 use Rattle.board_core.specs.declared.state.BoardState.{BoardState}
 use Rattle.board_core.specs.Shows.{IsBoard, residents, world_of}
 use Rattle.board_core.proofs.Boards.{and_false, slot_shown}
 use Rattle.board_turns.proofs.Counted.{none_counted}
-use Rattle.board_drivers.proofs.Pairs.{length-firsts}
+use Rattle.kernel_calls.proofs.Pairs.{length-firsts}
 use Rattle.board_core.proofs.board.BoardSituated.slots.Goals as goal
 
 -- a slot is not ready whose process cannot have a turn

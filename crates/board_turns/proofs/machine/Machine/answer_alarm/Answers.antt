@@ -4,7 +4,7 @@ use Rattle.board_devices.specs.Clock.{clock_at}
 use Rattle.process_model.specs.Own.{Own}
 use Rattle.alarm_capsule.specs.Answers.{AlarmAnswers}
 use Rattle.alarm_capsule.specs.Times.{AllTell}
-use Rattle.board_drivers.specs.Residents.{HasLost}
+use Rattle.kernel_calls.specs.Residents.{HasLost}
 use Rattle.board_turns.proofs.machine.Machine.answer_alarm.Goals as goal
 
 pub answer_by-requires-clause-dropped : goal.answer_by-requires-clause-dropped

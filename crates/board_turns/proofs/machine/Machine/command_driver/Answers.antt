@@ -10,7 +10,7 @@ use Rattle.grant_enter.specs.Homes.{ChangesOnly, Homes, own_of}
 use Rattle.process_model.specs.Flash.{object_in}
 use Rattle.kernel_calls.specs.Outcomes.{is_taken}
 use Rattle.board_drivers.specs.declared.drivers.Order.{Order}
-use Rattle.board_drivers.specs.Residents.{id_of}
+use Rattle.kernel_calls.specs.Residents.{id_of}
 use Rattle.board_turns.specs.declared.machine.Machine.{Machine}
 use Rattle.board_turns.proofs.Commands.{Came, came, came_in_place, finishes, living_id, some_of, stays_seated, taken_of}
 use Rattle.board_turns.proofs.machine.Machine.command_driver.Goals as goal

@@ -12,7 +12,7 @@ use Rattle.board_memory.specs.Registers.{Protect}
 use Rattle.grant_enter.specs.Homes.{ChangesOnly, Homes, IsInPlace, MakesInstruction, own_of}
 use Rattle.kernel_calls.specs.Own.{record_in}
 use Rattle.kernel_model.specs.Record.{byte_at}
-use Rattle.board_drivers.specs.Residents.{Resident, resident}
+use Rattle.kernel_calls.specs.Residents.{Resident, resident}
 use Rattle.board_turns.specs.declared.machine.Machine.{Machine}
 use Rattle.board_turns.specs.Turning.{IsMade, machine_instructed, next_instruction, nothing_beside}
 use Rattle.board_turns.proofs.Sight.{sees_record}

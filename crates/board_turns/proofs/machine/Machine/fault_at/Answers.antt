@@ -2,7 +2,7 @@ use Rattle.std.proofs.Common.{sym, subst}
 use Rattle.driver_model.specs.Commands.{leaving_all}
 use Rattle.grant_enter.specs.Homes.{own_of}
 use Rattle.board_drivers.specs.Driven.{Drives}
-use Rattle.board_drivers.specs.Residents.{id_of}
+use Rattle.kernel_calls.specs.Residents.{id_of}
 use Rattle.board_turns.proofs.machine.Machine.fault_at.Goals as goal
 
 pub returns-in-Stop-clause-gone : goal.returns-in-Stop-clause-gone

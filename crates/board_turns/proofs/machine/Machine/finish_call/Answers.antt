@@ -3,7 +3,7 @@ use Rattle.syscall_abi.specs.Forms.{form_of}
 use Rattle.driver_model.specs.Commands.{BoardRequest}
 use Rattle.grant_enter.specs.Homes.{own_of}
 use Rattle.board_drivers.specs.Driven.{Drives}
-use Rattle.board_drivers.specs.Residents.{id_of}
+use Rattle.kernel_calls.specs.Residents.{id_of}
 use Rattle.board_turns.proofs.Commands.{finishes_left, gone_itself, gone_leaves, is_served, served_itself, stays_in}
 use Rattle.board_drivers.proofs.Orders.{drives_nothing}
 use Rattle.board_turns.proofs.machine.Machine.finish_call.Goals as goal

@@ -1,6 +1,6 @@
 use Rattle.std.proofs.Common.{sym, subst, ◌∙◌}
 use Rattle.board_turns.specs.declared.turn.Shown.{Shown}
-use Rattle.board_drivers.specs.Residents.{resident}
+use Rattle.kernel_calls.specs.Residents.{resident}
 use Rattle.board_turns.specs.Turning.{Turns, told_in_emit}
 use Rattle.board_turns.proofs.Turns.{all_left, makes_call, may_serve_still, then_left, trapped, went}
 use Rattle.board_turns.proofs.machine.Machine.run_on.Goals as goal

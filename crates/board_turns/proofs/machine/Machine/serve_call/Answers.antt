@@ -7,7 +7,7 @@ use Rattle.kernel_model.specs.Calls.{Served}
 use Rattle.kernel_model.specs.Turn.{arguments, surroundings}
 use Rattle.kernel_calls.specs.Outcomes.{record_of_slot}
 use Rattle.board_drivers.specs.Driven.{beside_in}
-use Rattle.board_drivers.specs.Residents.{resident}
+use Rattle.kernel_calls.specs.Residents.{resident}
 use Rattle.board_turns.proofs.Replies.{reply_stands}
 use Rattle.board_turns.proofs.Turns.{call_serves, unknown_faults}
 use Rattle.board_turns.specs.Turning.{answered, told_in_emit}

@@ -3,7 +3,7 @@
 -- changes.
 use Rattle.std.proofs.Common.{◌≡◌, false, slice_set, refl, sym, subst}
 use Rattle.board_turns.specs.declared.turn.Shown.{Shown}
-use Rattle.board_drivers.specs.Residents.{resident}
+use Rattle.kernel_calls.specs.Residents.{resident}
 use Rattle.board_turns.specs.Turning.{IsKnownEnd, MayTurn, StepsInSlot, Turns}
 use Rattle.board_turns.proofs.Stopped.{same_home}
 use Rattle.board_turns.proofs.Tables.{holds_here, steps_there}

@@ -7,7 +7,7 @@ use Rattle.process_record.specs.declared.process.Process.{Process}
 use Rattle.process_restart.specs.Own.{IsOwnObject}
 use Rattle.board_memory.specs.Registers.{Protect}
 use Rattle.grant_enter.specs.Homes.{ChangesOnly, Homes, MakesAll, own_of}
-use Rattle.board_drivers.specs.Residents.{resident}
+use Rattle.kernel_calls.specs.Residents.{resident}
 use Rattle.board_turns.specs.declared.machine.Machine.{Machine}
 use Rattle.board_turns.specs.Quiet.{Quietly}
 use Rattle.board_turns.specs.Turning.{LeavesMachine, MayTurn}

@@ -4,7 +4,7 @@ use Rattle.grant_enter.specs.Homes.{Homes, own_of}
 use Rattle.kernel_calls.specs.Own.{record_in}
 use Rattle.upcall_queue.specs.Pending.{due}
 use Rattle.kernel_calls.specs.Outcomes.{deliver_due}
-use Rattle.board_drivers.specs.Residents.{resident}
+use Rattle.kernel_calls.specs.Residents.{resident}
 use Rattle.board_turns.specs.Turning.{Turns, nothing_shown}
 use Rattle.board_turns.proofs.Turns.{only_flash, waits_on, woken}
 use Rattle.board_turns.proofs.machine.Machine.wake.Goals as goal

@@ -1,6 +1,6 @@
 use Rattle.std.proofs.Common.{◌<◌, ◌+◌, ℕ, Bool, List, length, slice_get, slice_set, ap, sym, subst, ◌∙◌}
 use Rattle.std.specs.List.{zip}
-use Rattle.board_drivers.specs.Residents.{can_turn_in}
+use Rattle.kernel_calls.specs.Residents.{can_turn_in}
 use Rattle.board_turns.specs.ReadySlots.{TellsUpTo}
 use Rattle.board_turns.proofs.TurnsKept.{all_ready, one_more_ready}
 use Rattle.board_turns.proofs.ready_slots.ReadySlots.look_at_all.Goals as goal

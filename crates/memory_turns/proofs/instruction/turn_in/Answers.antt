@@ -1,9 +1,9 @@
 use Rattle.std.proofs.Common.{List, ℕ, ap, ◌∙◌}
 use Rattle.pmp_regions.specs.Check.{denied_by_registers}
 use Rattle.board_memory.specs.Bytes.{memory_byte_at}
-use Rattle.process_seat.specs.Reach.{turn_under}
-use Rattle.process_seat.proofs.Left.{follows}
-use Rattle.process_seat.proofs.instruction.turn_in.Goals as goal
+use Rattle.memory_turns.specs.Reach.{turn_under}
+use Rattle.memory_turns.proofs.Left.{follows}
+use Rattle.memory_turns.proofs.instruction.turn_in.Goals as goal
 
 pub returns-clause-memory : goal.returns-clause-memory
 returns-clause-memory c =

@@ -4,7 +4,7 @@ ghost use Rattle.tk_base.specs.declared.access.TheConstants.{RAM_START};
 ghost use Rattle.board_memory.specs.Bytes.{StoresLieIn};
 ghost use Rattle.board_memory.specs.Sight.{IsSight};
 ghost use Rattle.process_model.specs.Instruction.{ram_after};
-ghost use Rattle.process_seat.specs.Reach.{InstructionLaws, GoesUnder, StopsUnder, turn_under};
+ghost use Rattle.memory_turns.specs.Reach.{InstructionLaws, GoesUnder, StopsUnder, turn_under};
 
 use board_memory::{Memory, Sight, View, a_store_in_ram_is_put, bytes_tell_the_ram};
 use pmp_regions::Pmp;

@@ -3,10 +3,10 @@ ghost use Rattle.std.specs.Prelude.{◌≡◌, Some};
 ghost use Rattle.rv32_entries.specs.Registers.{index_of, target_index};
 ghost use Rattle.rv32_model.specs.declared.instr.Instr.TheVariants as instrs;
 ghost use Rattle.rv32_model.specs.declared.instr.Op.TheVariants as ops;
-ghost use Rattle.rv32_entries.specs.Entries.{entry_instr, entry_length, entry_reach, HandsOver};
+ghost use Rattle.rv32_entries.specs.Entries.{entry_instr, entry_length};
+ghost use Rattle.rv32_step.specs.Handling.{HandsOver};
 
-use crate::entry::Entry;
-use crate::register::{Register, Target};
+use rv32_entries::{Entry, Register, Target};
 use rv32_model::{BranchTest, InstrVisitor, LoadKind, Op};
 use tk_base::Width;
 
@@ -192,30 +192,6 @@ fn ecall<H: SizedVisitor>(handler: &mut H, length: u8) -> Option<H::Answer>
 {
     handler.begin(length);
     Some(handler.ecall())
-}
-
-impl Entry {
-    /// How many bytes from its place on hold the instruction, and the first parcel of the one behind it where it may go
-    /// on there; 0 where nothing is known.
-    #[inline(always)]
-    pub fn reach(self) -> u8
-        ensures { result ≡ entry_reach self }
-    {
-        match self {
-            Entry::Cold => 0,
-            Entry::CJal { .. } | Entry::CJ { .. } | Entry::CJalr { .. } | Entry::CJr { .. } => 2,
-            Entry::CBeq { .. } | Entry::CBne { .. } => 2,
-            Entry::Jal { .. } | Entry::J { .. } | Entry::Jalr { .. } | Entry::Jr { .. } => 4,
-            Entry::Ecall | Entry::CNop => 4,
-            Entry::Beq { .. } | Entry::Bne { .. } | Entry::Blt { .. } => 4,
-            Entry::Bge { .. } | Entry::Bltu { .. } | Entry::Bgeu { .. } => 4,
-            Entry::CLui { .. } | Entry::CLw { .. } | Entry::CSw { .. } => 4,
-            Entry::CAddi { .. } | Entry::CAndi { .. } | Entry::CSlli { .. } => 4,
-            Entry::CSrli { .. } | Entry::CSrai { .. } | Entry::CAdd { .. } => 4,
-            Entry::CSub { .. } | Entry::CXor { .. } | Entry::COr { .. } | Entry::CAnd { .. } => 4,
-            _ => 6,
-        }
-    }
 }
 
 /// Hands the instruction of an entry to a handler. Where nothing is known it answers None, and the handler is as it

@@ -1,8 +1,9 @@
--- The drivers of a board before its first step.
-use Rattle.std.proofs.Common.{◌≡◌, ℕ, zero, suc, ◌+◌, ◌*◌, ◌≤◌, false, List, [], ◌∷◌, length, map, replicate}
-use Rattle.std.proofs.Common.{slice_index_or, All, refl, sym, ap, subst, ◌∙◌, arith}
-use Rattle.std.specs.List.{zip}
-use Rattle.std.proofs.lemmas.List.{get_or-replicate, length-replicate}
+-- A board before its first step: its drivers are fresh, so nobody waits, and what it shows is the opening.
+use Rattle.std.proofs.Common.{◌≡◌, ℕ, zero, suc, ◌+◌, ◌*◌, ◌≤◌, false, List, [], ◌∷◌, length, map, replicate, None}
+use Rattle.std.proofs.Common.{slice_index_or, All, refl, sym, ap, ap₂, subst, ◌∙◌, arith}
+use Rattle.std.specs.List.{filter_map, zip}
+use Rattle.std.proofs.lemmas.List.{get_or-replicate, length-map, length-replicate}
+use Rattle.arrayvec.specs.ArrayVec.{ArrayVec}
 use Rattle.tk_base.specs.declared.limits.TheConstants.{BYTE_TICKS_LIMIT, SENDING_LIMIT, SLOT_COUNT}
 use Rattle.tk_base.specs.declared.process.ProcessId.{ProcessId}
 use Rattle.script_text.specs.Settings.{ScriptSettings as Script}
@@ -14,17 +15,23 @@ use Rattle.process_model.specs.Own.{opened}
 use Rattle.tk_base.specs.Bits.{bits_of}
 use Rattle.driver_model.specs.Commands.{QueueName}
 use Rattle.driver_model.specs.Lines.{IsWithin, has_waiting}
-use Rattle.grant_enter.specs.Homes.{nobody}
+use Rattle.grant_enter.specs.Homes.{Homes, nobody}
 use Rattle.kernel_model.specs.Record.{Record}
-use Rattle.kernel_model.specs.World.{lane_count}
+use Rattle.kernel_model.specs.World.{Devices, World, lane_count}
+use Rattle.kernel_model.specs.declared.settings.Settings.{Settings}
 use Rattle.board_drivers.specs.declared.drivers.Drivers.{Drivers}
 use Rattle.board_opening.specs.Boot.{fresh_record}
 use Rattle.board_drivers.specs.Driven.{AreDriven, AreFresh, HasLanes, IsQueueOf, devices_of, ids_waiting_in, slots_of}
 use Rattle.board_drivers.specs.Driven.{waiting_by}
 use Rattle.board_drivers.proofs.Routing.{devices_same, slots_by}
-use Rattle.board_drivers.specs.Residents.{Resident, record_of}
-use Rattle.board_opening.specs.Settings.{visible_settings}
-use Rattle.board_opening.specs.Parts.{erased}
+use Rattle.kernel_calls.specs.Residents.{Resident, record_of}
+use Rattle.kernel_calls.proofs.Pairs.{length-firsts}
+use Rattle.board_opening.specs.Settings.{is_partitioned, visible_settings}
+use Rattle.board_opening.specs.Parts.{erased, pace}
+use Rattle.process_record.specs.declared.process.Process.{Process}
+use Rattle.process_record.specs.Summary.{Unplaced}
+use Rattle.process_record.specs.Process.{started}
+use Rattle.board_opening.specs.Opening.{opening, placed_applications, record_placed, unplaced_at}
 
 -- what holds of one holds of as many of it as may be
 pub all_same : {X : Type 0} (P : X → Type 0) (n : ℕ) (x : X) → P x → All P (replicate n x)
@@ -126,3 +133,44 @@ module _ (script : Script) (d : Drivers) where
         (all_same (λ line. line.free ≤ 0 + SENDING_LIMIT) (lane_count script.partition) (first_line script)
         (omega arith));
   }
+
+-- the world of a board before its first step
+module _ (script : Script) (flash : List ℕ) where
+  abbrev world_with : List Record → List Unplaced → Settings → Devices → World
+  world_with records unplaced visible devices =
+      record {
+        records = records;
+        unplaced = unplaced;
+        settings = visible;
+        pace = pace script;
+        devices =
+            devices;
+        clock = record { time = 0; steps = 0 };
+        present = record { slot = None; used = 0 };
+      }
+
+  pub opening_shown : (home : Homes) (footprints : List Footprint) (processes : List Process)
+      (unplaced : ArrayVec Unplaced) (visible : Settings) (d : Drivers)
+      → home ≡ record { flash = flash; owns = map opened footprints } → length processes ≡ length footprints
+      → length processes ≤ SLOT_COUNT
+      → map (fresh_record script.storage flash) (zip processes (map opened footprints))
+      ≡ filter_map (record_placed script.storage flash) (placed_applications (is_partitioned script) script.ram flash)
+      → unplaced.items ≡ filter_map unplaced_at (placed_applications (is_partitioned script) script.ram flash)
+      → visible ≡ visible_settings script
+      → AreFresh script d
+      → world_with (map (record_of home.flash d.buttons.pressed) (zip (zip processes home.owns) d.stores.slots))
+      unplaced.items visible (devices_of d) ≡ opening script flash
+  unfolding opening
+  opening_shown home footprints processes unplaced visible d h count few e u v fresh =
+      let owns = map opened footprints in
+      let residents : length (zip processes owns) ≤ SLOT_COUNT =
+      omega (arith, few, length-firsts processes owns (length-map footprints opened ∙ sym count)) in
+      let records : map (record_of home.flash d.buttons.pressed) (zip (zip processes home.owns) d.stores.slots)
+      ≡ filter_map (record_placed script.storage flash) (placed_applications (is_partitioned script) script.ram flash) =
+      ap (λ (x : Homes). map (record_of x.flash d.buttons.pressed) (zip (zip processes x.owns) d.stores.slots)) h
+      ∙ records_fresh script d flash (zip processes owns) residents fresh ∙ e in
+      ap₂ (λ (rs : List Record) (us : List Unplaced). world_with rs us visible (devices_of d)) records u
+      ∙ ap₂ (λ (s : Settings) (ds : Devices). world_with
+      (filter_map (record_placed script.storage flash) (placed_applications (is_partitioned script) script.ram flash))
+      (filter_map unplaced_at (placed_applications (is_partitioned script) script.ram
+      flash)) s ds) v (devices_fresh script d fresh)
