@@ -40,7 +40,7 @@ ARROWS = [
     ("(4) `apply`", "a record is changed by the events that are told of its process, each read by itself, and by "
                     "nothing else: `IsAccountedRun`, field `alone`", "3"),
     ("(5) `run_text`", "the text is a function of mode, number of steps and opening world: `task_text`", "5"),
-    ("(6)", "at answer 0 exactly that text was written, and each other answer but 7 has its cause: `ProgramDoes`, "
+    ("(6)", "at answer 0 exactly that text was written, and each other answer but 7 has its cause: `Serves`, "
             "field `done` and the others", "5"),
 ]
 
@@ -61,7 +61,7 @@ FIRST = [
     ("kernel_model/Run:round", "a run of n steps"),
     ("board_opening/Opening:opening", "the board before the first step"),
     ("run_text/RunText:run_text", "what is written of a run"),
-    ("tool_answers/Served:ProgramDoes", "each answer with its cause, and what was written"),
+    ("tool_answers/Served:Serves", "each answer with its cause, and what was written"),
     ("kernel_model/Accounts:IsAccountedFor", "what holds of each step"),
     ("kernel_model/Causes:ChangeHasACause", "why a byte of a process may change"),
     ("board_opening/Certified:IsAccountedRun", "what holds of a run: its steps, and each process by itself"),

@@ -23,7 +23,7 @@ PARTS = [
     "*For every*: any words, shelf and sink; of the words `command_of`, of the files' bytes `comes_to`. A file that "
     "is too long and a script that has no reading are refused. The limit counts steps: turns, steps of devices and "
     "passes of time.",
-    "*Writes exactly*: at answer 0, `ProgramDoes`, field `done`; the text is `run_text`, for `boot` in mode `Boot`. "
+    "*Writes exactly*: at answer 0, `Serves`, field `done`; the text is `run_text`, for `boot` in mode `Boot`. "
     "Each other answer but 7 has its cause: its own field. Which answer comes, where the output does not fail: field "
     "`decided`, of files whose bytes the shelf tells. Of a shelf or a sink that tells no bytes none are promised; "
     "those that `main` gives are such, so of the binary that last step is [trusted](#assumptions), and so is that the "

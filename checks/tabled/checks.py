@@ -366,8 +366,8 @@ def done_rows(table, row):
 
 def done(facts):
     """The answer of a command that is done."""
-    return [int(re.search(r"done : answer ≡ (\d+)",
-                          "\n".join(facts.spec("tool_answers/Served").definitions["ProgramDoes"].lines))[1])]
+    return [int(re.search(r"done : call\.answer ≡ (\d+)",
+                          "\n".join(facts.spec("tool_answers/Served").definitions["Serves"].lines))[1])]
 
 
 COMMANDS = {"boot": "Runs", "trace": "Runs", "list": "Lists", "soak": "Soaks", "pack": "Packs", "enable": "Edits",

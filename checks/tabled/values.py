@@ -155,7 +155,7 @@ def of_steps(facts):
     """Numbers of turns, functions, flags and answers."""
     def number(place, name, pattern):
         return int(re.search(pattern, facts.text(place, name))[1])
-    answer = "\n".join(facts.spec("tool_answers/Served").definitions["ProgramDoes"].lines)
+    answer = "\n".join(facts.spec("tool_answers/Served").definitions["Serves"].lines)
     flag = re.search(r"if on then (\d+) else (\d+)", facts.text("tk_base/Bits", "bit_of"))
     widths = facts.numbers("tk_base/Access", "width_bytes")
     return dict(TURN_TICKS=number("kernel_model/World", "after_turn_of", r"clock\.time \+ (\d+)"),
@@ -165,7 +165,7 @@ def of_steps(facts):
                 WAIT_DIGITS=number("board_report/Report", "wait_text", r"hex_digits (\d+) driver"),
                 ADDRESS_DIGITS=number("board_report/Report", "denial_text", r"hex_digits (\d+) d\.address"),
                 PRESSED=int(flag[1]), RELEASED=int(flag[2]), HALF=widths["Half"], WORD_BITS=8 * widths["Word"],
-                OUTPUT=int(re.search(r"sink : answer ≡ (\d+)", answer)[1]))
+                OUTPUT=int(re.search(r"sink : call\.answer ≡ (\d+)", answer)[1]))
 
 
 def values(facts, pages):

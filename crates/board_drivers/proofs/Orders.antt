@@ -75,7 +75,7 @@ pub commands_by : (driver : Driver) (tick : ℕ) (id : ProcessId) (order : Order
     (answer : Reply × Option CallRule) → driver_of order.driver ≡ Some driver
     → (let c = handler_by driver (seen_at tick d) order.number
     order.a2 order.a3 own in (answer ≡ reply_of c.answer) × (own' ≡ own_after c.step) × Drives id c.acts d d')
-    → Commands tick id order d own answer own' d'
+    → Commands (record { tick = tick; id = id; order = order; own = own; drivers = d }) answer own' d'
 commands_by driver tick id order d d' own own' answer is does taker found =
     let same : handler_by driver ≡ taker =
     (let known : Some (handler_by driver) ≡ Some taker = sym (ap (option_map handler_by) is) ∙ found in cc) in

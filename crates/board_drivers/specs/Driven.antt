@@ -140,15 +140,24 @@ pub record MayServe (m : Moment) (d : Drivers) (slot : ℕ) (own : Own) : Type 0
   pub buttons : d.buttons.count ≡ m.settings.buttons
   pub size : d.stores.size ≡ m.settings.storage
 
+-- a command that is handed to its driver: what the alarm's clock shows, whose it is, and what is the process's own
+-- and the drivers' then
+pub record HandedCommand : Type 0 where
+  pub tick : ℕ
+  pub id : ProcessId
+  pub order : Order
+  pub own : Own
+  pub drivers : Drivers
+
 -- what comes of a command, as its driver takes it: the answer, what is then the process's own, and what the drivers do
-abbrev pub Commands : ℕ → ProcessId → Order → Drivers → Own → Reply × Option CallRule → Own → Drivers → Type 0
-Commands tick id order d own answer own' d_after =
-    (taker : CommandHandler) → handler_of order.driver ≡ Some taker →
+abbrev pub Commands : HandedCommand → Reply × Option CallRule → Own → Drivers → Type 0
+Commands handed answer own' d_after =
+    (taker : CommandHandler) → handler_of handed.order.driver ≡ Some taker →
     let c = taker (record {
-      now = tick;
-      leds = length d.leds;
-      buttons = d.buttons.count;
-      pressed = d.buttons.pressed;
-      storage = d.stores.size;
-    }) order.number order.a2 order.a3 own in
-    (answer ≡ reply_of c.answer) × (own' ≡ own_after c.step) × Drives id c.acts d d_after
+      now = handed.tick;
+      leds = length handed.drivers.leds;
+      buttons = handed.drivers.buttons.count;
+      pressed = handed.drivers.buttons.pressed;
+      storage = handed.drivers.stores.size;
+    }) handed.order.number handed.order.a2 handed.order.a3 handed.own in
+    (answer ≡ reply_of c.answer) × (own' ≡ own_after c.step) × Drives handed.id c.acts handed.drivers d_after

@@ -167,8 +167,13 @@ impl Drivers {
         requires dropped { (own_of home.old id.slot).inbox.dropped + 1 < 2 ^ 32 }
         requires lines { MayAsk self.old id.slot (own_of home.old id.slot) }
         requires driver { IsTaken order.now }
-        ensures comes { Commands tick id order.now self.old (own_of home.old id.slot)
-            result (own_of home.new id.slot) self.new }
+        ensures comes { Commands (record {
+          tick = tick;
+          id = id;
+          order = order.now;
+          own = own_of home.old id.slot;
+          drivers = self.old;
+        }) result (own_of home.new id.slot) self.new }
         ensures rest { ChangesOnly id.slot home.old home.new }
     {
         drivers_ask_for_their_own();

@@ -114,7 +114,13 @@ module _ (slot : ℕ) (x y : Machine) (order : Order) (answer : Reply × Option 
   pub came : (id : ProcessId) (tick : ℕ) → id ≡ id_of slot (own_of x.home slot)
       → tick ≡ clock_at x.moment.settings.start x.moment.time
       → MayServe x.moment x.drivers slot (own_of x.home slot)
-      → Commands tick id order x.drivers (own_of x.home id.slot) answer (own_of y.home id.slot) y.drivers
+      → Commands (record {
+        tick = tick;
+        id = id;
+        order = order;
+        own = own_of x.home id.slot;
+        drivers = x.drivers;
+      }) answer (own_of y.home id.slot) y.drivers
       → Came slot x y order answer taker
   came id tick at when may comes =
       subst (λ (seen : CommandContext × ProcessId).

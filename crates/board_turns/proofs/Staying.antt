@@ -1,12 +1,14 @@
 -- A call that is neither a memop nor an exit leaves what its process may access.
-use Rattle.std.proofs.Common.{◌≡◌, ℕ, ◌-◌, ◌==◌, Bool, true, false, cond, [], Option, None, Some, Result, Ok, Err}
+use Rattle.std.proofs.Common.{◌≡◌, ℕ, ◌-◌, ◌==◌, Bool, true, false, cond, List, [], Option, None, Some, Result, Ok, Err}
 use Rattle.std.proofs.Common.{max, ◌+◌, slice_get, slice_set, refl, sym, ap, subst}
 use Rattle.tk_base.specs.Kinds.{is_buffer}
 use Rattle.tk_base.specs.declared.call.CallRule.{CallRule}
 use Rattle.tk_base.specs.declared.call.CallRule.TheVariants.{Permission}
 use Rattle.tk_base.specs.declared.kinds.PairKind.{PairKind}
 use Rattle.tk_base.specs.declared.upcall.Upcall.{Upcall as Scheduled}
+use Rattle.pmp_regions.specs.declared.Entry.{Entry}
 use Rattle.process_layout.specs.Bounds.{Bounds}
+use Rattle.board_memory.specs.Registers.{Protect}
 use Rattle.upcall_queue.specs.Pending.{place_of}
 use Rattle.process_model.specs.Own.{Own}
 use Rattle.process_model.specs.Flag.{with_flag}
@@ -35,6 +37,10 @@ use Rattle.kernel_calls.specs.Residents.{resident}
 use Rattle.board_turns.specs.declared.machine.Machine.{Machine}
 use Rattle.board_turns.specs.Guards.{DiffersInMark, may_move}
 use Rattle.board_turns.specs.Turning.{Finishes}
+
+-- registers that protect a process protect it where its layout differs in the mark alone
+pub protects_still : (pmp : List Entry) (e f : Bounds) → DiffersInMark e f → Protect pmp e → Protect pmp f
+protects_still pmp e f same p = subst (Protect pmp) (sym same) (record { deny = p.deny })
 
 -- a layout that is the same
 same_layout : (e f : Bounds) → f ≡ e → DiffersInMark e f

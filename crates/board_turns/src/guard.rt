@@ -4,8 +4,7 @@ ghost use Rattle.process_layout.specs.Bounds.{bounds_of};
 ghost use Rattle.board_memory.specs.Registers.{Protect};
 ghost use Rattle.grant_enter.specs.Homes.{own_of};
 ghost use Rattle.syscall_abi.specs.Forms.{form_of};
-ghost use Rattle.board_turns.specs.Guards.{DiffersInMark, GuardsOnly, GuardsOthers, IsSetFor};
-ghost use Rattle.board_turns.specs.Guards.{may_move};
+ghost use Rattle.board_turns.specs.Guards.{GuardsOnly, GuardsOthers, IsSetFor, may_move};
 
 use grant_enter::Home;
 use pmp_regions::Pmp;
@@ -94,16 +93,15 @@ impl ActivePmp {
     /// what it may access, and an exit, by which it starts again. It asks that no other call has.
     // Inlined: most calls are none of these two.
     #[inline(always)]
-    pub fn refresh_after(&mut self, call: &Call, home: &Home, slot: Slot, before: &Layout)
+    pub fn refresh_after(&mut self, call: &Call, home: &Home, slot: Slot)
         requires slot { slot < length home.now.owns }
-        requires set { Protect self.old.pmp (bounds_of before.now) }
         requires stays { may_move (form_of call.now) ≡ false
-            → DiffersInMark (bounds_of before.now) (own_of home.now slot).layout }
+            → Protect self.old.pmp (own_of home.now slot).layout }
         ensures slot { self.new.slot ≡ self.old.slot }
         ensures protect { Protect self.new.pmp (own_of home.now slot).layout }
     {
         if let Call::Memop { .. } | Call::Exit { .. } = call {
-            self.refresh(home, slot, before);
+            home.protect(slot, &mut self.pmp);
         }
     }
 }

@@ -248,9 +248,8 @@ impl Machine {
             (resident self.new.home slot process.new) }
     {
         commands_stay_in_place();
-        let layout = self.home.layout(slot);
         let outcome = self.finish_call(process, slot, call);
-        self.guard.refresh_after(call, &self.home, slot, &layout);
+        self.guard.refresh_after(call, &self.home, slot);
         outcome
     }
 

@@ -36,6 +36,16 @@ pub record IsPackRefused (n : ℕ) (xs file : List ℕ) (m : ℕ) (ys : List ℕ
   pub image : ys ≡ xs
   pub count : m ≡ n
 
+-- an image so far: how many objects it has, and its bytes
+pub record ImageSoFar : Type 0 where
+  pub count : ℕ
+  pub bytes : List ℕ
+
+-- packing a file behind an image leads to another, or is refused
+abbrev pub Packs : {A : Type 0} → ImageSoFar → List ℕ → Result A PackFault → ImageSoFar → Type 0
+Packs before file (Ok done) after = IsPacked before.count before.bytes file after.count after.bytes
+Packs before file (Err fault) after = IsPackRefused before.count before.bytes file after.count after.bytes fault
+
 -- Where a file is packed behind an image, each object of both has exactly the bytes that it had: those of the image
 -- stay where they stood, and those of the file stand as many bytes further on as the image was long.
 pub record KeepsObjects (xs file ys : List ℕ) : Type 0 where

@@ -1,9 +1,9 @@
 //! Packs flash images one behind another.
-ghost use Rattle.std.specs.Prelude.{◌≡◌, ◌≤◌, length, MatchResult, OnOk};
+ghost use Rattle.std.specs.Prelude.{◌≡◌, ◌≤◌, length, OnOk};
 ghost use Rattle.tk_base.specs.declared.limits.TheConstants.{OBJECT_LIMIT};
 ghost use Rattle.flash_walk.specs.Image.{objects};
 ghost use Rattle.image_make.specs.Images.{covered, packed};
-ghost use Rattle.image_make.specs.Packs.{IsPacked, IsPackRefused, KeepsObjects, PacksBehind};
+ghost use Rattle.image_make.specs.Packs.{KeepsObjects, Packs, PacksBehind};
 
 use crate::laws::packed_is_walked;
 use arrayvec::ArrayVec;
@@ -58,10 +58,8 @@ pub fn pack_one(image: &mut Vec<u8>, file: &[u8], objects: &mut u32) -> Result<(
     requires few { objects.old ≤ OBJECT_LIMIT }
     requires image { length image.old.items ≤ FLASH_LIMIT }
     requires file { length file.now ≤ FLASH_LIMIT }
-    ensures packs { MatchResult result
-        (λ _. IsPacked objects.old image.old.items file.now objects.new image.new.items)
-        (λ fault. IsPackRefused objects.old image.old.items file.now objects.new image.new.items
-        fault) }
+    ensures packs { Packs (record { count = objects.old; bytes = image.old.items }) file.now result
+        (record { count = objects.new; bytes = image.new.items }) }
     ensures walked { OnOk result (PacksBehind objects.old image.old.items file.now) }
     ensures keeps { OnOk result (KeepsObjects image.old.items file.now image.new.items) }
     ensures few_objects { OnOk result (objects.new ≤ OBJECT_LIMIT) }

@@ -7,8 +7,8 @@ ghost use Rattle.tool_words.specs.Words.{command_of};
 ghost use Rattle.tool_tasks.specs.Comes.{Running};
 ghost use Rattle.tool_tasks.specs.Causes.{shelf_account};
 ghost use Rattle.tool_tasks.specs.Ready.{IsWithinLimits, task_of};
-ghost use Rattle.tool_answers.specs.Served.{Serves};
-ghost use Rattle.tool_answers.specs.Parts.{Happens, TaskEnds, TaskIs, sink_account};
+ghost use Rattle.tool_answers.specs.Served.{Serves, sink_account};
+ghost use Rattle.tool_answers.specs.Parts.{Happens, TaskEnds, TaskIs};
 
 use crate::run::run_out;
 use board_core::Board;
@@ -158,8 +158,13 @@ pub fn serve<H: Shelf, K: Sink>(
     out: &mut K,
     last: &mut Option<Board>,
 ) -> u8
-    ensures serves { Serves ⟦<SoakGenerator as Generator>⟧.files H.tells shelf.old shelf.new
-        K.tells out.old out.new words.now last.new result }
+    ensures serves { Serves ⟦<SoakGenerator as Generator>⟧.files (record {
+      told = shelf_account H.tells shelf.old shelf.new;
+      sent = sink_account K.tells out.old out.new;
+      words = command_of words.now;
+      last = last.new;
+      answer = result;
+    }) }
 {
     act::<H, K, SoakGenerator>(alloc, words, shelf, out, last).answer()
 }

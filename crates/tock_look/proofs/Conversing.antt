@@ -12,7 +12,8 @@ use Rattle.tool_tasks.specs.declared.prepare.RunFiles.{RunFiles}
 use Rattle.tool_tasks.specs.RunFiles.{opening_of_files}
 use Rattle.tool_answers.specs.declared.outcome.ServeOutcome.{ServeOutcome}
 use Rattle.tool_answers.specs.declared.outcome.ServeOutcome.TheVariants.{Done, Refused, SinkFailed}
-use Rattle.tool_answers.specs.Parts.{RefusalIs, sink_account}
+use Rattle.tool_answers.specs.Parts.{RefusalIs}
+use Rattle.tool_answers.specs.Served.{sink_account}
 use Rattle.tock_look.specs.declared.asks.Ask.{Ask}
 use Rattle.tock_look.specs.Answers.{AreAfter, Worlds, answer_text, answers_from, answers_text, opened, worlds_after}
 use Rattle.tock_look.specs.Asks.{line_ask}

@@ -6,7 +6,7 @@ ghost use Rattle.board_views.specs.Searches.{last_before, until_goal};
 ghost use Rattle.board_views.specs.Stops.{within};
 ghost use Rattle.board_views.specs.Times.{world_reached};
 ghost use Rattle.tool_tasks.specs.RunFiles.{AreWithinLimits, opening_of_files};
-ghost use Rattle.tool_answers.specs.Parts.{sink_account};
+ghost use Rattle.tool_answers.specs.Served.{sink_account};
 ghost use Rattle.tock_look.specs.Adding.{added_text, line_event, whether_added, with_line};
 ghost use Rattle.tock_look.specs.Answers.{answer_text, answered, kept_by, worlds_of};
 ghost use Rattle.tock_look.specs.Answers.{Answers, AnswersWith, last_text, reached_text, traced_text};

@@ -21,7 +21,7 @@ use Rattle.script_text.specs.declared.rule.ScriptRule.{ScriptRule}
 use Rattle.tool_words.specs.declared.refusal.ImageFault.{ImageFault}
 use Rattle.tool_answers.specs.Parts.{Happens, exit_status_of, RefusalIs, TaskIs, TaskEnds}
 use Rattle.tool_answers.specs.Served.{LeavesBoard, Decided}
-use Rattle.tool_answers.specs.Served.{ProgramDoes, TaskIsDone, TaskIsRefused, SinkFault}
+use Rattle.tool_answers.specs.Served.{Serves, TaskIsDone, TaskIsRefused, SinkFault}
 use Rattle.tool_answers.proofs.Tasks.{of_task}
 use Rattle.tool_answers.proofs.Decided.{by_task, by_refusal, by_fault, by_memory}
 
@@ -141,7 +141,7 @@ module _ (makes : ℕ → Generated) (told : ShelfAccount) (sent : SinkAccount) 
   by_number : (words : Option Command) (o : ServeOutcome) → Says words (exit_status_of o)
       → IsSome last ↔ ((exit_status_of o ≡ 0) × LeavesBoard words)
       → (IsWritten sent → Decided told words (exit_status_of o))
-      → ProgramDoes makes told sent words last (exit_status_of o)
+      → Serves makes (record { told = told; sent = sent; words = words; last = last; answer = exit_status_of o })
   by_number words o says left decides = record {
     done = at 0;
     usage = at 2;
@@ -161,7 +161,7 @@ module _ (makes : ℕ → Generated) (told : ShelfAccount) (sent : SinkAccount) 
 
   -- each answer with its cause
   pub answers_at : (words : Option Command) (o : ServeOutcome) → Happens makes told sent words last o
-      → ProgramDoes makes told sent words last (exit_status_of o)
+      → Serves makes (record { told = told; sent = sent; words = words; last = last; answer = exit_status_of o })
   answers_at words Done h =
       by_number words Done h (
         λ s. (refl, run_left words h.0 h.1 h.3 s),
@@ -224,6 +224,9 @@ ends_happen makes told sent words last task o h a (inr r) =
 
 pub answers : (makes : ℕ → Generated) (told : ShelfAccount) (sent : SinkAccount) (words : Option Command)
     (last : Option World) (o : ServeOutcome) (answer : ℕ) → answer ≡ exit_status_of o
-    → Happens makes told sent words last o → ProgramDoes makes told sent words last answer
+    → Happens makes told sent words last o
+    → Serves makes (record { told = told; sent = sent; words = words; last = last; answer = answer })
 answers makes told sent words last o answer e h =
-    subst (λ (n : ℕ). ProgramDoes makes told sent words last n) (sym e) (answers_at makes told sent last words o h)
+    subst (λ (n : ℕ). Serves makes (record { told = told; sent = sent; words = words; last = last; answer = n }))
+    (sym e)
+    (answers_at makes told sent last words o h)

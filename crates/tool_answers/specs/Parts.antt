@@ -2,7 +2,6 @@
 use Rattle.std.specs.Prelude.{◌≡◌, ℕ, ◌⊎◌, List, Option, None}
 use Rattle.kernel_model.specs.World.{World}
 use Rattle.tk_outside.specs.Count.{Rose}
-use Rattle.tk_outside.specs.Sink.{SinkFacts}
 use Rattle.tool_words.specs.declared.refusal.Refusal.{Refusal}
 use Rattle.tool_words.specs.declared.refusal.Refusal.TheVariants.{Memory}
 use Rattle.tool_words.specs.Words.{Command}
@@ -12,10 +11,6 @@ use Rattle.tool_tasks.specs.Causes.{ShelfAccount}
 use Rattle.tool_answers.specs.declared.outcome.ServeOutcome.{ServeOutcome}
 use Rattle.tool_answers.specs.declared.outcome.ServeOutcome.TheVariants.{Done, Refused, SinkFailed}
 use Rattle.tool_answers.specs.Served.{SinkAccount, All, Part, TaskIsDone, TaskIsRefused, SinkFault}
-
--- a sink that was the first of these before the call, and is the second after it
-abbrev pub sink_account : {K : Type 0} → (K → SinkFacts) → K → K → SinkAccount
-sink_account tells old new = record { Sink = _; tells = tells; old = old; new = new }
 
 -- the sink's count of faults rose
 abbrev pub SinkRose : SinkAccount → Type 0

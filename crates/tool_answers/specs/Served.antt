@@ -1,9 +1,8 @@
 -- What the program does: each answer with its cause, and what was written. It is this tool's own promise.
-use Rattle.std.specs.Prelude.{◌≡◌, ◌≢◌, ◌≤◌, ℕ, ◌⊎◌, List, [], ◌∷◌, ◌++◌, String, Option, None, Some, IfSome, IsSome}
+use Rattle.std.specs.Prelude.{◌≡◌, ◌≢◌, ◌≤◌, ℕ, ◌⊎◌, List, [], ◌∷◌, ◌++◌, Option, None, Some, IfSome, IsSome}
 use Rattle.std.specs.Prelude.{◌↔◌}
 use Rattle.script_text.specs.declared.rule.ScriptRule.{ScriptRule}
 use Rattle.tk_outside.specs.Count.{Rose}
-use Rattle.tk_outside.specs.Shelf.{ShelfFacts}
 use Rattle.tk_outside.specs.Sink.{SinkFacts}
 use Rattle.tk_outside.specs.Writes.{WroteAll, WrotePart}
 use Rattle.kernel_model.specs.World.{World}
@@ -11,10 +10,10 @@ use Rattle.tool_words.specs.declared.refusal.File.{File}
 use Rattle.tool_words.specs.declared.refusal.ImageFault.{ImageFault}
 use Rattle.tool_words.specs.declared.refusal.Refusal.{Refusal}
 use Rattle.tool_words.specs.declared.refusal.Refusal.TheVariants.{Usage, Fault, TooLong, Script, Image, Memory}
-use Rattle.tool_words.specs.Words.{Command, Runs, Soaks, command_of}
+use Rattle.tool_words.specs.Words.{Command, Runs, Soaks}
 use Rattle.tool_words.specs.Refusals.{refusal_line, status_of}
 use Rattle.tool_tasks.specs.Comes.{Generated, Named, Task, IsTask, files_of, world_left_by, refused_at, task_text}
-use Rattle.tool_tasks.specs.Causes.{ShelfAccount, Cause, shelf_account}
+use Rattle.tool_tasks.specs.Causes.{ShelfAccount, Cause}
 use Rattle.tool_answers.specs.Accounts.{IsAccountedTask}
 
 -- what a sink was before the call and after it, and what it tells
@@ -23,6 +22,10 @@ pub record SinkAccount : Type 1 where
   pub tells : Sink → SinkFacts
   pub old : Sink
   pub new : Sink
+
+-- a sink that was the first of these before the call, and is the second after it
+abbrev pub sink_account : {K : Type 0} → (K → SinkFacts) → K → K → SinkAccount
+sink_account tells old new = record { Sink = _; tells = tells; old = old; new = new }
 
 -- all of a text was written
 abbrev pub All : SinkAccount → List ℕ → Type 0
@@ -81,28 +84,31 @@ LeavesBoard (Some (Runs mode flash script turns)) = Unit {0}
 LeavesBoard (Some (Soaks number turns)) = Unit {0}
 LeavesBoard other = ⊥
 
--- What the program does: the answer with its cause, what was written, and the board that is left.
-pub record ProgramDoes (makes : ℕ → Generated) (told : ShelfAccount) (sent : SinkAccount) (words : Option Command)
-    (last : Option World) (answer : ℕ) : Type 0 where
-  pub done : answer ≡ 0 → TaskIsDone makes told sent words last
-  pub usage : answer ≡ 2 → TaskIsRefused told sent words Usage
-  pub fault : answer ≡ 3 → (file : File) × TaskIsRefused told sent words (Fault file)
-  pub too_long : answer ≡ 4 → (file : File) × TaskIsRefused told sent words (TooLong file)
-  pub script : answer ≡ 5 → (line : ℕ) × (rule : ScriptRule) × TaskIsRefused told sent words (Script line rule)
-  pub sink : answer ≡ 6 → SinkFault makes told sent words
-  pub memory : answer ≡ 7 → TaskIsRefused told sent words Memory
-  pub image : answer ≡ 8 → (fault : ImageFault) × TaskIsRefused told sent words (Image fault)
-  -- there is no other answer
-  pub answers : (answer ≤ 8) × (answer ≢ 1)
-  -- a board is left exactly at answer 0 of `boot`, `trace` and `soak`
-  pub left : IsSome last ↔ ((answer ≡ 0) × LeavesBoard words)
-  -- so it is where the sink's count of faults did not rise
-  pub decided : ¬ Rose (sent.tells sent.old).faults (sent.tells sent.new).faults → Decided told words answer
+-- a call of the program: what the shelf told and what the sink was sent, the command that its words are, the world
+-- that a board shows which it left, and its answer
+pub record ProgramCall : Type 1 where
+  pub told : ShelfAccount
+  pub sent : SinkAccount
+  pub words : Option Command
+  pub last : Option World
+  pub answer : ℕ
 
--- What the program does with the words of its command line, over a generator that makes such files of each number, and
--- a shelf and a sink that were the first of each two and are now the second.
-abbrev pub Serves : {H K Z : Type 0} → (ℕ → Generated) → (H → ShelfFacts) → H → H → (K → SinkFacts) → K → K
-    → List (String Z) → Option World → ℕ → Type 0
-Serves makes shelf shelf_old shelf_new sink sink_old sink_new words last answer =
-    ProgramDoes makes (shelf_account shelf shelf_old shelf_new)
-    (record { Sink = _; tells = sink; old = sink_old; new = sink_new }) (command_of words) last answer
+-- What the program does, over a generator that makes such files of each number: the answer with its cause, what was
+-- written, and the board that is left.
+pub record Serves (makes : ℕ → Generated) (call : ProgramCall) : Type 0 where
+  pub done : call.answer ≡ 0 → TaskIsDone makes call.told call.sent call.words call.last
+  pub usage : call.answer ≡ 2 → TaskIsRefused call.told call.sent call.words Usage
+  pub fault : call.answer ≡ 3 → (file : File) × TaskIsRefused call.told call.sent call.words (Fault file)
+  pub too_long : call.answer ≡ 4 → (file : File) × TaskIsRefused call.told call.sent call.words (TooLong file)
+  pub script : call.answer ≡ 5
+      → (line : ℕ) × (rule : ScriptRule) × TaskIsRefused call.told call.sent call.words (Script line rule)
+  pub sink : call.answer ≡ 6 → SinkFault makes call.told call.sent call.words
+  pub memory : call.answer ≡ 7 → TaskIsRefused call.told call.sent call.words Memory
+  pub image : call.answer ≡ 8 → (fault : ImageFault) × TaskIsRefused call.told call.sent call.words (Image fault)
+  -- there is no other answer
+  pub answers : (call.answer ≤ 8) × (call.answer ≢ 1)
+  -- a board is left exactly at answer 0 of `boot`, `trace` and `soak`
+  pub left : IsSome call.last ↔ ((call.answer ≡ 0) × LeavesBoard call.words)
+  -- so it is where the sink's count of faults did not rise
+  pub decided : ¬ Rose (call.sent.tells call.sent.old).faults (call.sent.tells call.sent.new).faults
+      → Decided call.told call.words call.answer

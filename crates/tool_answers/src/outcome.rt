@@ -2,7 +2,8 @@
 ghost use Rattle.std.specs.Prelude.{◌≡◌, ◌≤◌, length, None};
 ghost use Rattle.tk_base.specs.declared.limits.TheConstants.{FLASH_LIMIT};
 ghost use Rattle.tool_tasks.specs.Comes.{Listing, Making};
-ghost use Rattle.tool_answers.specs.Parts.{RefusalIs, TaskIs, exit_status_of, sink_account};
+ghost use Rattle.tool_answers.specs.Parts.{RefusalIs, TaskIs, exit_status_of};
+ghost use Rattle.tool_answers.specs.Served.{sink_account};
 
 use crate::list::list_out;
 use tk_outside::{Sink, put_all};

@@ -1,7 +1,7 @@
 use Rattle.tool_words.specs.Words.{command_of}
 use Rattle.tool_tasks.specs.Causes.{shelf_account}
 use Rattle.tool_tasks.specs.Ready.{task_of}
-use Rattle.tool_answers.specs.Parts.{sink_account}
+use Rattle.tool_answers.specs.Served.{sink_account}
 use Rattle.tool_answers.proofs.Accounts.{task_is_accounted}
 use Rattle.tool_answers.proofs.Serving.{ends_happen, refused_happens}
 use Rattle.tock_cli.proofs.serve.act.Goals as goal

@@ -3,7 +3,8 @@ use Rattle.kernel_model.specs.World.{World}
 use Rattle.tool_tasks.specs.Comes.{Task, Listing, Making}
 use Rattle.tool_tasks.specs.declared.prepare.Ready.{Ready}
 use Rattle.tool_tasks.specs.Ready.{task_of}
-use Rattle.tool_answers.specs.Parts.{TaskIs, sink_account}
+use Rattle.tool_answers.specs.Parts.{TaskIs}
+use Rattle.tool_answers.specs.Served.{sink_account}
 use Rattle.tock_cli.proofs.serve.finish.Goals as goal
 
 pub returns-in-List : goal.returns-in-List

@@ -1,7 +1,8 @@
 use Rattle.std.proofs.Common.{inl, inr, subst}
 use Rattle.kernel_model.specs.World.{World}
 use Rattle.tool_tasks.specs.Comes.{Running}
-use Rattle.tool_answers.specs.Parts.{TaskIs, sink_account}
+use Rattle.tool_answers.specs.Parts.{TaskIs}
+use Rattle.tool_answers.specs.Served.{sink_account}
 use Rattle.tock_cli.proofs.serve.run.Goals as goal
 
 pub returns-in-Ok : goal.returns-in-Ok
