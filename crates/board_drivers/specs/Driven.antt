@@ -1,11 +1,13 @@
 -- The drivers of a board: the devices that they show, and who waits. A board shows `devices_of`; the rest is for proofs
 -- alone. It is this board's own.
-use Rattle.std.specs.Prelude.{◌≡◌, ◌≤◌, ◌<◌, ℕ, ◌+◌, true, false, List, [], length, map, replicate, slice_index_or, All}
-use Rattle.std.specs.Prelude.{Option, None, Some, is_some}
+use Rattle.std.specs.Prelude.{◌≡◌, ◌≤◌, ◌<◌, ℕ, ◌+◌, false, List, [], length, map, replicate, slice_index_or, All}
+use Rattle.std.specs.Prelude.{Option, None, Some}
 use Rattle.std.specs.List.{AllByRecursion}
 use Rattle.tk_base.specs.declared.call.CallRule.{CallRule}
 use Rattle.tk_base.specs.declared.limits.TheConstants.{BYTE_TICKS_LIMIT, SENDING_LIMIT, SLOT_COUNT}
 use Rattle.tk_base.specs.declared.process.ProcessId.{ProcessId}
+use Rattle.syscall_abi.specs.declared.form.CallForm.{CallForm}
+use Rattle.syscall_abi.specs.declared.form.CallForm.TheVariants.{Command}
 use Rattle.syscall_abi.specs.declared.reply.Reply.{Reply}
 use Rattle.board_devices.specs.Storage.{fresh_storage}
 use Rattle.script_text.specs.Settings.{ScriptSettings as Script}
@@ -123,9 +125,10 @@ pub record Drives (id : ProcessId) (acts : List BoardRequest) (old new : Drivers
   pub words : new.words ≡ old.words
   pub bytes : new.stores ≡ old.stores
 
--- there is a driver that takes the command
-abbrev pub IsTaken : Order → Type 0
-IsTaken order = is_some (handler_of order.driver) ≡ true
+-- the command that a call is, if it is one
+abbrev pub order_in : CallForm → Option Order
+order_in (Command driver number a2 a3) = Some (record { driver = driver; number = number; a2 = a2; a3 = a3 })
+order_in other = None
 
 -- a process waits only where it has a request
 abbrev pub MayAsk : Drivers → ℕ → Own → Type 0

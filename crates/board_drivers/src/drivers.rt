@@ -1,6 +1,6 @@
 //! The drivers of the board.
 ghost use Rattle.std.specs.Prelude.{◌≡◌, ◌+◌, ◌*◌, ◌<◌, ◌≤◌, ◌^◌, ◌↔◌, ℕ, true, false, [], length};
-ghost use Rattle.std.specs.Prelude.{All, IfOk, IfSome, None, replicate};
+ghost use Rattle.std.specs.Prelude.{All, Err, IfOk, IfSome, None, replicate};
 ghost use Rattle.driver_model.specs.Alarm.{alarm_in};
 ghost use Rattle.driver_model.specs.Commands.{leaving_all};
 ghost use Rattle.grant_enter.specs.Homes.{own_of, ChangesOnly};
@@ -10,8 +10,12 @@ ghost use Rattle.board_drivers.specs.Calm.{AlarmsTell};
 ghost use Rattle.kernel_calls.specs.Residents.{HasLost};
 ghost use Rattle.board_drivers.specs.Tells.{Acts, Arrives, is_alarm, tells_one};
 ghost use Rattle.tk_base.specs.declared.limits.TheConstants.{SLOT_COUNT, STEP_LIMIT};
-ghost use Rattle.board_drivers.specs.Driven.{AreDriven, AreFresh, Commands, Drives, HasLanes, IsTaken};
-ghost use Rattle.board_drivers.specs.Driven.{MayAsk, devices_of};
+ghost use Rattle.driver_model.specs.Drivers.{handler_of};
+ghost use Rattle.syscall_abi.specs.Forms.{form_of};
+ghost use Rattle.syscall_abi.specs.Reply.{reply_of};
+ghost use Rattle.tk_base.specs.declared.call.CallRule.TheVariants.{NoDriver};
+ghost use Rattle.board_drivers.specs.Driven.{AreDriven, AreFresh, Commands, Drives, HasLanes};
+ghost use Rattle.board_drivers.specs.Driven.{MayAsk, devices_of, order_in};
 
 use crate::moment::Moment;
 use crate::served::Served;
@@ -29,7 +33,7 @@ use random_capsule::RandomCapsule;
 use script_text::Script;
 use std::alloc::Global;
 use storage_capsule::StorageCapsule;
-use syscall_abi::Reply;
+use syscall_abi::{Call, Reply, reply_of};
 use tk_base::{CallRule, Dev, NotReady, PRINT_LIMIT, ProcessId, SLOT_COUNT};
 use tk_outside::NoMemory;
 
@@ -57,6 +61,29 @@ pub struct Order {
     pub number: u32,
     pub a2: u32,
     pub a3: u32,
+}
+
+impl Order {
+    /// The command that a call is; None where it is no command.
+    #[inline(always)]
+    pub fn of(call: &Call) -> Option<Order>
+        ensures { result ≡ order_in (form_of call.now) }
+    {
+        match *call {
+            Call::Command {
+                driver,
+                command,
+                a2,
+                a3,
+            } => Some(Order {
+                driver,
+                number: command,
+                a2,
+                a3,
+            }),
+            _ => None,
+        }
+    }
 }
 
 /// How many lanes there are, where a window has so many ticks: one without time partitions, else one
@@ -153,8 +180,9 @@ impl Drivers {
     }
 
     /// Has the driver of a command of the process of an id serve it, when the alarm's clock shows a
-    /// tick: the reply, and the rule that refuses it, if one does. It asks that the driver takes
-    /// commands, and that the process is there, and waits only where it has a request.
+    /// tick: the reply, and the rule that refuses it, if one does. Where there is no such driver it is
+    /// refused with [`CallRule::NoDriver`], and nothing changes. It asks that the process is there, and
+    /// waits only where it has a request.
     pub fn command(
         &mut self,
         home: &mut Home,
@@ -166,7 +194,6 @@ impl Drivers {
         requires present { is_stale id.life (own_of home.old id.slot) ≡ false }
         requires dropped { (own_of home.old id.slot).inbox.dropped + 1 < 2 ^ 32 }
         requires lines { MayAsk self.old id.slot (own_of home.old id.slot) }
-        requires driver { IsTaken order.now }
         ensures comes { Commands (record {
           tick = tick;
           id = id;
@@ -174,6 +201,8 @@ impl Drivers {
           own = own_of home.old id.slot;
           drivers = self.old;
         }) result (own_of home.new id.slot) self.new }
+        ensures none { handler_of order.now.driver ≡ None → (result ≡ reply_of (Err NoDriver))
+            × (home.new ≡ home.old) × (self.new ≡ self.old) }
         ensures rest { ChangesOnly id.slot home.old home.new }
     {
         drivers_ask_for_their_own();
@@ -196,7 +225,7 @@ impl Drivers {
                 let size = self.stores.size();
                 self.storage.command(home, size, id, number, a2, a3)
             }
-            None => unreachable!(),
+            None => reply_of(Err(CallRule::NoDriver)),
         }
     }
 }

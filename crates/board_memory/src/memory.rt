@@ -1,11 +1,10 @@
 //! Flash and RAM.
-ghost use Rattle.std.specs.Prelude.{◌≡◌, ◌+◌, ◌-◌, ◌*◌, ◌/◌, ◌<◌, ◌≤◌, length, replicate, IfOk};
+ghost use Rattle.std.specs.Prelude.{◌≡◌, ◌+◌, ◌-◌, ◌≤◌, length, replicate, IfOk};
 ghost use Rattle.tk_base.specs.declared.access.TheConstants.{RAM_START};
 ghost use Rattle.std.specs.Borrow.{sem};
-ghost use Rattle.rv32_entries.specs.Standing.{TellsStanding};
 ghost use Rattle.board_memory.specs.Bytes.{StoresLieIn};
-ghost use Rattle.board_memory.specs.Known.{AreEntries};
 
+use crate::flash::{Decoder, cold_entries, decode_between};
 use crate::parts::Block;
 use crate::view::View;
 use crate::windows::Windows;
@@ -14,7 +13,7 @@ use process_layout::Layout;
 use rv32_entries::Entry;
 use std::alloc::Global;
 use std::marker::Model;
-use tk_base::{Addr, FLASH_START, NoMemory, RAM_START};
+use tk_base::{Addr, FLASH_START, NoMemory, RAM_START, SLOT_COUNT, Slot};
 
 /// The board's memory: flash, whose first byte has the address [`FLASH_START`], and RAM, whose first byte
 /// has the address [`RAM_START`]. All processes have their blocks in the one RAM.
@@ -24,8 +23,8 @@ pub struct Memory {
     /// Of each even place of flash the instruction there, or nothing known.
     entries: Vec<Entry>,
     ram: Vec<u8>,
-    /// The windows of the registers under which memory was last reached, or empty ones.
-    windows: Windows,
+    /// Of each slot the windows of the registers under which its process last reached memory, or empty ones.
+    windows: [Windows; SLOT_COUNT],
 }
 
 impl Model for Memory {
@@ -33,21 +32,14 @@ impl Model for Memory {
 
     ghost Value = { MemoryBytes };
 
-    ghost use Rattle.std.specs.Prelude.{length};
+    ghost use Rattle.std.specs.Prelude.{All, length};
     ghost use Rattle.board_memory.specs.Known.{AreEntries};
     ghost use Rattle.board_memory.specs.Windows.{AreWindows};
 
     ghost view = { λ m. record { flash = m.flash.items; ram = m.ram.items } };
 
     ghost invariant = { λ m. AreEntries m.flash.items m.entries.items
-        × AreWindows m.flash.items m.entries.items (length m.ram.items) m.windows };
-}
-
-/// As many entries, of which nothing is known.
-fn cold_entries(alloc: Global, bytes: &[u8]) -> Result<Vec<Entry>, NoMemory>
-    ensures { IfOk result (λ entries. AreEntries bytes.now entries.items) }
-{
-    Ok(vec![in alloc; Entry::Cold; bytes.len() / 2]?)
+        × All (AreWindows m.flash.items m.entries.items (length m.ram.items)) m.windows };
 }
 
 impl Memory {
@@ -66,7 +58,7 @@ impl Memory {
             flash,
             entries,
             ram,
-            windows: Windows::none(),
+            windows: [Windows::none(); SLOT_COUNT],
         })
     }
 
@@ -81,19 +73,17 @@ impl Memory {
             flash,
             entries,
             ram,
-            windows: Windows::none(),
+            windows: [Windows::none(); SLOT_COUNT],
         })
     }
 
-    /// Keeps the instruction that stands at an even place of flash, so that it need not be decoded when it is
+    /// Decodes the instructions of flash between two addresses, so that they need not be decoded when they are
     /// executed.
-    pub fn know(&mut self, place: usize, entry: Entry)
-        requires inside { place < length self.old.flash / 2 }
-        requires tells { TellsStanding self.old.flash (2 * place) entry }
+    pub fn decode<D: Decoder>(&mut self, decoder: &D, from: Addr, to: Addr)
         ensures { self.new ≡ self.old }
     {
-        self.entries[place] = entry;
-        self.windows = Windows::none();
+        decode_between(decoder, self.flash.as_slice(), &mut self.entries, from, to);
+        self.windows = [Windows::none(); SLOT_COUNT];
     }
 
     /// The bytes of flash.
@@ -113,19 +103,21 @@ impl Memory {
         self.ram.slice_mut(from..to).fill(0);
     }
 
-    /// What a process reaches, in user mode, under these registers.
+    /// What the process in a slot reaches, in user mode, under these registers.
     #[inline(always)]
-    pub fn view<'a>(&'a mut self, pmp: &'a Pmp) -> View<'a>
+    pub fn view<'a>(&'a mut self, pmp: &'a Pmp, slot: Slot) -> View<'a>
         requires { StoresLieIn (length self.old.ram) pmp.now }
         ensures* writes_back { sem 𝓛 (LendsView self.entry result) }
         ensures flash { result.sight.flash.now ≡ self.old.flash }
         ensures ram { result.ram.now ≡ self.old.ram }
         ensures pmp { result.sight.pmp.now ≡ pmp.now }
     {
-        let size = self.ram.len();
-        self.windows
-            .follow(self.flash.as_slice(), self.entries.as_slice(), size, pmp);
-        let windows = self.windows;
+        let mut windows = self.windows[slot.index()];
+        if !windows.are_of(pmp) {
+            let (flash, entries) = (self.flash.as_slice(), self.entries.as_slice());
+            windows = Windows::of(flash, entries, self.ram.len(), pmp);
+            self.windows[slot.index()] = windows;
+        }
         let flash = self.flash.as_slice();
         let entries = self.entries.as_slice();
         let ram = self.ram.as_mut_slice();

@@ -54,39 +54,31 @@ impl Windows {
         }
     }
 
-    /// Finds those of some registers, over flash and so many bytes of RAM.
+    /// Those of some registers, over flash and so many bytes of RAM.
     #[cold]
     #[inline(never)]
-    fn find(&mut self, flash: &[u8], entries: &[Entry], size: usize, pmp: &Pmp)
+    pub fn of(flash: &[u8], entries: &[Entry], size: usize, pmp: &Pmp) -> Windows
         requires { AreEntries flash.now entries.now }
-        ensures windows { AreWindows flash.now entries.now size self.new }
-        ensures permit { Permit pmp.now self.new }
+        ensures windows { AreWindows flash.now entries.now size result }
+        ensures permit { Permit pmp.now result }
     {
         let executable = pmp.executable();
         let writable = pmp.writable();
-        self.code = code_words(&executable, flash.len());
-        self.count = known_count(flash, entries, self.code);
-        self.near = near_words(&writable, size);
-        self.executable = ends_of(&executable);
-        self.writable = ends_of(&writable);
-    }
-
-    /// Makes them those of some registers.
-    #[inline(always)]
-    pub fn follow(&mut self, flash: &[u8], entries: &[Entry], size: usize, pmp: &Pmp)
-        requires known { AreEntries flash.now entries.now }
-        requires windows { AreWindows flash.now entries.now size self.old }
-        ensures windows { AreWindows flash.now entries.now size self.new }
-        ensures permit { Permit pmp.now self.new }
-    {
-        if !self.are_of(pmp) {
-            self.find(flash, entries, size, pmp);
+        let code = code_words(&executable, flash.len());
+        let count = known_count(flash, entries, code);
+        let near = near_words(&writable, size);
+        Windows {
+            executable: ends_of(&executable),
+            writable: ends_of(&writable),
+            code,
+            count,
+            near,
         }
     }
 
     /// Whether they are those of some registers.
     #[inline(always)]
-    fn are_of(&self, pmp: &Pmp) -> bool
+    pub fn are_of(&self, pmp: &Pmp) -> bool
         ensures { OnTrue result (Permit pmp.now self.now) }
     {
         let executable = pmp.executable();

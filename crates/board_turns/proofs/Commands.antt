@@ -7,7 +7,7 @@ use Rattle.std.proofs.Common.{◌≢◌, ◌⊎◌, inl, inr, arith}
 use Rattle.tk_base.specs.declared.call.CallRule.{CallRule}
 use Rattle.tk_base.specs.declared.call.CallRule.TheVariants.{Permission}
 use Rattle.syscall_abi.specs.declared.form.CallForm.{CallForm}
-use Rattle.syscall_abi.specs.declared.form.CallForm.TheVariants.{Command}
+use Rattle.syscall_abi.specs.declared.form.CallForm.TheVariants.{Command, Exit, Memop, Swap, Yield}
 use Rattle.syscall_abi.specs.declared.reply.Reply.{Reply}
 use Rattle.process_model.specs.declared.place.Object.{Object}
 use Rattle.process_model.specs.Own.{Own}
@@ -37,7 +37,7 @@ use Rattle.kernel_calls.specs.Outcomes.{ServingComesTo, IsLeft, IsServed, Serves
 use Rattle.kernel_calls.specs.Outcomes.{is_taken, record_of_slot}
 use Rattle.kernel_model.specs.Turn.{surroundings}
 use Rattle.board_drivers.specs.declared.drivers.Order.{Order}
-use Rattle.board_drivers.specs.Driven.{Commands, Drives, MayServe, beside_in}
+use Rattle.board_drivers.specs.Driven.{Commands, Drives, MayServe, beside_in, order_in}
 use Rattle.kernel_calls.specs.Residents.{IsResident, Resident, id_of, resident}
 use Rattle.board_turns.specs.declared.machine.Machine.{Machine}
 use Rattle.board_turns.specs.Turning.{Finishes}
@@ -100,6 +100,17 @@ seen_by_commands x = record {
   pressed = x.drivers.buttons.pressed;
   storage = x.moment.settings.storage;
 }
+
+-- a call that is a command has its form
+pub form_in : (form : CallForm) (order : Order) → order_in form ≡ Some order
+    → form ≡ Command order.driver order.number order.a2 order.a3
+form_in (Command driver number a2 a3) order is =
+    let same : record { driver = driver; number = number; a2 = a2; a3 = a3 } ≡ order = cc in
+    ap (λ (o : Order). Command o.driver o.number o.a2 o.a3) same
+form_in (Yield number a1 a2) order is = cc
+form_in (Swap swap) order is = cc
+form_in (Memop operation argument) order is = cc
+form_in (Exit kind code) order is = cc
 
 -- what comes of a command of the process in a slot, as its driver takes it there
 abbrev pub Came : ℕ → Machine → Machine → Order → Reply × Option CallRule → CommandHandler → Type 0

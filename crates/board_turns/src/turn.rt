@@ -188,23 +188,8 @@ impl Machine {
             ≡ record self.old { home = self.new.home; drivers = self.new.drivers } }
     {
         commands_stay_in_place();
-        let Call::Command {
-            driver,
-            command,
-            a2,
-            a3,
-        } = *call
-        else {
-            unreachable!()
-        };
-        let Some(id) = self.home.id(slot) else {
-            unreachable!()
-        };
-        let order = Order {
-            driver,
-            number: command,
-            a2,
-            a3,
+        let (Some(order), Some(id)) = (Order::of(call), self.home.id(slot)) else {
+            return Outcome::ToDriver;
         };
         let tick = self.moment.tick();
         let (reply, rule) = self.drivers.command(&mut self.home, tick, id, &order);

@@ -1,25 +1,18 @@
 //! Instructions are decoded before they are executed.
-ghost use Rattle.std.specs.Prelude.{◌≡◌};
-
-use board_memory::Memory;
+use board_memory::Decoder;
+use rv32_entries::Entry;
 use rv32_predecode::{entry_before, entry_in};
-use tk_base::{Addr, FLASH_START};
 
-/// Decodes the instructions of flash between two addresses, so that they need not be decoded when they are
-/// executed.
-pub fn decode_between(memory: &mut Memory, from: Addr, to: Addr)
-    ensures { memory.new ≡ memory.old }
-{
-    let from = (from.saturating_sub(FLASH_START) / 2) as usize;
-    let to = (to.saturating_sub(FLASH_START) / 2) as usize;
-    let to = to.min(memory.flash().len() / 2);
-    for place in from..to {
+/// The decoder of RV32IMC.
+pub struct Predecoder;
+
+impl Decoder for Predecoder {
+    fn entry(&self, bytes: &[u8], at: usize, end: usize) -> Entry {
         // Only the last three may reach past the end.
-        let entry = if to - place > 2 {
-            entry_in(memory.flash(), 2 * place)
+        if end.saturating_sub(at) > 4 {
+            entry_in(bytes, at)
         } else {
-            entry_before(memory.flash(), 2 * place, 2 * to)
-        };
-        memory.know(place, entry);
+            entry_before(bytes, at, end)
+        }
     }
 }

@@ -14,7 +14,7 @@ ghost use Rattle.grant_enter.specs.Homes.{IsStopped, CanMoveIn, FootprintBefore,
 ghost use Rattle.grant_enter.specs.Homes.{MakesAll};
 ghost use Rattle.process_seat.specs.Places.{has_permissions};
 
-use crate::decode::decode_between;
+use crate::decode::Predecoder;
 use board_memory::{Memory, set_process};
 use grant_model::what_is_laid_is_read_back;
 use memory_turns::{instruction_laws, turn_in, turns_in};
@@ -181,7 +181,8 @@ impl Home {
         }
         seat.decoded = true;
         let layout = seat.layout;
-        decode_between(&mut self.memory, layout.flash_start, layout.flash_end);
+        self.memory
+            .decode(&Predecoder, layout.flash_start, layout.flash_end);
     }
 
     /// Starts the process in a slot again, with its first break (TRD 104, "Exit"): every byte of
@@ -300,7 +301,7 @@ impl Home {
         sees_only_permitted();
         writes_are_permitted();
         a_store_is_put();
-        turn_in(regs, &mut self.memory, pmp)
+        turn_in(regs, &mut self.memory, pmp, slot)
     }
 
     /// As many instructions of the process in a slot as go, one after another, at most `most`,
@@ -320,6 +321,6 @@ impl Home {
         ensures rest { ChangesOnly slot self.old self.new }
     {
         instruction_laws();
-        turns_in(regs, &mut self.memory, pmp, most)
+        turns_in(regs, &mut self.memory, pmp, slot, most)
     }
 }

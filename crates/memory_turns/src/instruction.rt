@@ -10,7 +10,7 @@ use board_memory::{Memory, Sight, View, a_store_in_ram_is_put, bytes_tell_the_ra
 use pmp_regions::Pmp;
 use rv32_model::{TurnEnd, one_is_the_turn, sees_only_permitted, writes_are_permitted};
 use rv32_step::{Stretch, turns};
-use tk_base::{Regs, a_store_is_put};
+use tk_base::{Regs, Slot, a_store_is_put};
 
 /// The laws that instructions over RAM rest on.
 pub fn instruction_laws()
@@ -36,9 +36,9 @@ fn turns_over(regs: &mut Regs, sight: Sight<'_>, ram: &mut [u8], most: u32) -> S
     turns(regs, &mut view, most)
 }
 
-/// As many instructions over flash and RAM as go, at most `most`, and how the next one ends. Memory
-/// lends what is reached once for all of them.
-pub fn turns_in(regs: &mut Regs, memory: &mut Memory, pmp: &Pmp, most: u32) -> Stretch
+/// As many instructions over flash and RAM of the process in a slot as go, at most `most`, and how the
+/// next one ends. Memory lends what is reached once for all of them.
+pub fn turns_in(regs: &mut Regs, memory: &mut Memory, pmp: &Pmp, slot: Slot, most: u32) -> Stretch
     requires { StoresLieIn (length memory.old.ram) pmp.now }
     ensures most { result.went ≤ most }
     ensures goes { GoesUnder pmp.now memory.old.flash result.went regs.old memory.old.ram regs.new
@@ -48,12 +48,12 @@ pub fn turns_in(regs: &mut Regs, memory: &mut Memory, pmp: &Pmp, most: u32) -> S
     ensures long { length memory.new.ram ≡ length memory.old.ram }
     ensures rest { memory.new ≡ record memory.old { ram = memory.new.ram } }
 {
-    let View { sight, ram } = memory.view(pmp);
+    let View { sight, ram } = memory.view(pmp, slot);
     turns_over(regs, sight, ram, most)
 }
 
-/// One instruction over flash and RAM.
-pub fn turn_in(regs: &mut Regs, memory: &mut Memory, pmp: &Pmp) -> TurnEnd
+/// One instruction of the process in a slot over flash and RAM.
+pub fn turn_in(regs: &mut Regs, memory: &mut Memory, pmp: &Pmp, slot: Slot) -> TurnEnd
     requires { StoresLieIn (length memory.old.ram) pmp.now }
     ensures regs { regs.new ≡ (turn_under pmp.now memory.old.flash memory.old.ram regs.old).regs }
     ensures end { result ≡ (turn_under pmp.now memory.old.flash memory.old.ram regs.old).end }
@@ -66,5 +66,5 @@ pub fn turn_in(regs: &mut Regs, memory: &mut Memory, pmp: &Pmp) -> TurnEnd
     writes_are_permitted();
     a_store_in_ram_is_put();
     bytes_tell_the_ram();
-    turns_in(regs, memory, pmp, 1).end
+    turns_in(regs, memory, pmp, slot, 1).end
 }

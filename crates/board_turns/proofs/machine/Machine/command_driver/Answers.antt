@@ -3,6 +3,7 @@
 -- the call, the seated process and 'this slot alone' of it.
 use Rattle.std.proofs.Common.{◌≡◌, ◌+◌, Some, ap, sym, subst, ◌∙◌}
 use Rattle.process_record.specs.declared.process.Process.{Process}
+use Rattle.syscall_abi.specs.declared.form.CallForm.TheVariants.{Command}
 use Rattle.syscall_abi.specs.Forms.{form_of}
 use Rattle.tk_base.specs.declared.process.ProcessId.{ProcessId}
 use Rattle.driver_model.specs.Drivers.{CommandHandler, handler_of}
@@ -12,30 +13,32 @@ use Rattle.kernel_calls.specs.Outcomes.{is_taken}
 use Rattle.board_drivers.specs.declared.drivers.Order.{Order}
 use Rattle.kernel_calls.specs.Residents.{id_of}
 use Rattle.board_turns.specs.declared.machine.Machine.{Machine}
-use Rattle.board_turns.proofs.Commands.{Came, came, came_in_place, finishes, living_id, some_of, stays_seated, taken_of}
+use Rattle.board_turns.proofs.Commands.{Came, came, came_in_place, finishes, form_in, living_id, some_of}
+use Rattle.board_turns.proofs.Commands.{stays_seated, taken_of}
 use Rattle.board_turns.proofs.machine.Machine.command_driver.Goals as goal
 use Rattle.board_turns.proofs.machine.Machine.command_driver.Goals.{After-give_reply}
 
 -- the command
 abbrev order : After-give_reply → Order
-order c = record {
-  driver = c.in-Command.driver;
-  number = c.in-Command.command;
-  a2 = c.in-Command.a2;
-  a3 =
-      c.in-Command.a3;
-}
+order c = c.in-Some-Some.order
+
+-- the call is that command
+is_command : (c : After-give_reply)
+    → form_of c.args.call.now ≡ Command (order c).driver (order c).number (order c).a2 (order c).a3
+is_command c = form_in (form_of c.args.call.now) (order c) (sym c.of.ensures ∙ c.in-Some-Some.is-0)
 
 -- who takes it
-taker : (c : After-give_reply) → (t : CommandHandler) × (handler_of c.in-Command.driver ≡ Some t)
-taker c = some_of (handler_of c.in-Command.driver)
-    (ap is_taken (sym (ap form_of c.in-Command.is))
+taker : (c : After-give_reply) → (t : CommandHandler) × (handler_of (order c).driver ≡ Some t)
+taker c = some_of (handler_of (order c).driver)
+    (ap is_taken (sym (is_command c))
     ∙ taken_of c.args.self.now.moment.settings.strict (object_in c.args.self.now.home.flash c.args.process.now.object)
     (form_of c.args.call.now) c.requires.left)
 
 -- the id is that of the process
-known : (c : After-give_reply) → c.in-Some.id ≡ id_of c.args.slot (own_of c.args.self.now.home c.args.slot)
-known c = living_id c.args.slot c.args.slot c.args.self.now.home.owns c.in-Some.id (sym c.id.ensures ∙ c.in-Some.is)
+known : (c : After-give_reply) → c.in-Some-Some.id ≡ id_of c.args.slot (own_of c.args.self.now.home c.args.slot)
+known c =
+    living_id c.args.slot c.args.slot c.args.self.now.home.owns c.in-Some-Some.id
+    (sym c.id.ensures ∙ c.in-Some-Some.is-1)
 
 -- the machine once its driver answered
 abbrev left : After-give_reply → Machine
@@ -45,7 +48,7 @@ left c = record c.args.self.now { home = c.command-reply.new.home; drivers = c.c
 answered : (c : After-give_reply)
     → Came c.args.slot c.args.self.now (left c) (order c) c.command-reply.result (taker c).0
 answered c =
-    came c.args.slot c.args.self.now (left c) (order c) c.command-reply.result (taker c).0 (taker c).1 c.in-Some.id
+    came c.args.slot c.args.self.now (left c) (order c) c.command-reply.result (taker c).0 (taker c).1 c.in-Some-Some.id
     c.tick-tick.result (known c) c.tick-tick.ensures c.requires.may c.command-reply.ensures.comes
 
 pub returns-clause-serves : goal.returns-clause-serves
@@ -53,7 +56,7 @@ returns-clause-serves c =
     let a = (goal.at.returns-clause-serves c).After-give_reply in
     finishes c.args.slot c.args.self.now (left a) (order a) c.command-reply.result (taker a).0 (taker a).1
     c.args.process.now c.give_reply.new.process (form_of c.args.call.now) c.give_reply.result
-    (ap form_of c.in-Command.is) c.requires.left (answered a)
+    (is_command a) c.requires.left (answered a)
     (ap (λ (p : Process). p.object) c.give_reply.ensures.stays)
     (ap (λ (h : Homes). h.flash) c.command-reply.ensures.rest) c.give_reply.ensures.gives
 

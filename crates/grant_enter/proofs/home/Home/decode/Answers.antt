@@ -3,7 +3,7 @@ use Rattle.board_memory.specs.Memory.{MemoryBytes}
 use Rattle.process_seat.specs.Seats.{Reseats, SitsIn, own_in}
 use Rattle.grant_enter.proofs.Moves.{Reads, reseated, reseated_same, sits_before}
 use Rattle.process_seat.proofs.Reseated.{known, same_memory}
-use Rattle.grant_enter.proofs.home.Home.decode.Goals.{After-decode_between, After-index_mut-seat}
+use Rattle.grant_enter.proofs.home.Home.decode.Goals.{After-decode, After-index_mut-seat}
 use Rattle.grant_enter.proofs.home.Home.decode.Goals as goal
 
 -- the seat of the slot
@@ -35,21 +35,20 @@ returns-then-seat c =
     reseated_same (reads a) c.self.inside.memory c.index_mut-seat.result.now (stays a) refl
 
 -- the seat afterwards
-left : (c : After-decode_between) → SitsIn c.self.inside.memory c.index_mut-seat.result.now
-    → Reseats c.self.inside.memory c.index_mut-seat.result.now c.decode_between.new.memory
+left : (c : After-decode) → SitsIn c.self.inside.memory c.index_mut-seat.result.now
+    → Reseats c.self.inside.memory c.index_mut-seat.result.now c.decode.new.self
     (record c.index_mut-seat.result.now { decoded = true })
-left c sits =
-    known c.self.inside.memory c.index_mut-seat.result.now c.decode_between.new.memory c.decode_between.ensures sits
+left c sits = known c.self.inside.memory c.index_mut-seat.result.now c.decode.new.self c.decode.ensures sits
 
 pub invariant_of-self-2 : goal.invariant_of-self-2
 invariant_of-self-2 c =
     let at = goal.at.invariant_of-self-2 c in
     let r = reads at.After-index_mut-seat in
-    reseated r c.decode_between.new.memory _ (left at.After-decode_between (sits_before r))
+    reseated r c.decode.new.self _ (left at.After-decode (sits_before r))
 
 pub returns : goal.returns
 returns c =
     let at = goal.at.returns c in
     let r = reads at.After-index_mut-seat in
-    reseated_same r c.decode_between.new.memory _ (left at.After-decode_between (sits_before r))
-    (ap (λ (m : MemoryBytes). own_in m.ram c.index_mut-seat.result.now) c.decode_between.ensures)
+    reseated_same r c.decode.new.self _ (left at.After-decode (sits_before r))
+    (ap (λ (m : MemoryBytes). own_in m.ram c.index_mut-seat.result.now) c.decode.ensures)
