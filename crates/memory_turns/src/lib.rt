@@ -1,4 +1,4 @@
-//! Instructions over flash and RAM, under protection registers. They know no process.
+//! Instructions over flash and RAM, under protection registers. Of a process they know the slot alone.
 #![tactic(auto)]
 
 mod instruction;
