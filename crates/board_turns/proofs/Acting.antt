@@ -6,13 +6,13 @@ use Rattle.tk_base.specs.declared.process.Verb.{Verb}
 use Rattle.tk_base.specs.declared.process.Verb.TheVariants as verbs
 use Rattle.process_model.specs.Own.{Own}
 use Rattle.process_model.specs.Flash.{object_in}
-use Rattle.process_model.specs.declared.place.Object.{Object}
 use Rattle.process_record.specs.declared.process.Process.{Process}
+use Rattle.process_record.specs.Operator.{own_operated, process_operated}
 use Rattle.grant_enter.specs.Homes.{ChangesOnly, Homes, nobody, own_of}
 use Rattle.process_restart.specs.Own.{IsOwn, KeepsObject, LivesOn}
-use Rattle.process_console.specs.Acts.{Operates as Acts}
+use Rattle.process_console.specs.Acts.{IsOperated, Operates as Acts}
 use Rattle.kernel_calls.specs.Own.{Beside, record_in}
-use Rattle.kernel_calls.proofs.Starts.{starts_again}
+use Rattle.kernel_calls.proofs.Starts.{of_object, starts_again}
 use Rattle.kernel_model.specs.Turn.{operated}
 use Rattle.board_memory.specs.Registers.{Protect}
 use Rattle.kernel_calls.specs.Residents.{IsResident}
@@ -33,40 +33,27 @@ guards_others slot guard a b only guards = record {
       (guards.protects other is);
 }
 
--- a record of a process with another own, and the same object
-same_object : (flash : List ℕ) (p q : Process) (own : Own) (beside : Beside) → q.object ≡ p.object
-    → record {
-      process = q;
-      object = object_in flash p.object;
-      own = own;
-      storage = beside.storage;
-      pressed = beside.pressed;
-    }
-    ≡ record_in flash q own beside
-same_object flash p q own beside same =
-    ap (λ (x : Object). record {
-      process = q;
-      object = object_in flash x;
-      own = own;
-      storage = beside.storage;
-      pressed = beside.pressed;
-    }) (sym same)
+-- a verb that starts nothing again leaves the record of the process and of what is its own, since the object stays
+leaves_record : (verb : Verb) (flash : List ℕ) (p q : Process) (own own_after : Own) (beside : Beside)
+    → q.object ≡ p.object → IsOperated verb (p, own) (q, own_after)
+    → record (record_in flash p own beside) { process = process_operated verb p; own = own_operated verb p own }
+    ≡ record_in flash q own_after beside
+leaves_record verb flash p q own own_after beside same acts =
+    ap₂ (λ (x : Process) (y : Own). record (record_in flash p own beside) { process = x; own = y }) (sym acts.0)
+    (sym acts.1) ∙ of_object flash p q own_after beside same
 
 -- what the console does to a process is what the act leaves of its record
 pub operates : (verb : Verb) (flash : List ℕ) (p q : Process) (own own_after : Own)
     → KeepsObject p q → Acts verb (object_in flash p.object) (p, own) (q, own_after)
     → (beside : Beside) → operated verb (record_in flash p own beside) ≡ record_in flash q own_after beside
 operates verbs.List flash p q own own_after keeps acts beside =
-    ap₂ (λ (x : Process) (y : Own). record_in flash x y beside) (sym acts.0) (sym acts.1)
+    leaves_record verbs.List flash p q own own_after beside keeps.object acts
 operates verbs.Stop flash p q own own_after keeps acts beside =
-    ap₂ (λ (x : Process) (y : Own). record (record_in flash p own beside) { process = x; own = y }) (sym acts.0)
-    (sym acts.1) ∙ same_object flash p q own_after beside keeps.object
+    leaves_record verbs.Stop flash p q own own_after beside keeps.object acts
 operates verbs.Start flash p q own own_after keeps acts beside =
-    ap₂ (λ (x : Process) (y : Own). record (record_in flash p own beside) { process = x; own = y }) (sym acts.0)
-    (sym acts.1) ∙ same_object flash p q own_after beside keeps.object
+    leaves_record verbs.Start flash p q own own_after beside keeps.object acts
 operates verbs.Terminate flash p q own own_after keeps acts beside =
-    ap₂ (λ (x : Process) (y : Own). record (record_in flash p own beside) { process = x; own = y }) (sym acts.0)
-    (sym acts.1) ∙ same_object flash p q own_after beside keeps.object
+    leaves_record verbs.Terminate flash p q own own_after beside keeps.object acts
 operates verbs.Restart flash p q own own_after keeps acts beside =
     sym (starts_again flash p q own own_after beside acts)
 

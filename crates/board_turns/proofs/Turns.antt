@@ -2,14 +2,10 @@
 -- record. By the state of the process, and for one that runs by the end of its instruction: it went, it was denied, or
 -- it made a call. The instruction's relation is taken apart once, and each end adds what the drivers did.
 use Rattle.std.proofs.Common.{◌≡◌, ◌≤◌, ℕ, ◌+◌, ◌⊎◌, inl, inr, true, false, List, []}
-use Rattle.std.proofs.Common.{Option, None, Some, is_some, Result, Ok, Err, refl, sym, ap, subst, ◌∙◌, arith}
+use Rattle.std.proofs.Common.{Option, None, Some, is_some, refl, sym, ap, subst, ◌∙◌, arith}
 use Rattle.std.proofs.lemmas.List.{length-set, set-set}
 use Rattle.tk_base.specs.declared.access.Denial.{Denial}
 use Rattle.syscall_abi.specs.Call.{call_of}
-use Rattle.tbf_headers.specs.declared.fault.HeaderFault.{HeaderFault}
-use Rattle.tbf_headers.specs.declared.program.Main.{Main}
-use Rattle.tbf_headers.specs.Meaning.{Meaning, header_reading}
-use Rattle.process_layout.specs.Bounds.{Bounds}
 use Rattle.process_record.specs.declared.process.Process.{Process}
 use Rattle.process_record.specs.declared.process.State.{State}
 use Rattle.process_record.specs.declared.process.State.TheVariants.{Running, Yielded, Faulted, Terminated}
@@ -21,16 +17,15 @@ use Rattle.process_record.specs.Process.{after_turn}
 use Rattle.process_record.specs.Parts.{after_fault}
 use Rattle.grant_enter.specs.Homes.{Homes, ChangesOnly, own_of, with_own}
 use Rattle.process_model.specs.Flash.{object_in}
+use Rattle.process_restart.specs.Restarts.{StartsAgain}
 use Rattle.kernel_calls.specs.Own.{Beside, record_in}
-use Rattle.process_restart.specs.Own.{IsOwn, IsApplication, HasStart}
+use Rattle.kernel_calls.proofs.Starts.{starts_again}
 use Rattle.process_record.specs.Process.{is_alive}
 use Rattle.kernel_model.specs.Record.{Record}
-use Rattle.kernel_model.specs.Parts.{with_process}
 use Rattle.upcall_queue.specs.declared.inbox.Delivery.{Delivery}
 use Rattle.upcall_queue.specs.Pending.{due}
 use Rattle.kernel_calls.specs.Outcomes.{deliver_due}
 use Rattle.kernel_model.specs.Calls.{restart}
-use Rattle.kernel_model.specs.Parts.{restarted_by, restarted_main}
 use Rattle.kernel_model.specs.Calls.{Served}
 use Rattle.kernel_model.specs.Turn.{Turned, called, made as call_made, turn_counted, at_turn_end, faulted, idle}
 use Rattle.kernel_model.specs.Turn.{turn_in, turned}
@@ -257,28 +252,19 @@ call_serves slot x y old new call outcome after shown known finishes only stands
           (sym (ap (λ (s : Served). s.acts) is)) finishes.drives,
     )
 
--- the start again of a process that faulted is that of one whose denial was recorded
-restarted_same : (r : Record) (denial : Denial) (e : Bounds) (address : ℕ) (read : Result Meaning HeaderFault)
-    → header_reading r.object ≡ read → IsApplication address e read
-    → restarted_by (with_process r (record r.process { denial = Some denial })) read
-    ≡ restarted_by (with_process r (after_fault r.process denial)) read
-restarted_same r denial e address (Err fault) h a = absurd a
-restarted_same r denial e address (Ok meaning) h a = by_main meaning.main a
-  where
-    by_main : (main : Option Main) → HasStart address e meaning main
-        → restarted_main (with_process r (record r.process { denial = Some denial })) meaning main
-        ≡ restarted_main (with_process r (after_fault r.process denial)) meaning main
-    by_main None b = absurd b
-    by_main (Some m) b = refl
-
-pub starts_again : (flash : List ℕ) (process : Process) (own : Own) (beside : Beside) (denial : Denial)
-    → IsOwn flash process own
-    → restart (record_in flash (after_fault process denial) own beside)
-    ≡ restart (record_in flash (record process { denial = Some denial }) own beside)
-unfolding restart
-starts_again flash process own beside denial h =
-    sym (restarted_same (record_in flash process own beside) denial own.layout process.object.address
-    (header_reading (object_in flash process.object)) refl h.object.application)
+-- one whose denial was recorded starts again as one that faulted does
+pub faulted_restarts : (flash : List ℕ) (p q : Process) (own own_after : Own) (beside : Beside) (denial : Denial)
+    → StartsAgain (object_in flash p.object) (record p { denial = Some denial }, own) (q, own_after)
+    → restart (record_in flash (after_fault p denial) own beside) ≡ record_in flash q own_after beside
+faulted_restarts flash p q own own_after beside denial k =
+    sym (starts_again flash (after_fault p denial) q own own_after beside (record {
+      h = k.h;
+      m = k.m;
+      read = k.read;
+      main = k.main;
+      process = k.process;
+      own = k.own;
+    }))
 
 -- the turn of a process that has yielded
 by_due : (r : Record) (next : Option Delivery) → is_some next ≡ true

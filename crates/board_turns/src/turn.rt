@@ -1,7 +1,6 @@
 //! One turn of the process in a slot.
-ghost use Rattle.std.specs.Prelude.{◌≡◌, ◌+◌, ◌<◌, length, true, false, None, Some};
+ghost use Rattle.std.specs.Prelude.{◌≡◌, ◌+◌, true, false, None, Some};
 ghost use Rattle.process_record.specs.declared.process.State.TheVariants.{Running, Yielded};
-ghost use Rattle.process_model.specs.Own.{own_ended};
 ghost use Rattle.process_record.specs.Parts.{after_fault};
 ghost use Rattle.grant_enter.specs.Homes.{own_of, ChangesOnly};
 ghost use Rattle.driver_model.specs.Commands.{leaving_all};
@@ -25,9 +24,9 @@ use crate::machine::Machine;
 use board_drivers::Order;
 use driver_model::commands_stay_in_place;
 use fault_policy::{Action, decide};
-use grant_enter::Home;
-use kernel_calls::{deliver, give_reply, kernel_call, restart_process};
+use kernel_calls::{deliver, give_reply, kernel_call};
 use process_record::{CallMade, Emit, Outcome, Process, State};
+use process_restart::restart_process;
 use rv32_model::{TurnEnd, stopped_turns_change_nothing, writes_are_listed};
 use syscall_abi::Call;
 use tk_base::{Access, Denial, ProcessId, Regs, Rule, Slot};
@@ -78,17 +77,6 @@ fn call_shown(call: CallMade, outcome: Outcome, after: &Regs) -> CallMade
         reply,
         rule,
     }
-}
-
-/// A denial stops the process in a slot, which lives no more.
-fn stop_at(home: &mut Home, process: &mut Process, slot: Slot, denial: Denial)
-    requires { slot < length home.old.owns }
-    ensures process { process.new ≡ after_fault process.old denial }
-    ensures own { own_of home.new slot ≡ own_ended (own_of home.old slot) }
-    ensures rest { ChangesOnly slot home.old home.new }
-{
-    process.fault(denial);
-    home.end(slot);
 }
 
 /// The call that the registers make is of an unknown class.
@@ -166,7 +154,10 @@ impl Machine {
         let id = ProcessId { slot, life };
         self.drivers.gone(&id);
         match decide(self.moment.settings.policy, process.restarts) {
-            Action::Stop => stop_at(&mut self.home, process, slot, denial),
+            Action::Stop => {
+                process.fault(denial);
+                self.home.end(slot);
+            }
             Action::Restart => self.restart_at(process, slot, denial),
         }
     }

@@ -28,7 +28,7 @@ use syscall_abi::Reply;
 use tk_base::{Addr, CallRule, Upcall};
 use upcall_queue::Delivery;
 
-/// The process that makes a call, gets a delivery or starts again, lent for that.
+/// The process that makes a call or gets a delivery, lent for that.
 #[derive(Drop)]
 pub struct Caller<'a> {
     pub(crate) memory: &'a mut Memory,

@@ -1,15 +1,11 @@
-//! The loan of a process to what is done with it, made of a home, a process and its slot.
-ghost use Rattle.std.specs.Prelude.{◌<◌, length};
-ghost use Rattle.grant_enter.specs.Homes.{own_of, ChangesOnly};
-ghost use Rattle.process_restart.specs.Own.{IsOwn, KeepsObject, LivesOn};
+//! What is done with a process, and the loan of the process for that.
 ghost use Rattle.kernel_calls.specs.Called.{Called, ActLeaves, ActAsks, Keeps, unlent};
 
 use crate::caller::{Caller, give_back};
 use board_memory::Memory;
-use grant_enter::{Home, VisitSeat};
+use grant_enter::VisitSeat;
 use process_record::Process;
 use process_seat::Seat;
-use tk_base::Slot;
 
 /// What is done with a process. It says itself what it asks, and what it leaves.
 pub(crate) trait Act {
@@ -31,9 +27,9 @@ pub(crate) trait Act {
         ensures keeps { Keeps caller.old caller.new };
 }
 
-/// An act, of the process that is lent to it.
-struct Lent<A> {
-    act: A,
+/// An act, to which a home lends the process in a slot.
+pub(crate) struct Lent<A> {
+    pub(crate) act: A,
 }
 
 impl<A: Act> VisitSeat<Process> for Lent<A> {
@@ -60,24 +56,4 @@ impl<A: Act> VisitSeat<Process> for Lent<A> {
         give_back(memory, seat, process);
         answer
     }
-}
-
-/// Lends the process in a slot to an act.
-pub(crate) fn have_act<A: Act>(
-    home: &mut Home,
-    process: &mut Process,
-    slot: Slot,
-    act: A,
-) -> A::Answer
-    requires slot { slot < length home.old.owns }
-    requires own { IsOwn home.old.flash process.old (own_of home.old slot) }
-    requires asks { A.asks act (unlent home.old.flash process.old (own_of home.old slot)) }
-    ensures leaves { A.leaves act (unlent home.old.flash process.old (own_of home.old slot)) result
-        (unlent home.old.flash process.new (own_of home.new slot)) }
-    ensures own { IsOwn home.old.flash process.new (own_of home.new slot) }
-    ensures stays { KeepsObject process.old process.new }
-    ensures lives_on { LivesOn (own_of home.old slot) (own_of home.new slot) }
-    ensures rest { ChangesOnly slot home.old home.new }
-{
-    home.lend(slot, process, Lent { act })
 }

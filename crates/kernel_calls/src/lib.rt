@@ -13,7 +13,6 @@ mod serving;
 mod swaps;
 mod yields;
 
-pub use exits::restart_process;
 pub use process_record::Outcome;
 pub use replies::give_reply;
 pub use serving::kernel_call;

@@ -9,7 +9,7 @@ ghost use Rattle.kernel_calls.specs.Outcomes.{is_taken, ServesAt};
 ghost use Rattle.syscall_abi.specs.Forms.{form_of};
 
 use crate::caller::Caller;
-use crate::lent::{Act, have_act};
+use crate::lent::{Act, Lent};
 use crate::replies::failure;
 use grant_enter::Home;
 use grant_values::Driver;
@@ -151,5 +151,6 @@ pub fn kernel_call(
     ensures lives_on { LivesOn (own_of home.old slot) (own_of home.new slot) }
     ensures rest { ChangesOnly slot home.old home.new }
 {
-    have_act(home, process, slot, MakesCall { call, strict })
+    let act = MakesCall { call, strict };
+    home.lend(slot, process, Lent { act })
 }

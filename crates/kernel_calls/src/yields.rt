@@ -11,7 +11,7 @@ ghost use Rattle.kernel_calls.specs.Outcomes.{first_delivered, DeliversAt};
 ghost use Rattle.kernel_calls.specs.Called.{record_of, Comes, Delivers, Keeps};
 
 use crate::caller::Caller;
-use crate::lent::{Act, have_act};
+use crate::lent::{Act, Lent};
 use grant_enter::Home;
 use process_record::{Outcome, Process};
 use tk_base::{Addr, Slot, Upcall};
@@ -150,5 +150,5 @@ pub fn deliver(home: &mut Home, process: &mut Process, slot: Slot)
     ensures lives_on { LivesOn (own_of home.old slot) (own_of home.new slot) }
     ensures rest { ChangesOnly slot home.old home.new }
 {
-    have_act(home, process, slot, GetsDue)
+    home.lend(slot, process, Lent { act: GetsDue })
 }

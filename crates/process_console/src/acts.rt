@@ -2,7 +2,7 @@
 ghost use Rattle.std.specs.Prelude.{◌≡◌, ◌+◌, ◌<◌, ◌^◌, length};
 ghost use Rattle.tk_base.specs.declared.process.Verb.TheVariants.{Start, Stop, Terminate};
 ghost use Rattle.process_model.specs.Flash.{object_in};
-ghost use Rattle.process_record.specs.Operator.{applies, own_operated, process_operated};
+ghost use Rattle.process_record.specs.Operator.{applies, process_operated};
 ghost use Rattle.grant_enter.specs.Homes.{own_of, ChangesOnly};
 ghost use Rattle.process_restart.specs.Own.{IsOwn, KeepsObject, LivesOn};
 ghost use Rattle.process_console.specs.Acts.{Operates};
@@ -37,18 +37,13 @@ fn start(process: &mut Process) -> bool
 }
 
 /// A process that lives ends with code 0.
-fn terminate(process: &mut Process, home: &mut Home, slot: Slot) -> bool
-    requires { slot < length home.old.owns }
+fn terminate(process: &mut Process) -> bool
     ensures applies { result ≡ applies Terminate process.old }
-    ensures process { process.new ≡ process_operated Terminate process.old }
-    ensures own { own_of home.new slot
-        ≡ own_operated Terminate process.old (own_of home.old slot) }
-    ensures rest { ChangesOnly slot home.old home.new }
+    ensures leaves { process.new ≡ process_operated Terminate process.old }
 {
     let lives = process.state.is_alive();
     if lives {
         process.end(0);
-        home.end(slot);
     }
     lives
 }
@@ -75,7 +70,13 @@ pub fn act(process: &mut Process, home: &mut Home, slot: Slot, verb: Verb) -> bo
         Verb::List => true,
         Verb::Stop => stop(process),
         Verb::Start => start(process),
-        Verb::Terminate => terminate(process, home, slot),
+        Verb::Terminate => {
+            let lived = terminate(process);
+            if lived {
+                home.end(slot);
+            }
+            lived
+        }
         Verb::Restart => {
             restart_process(home, process, slot);
             true

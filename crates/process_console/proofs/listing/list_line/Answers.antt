@@ -1,11 +1,11 @@
 -- The line of a slot fits its 64 bytes, with the newline at its end: each piece has a longest length (two digits, a
 -- name of 32 bytes, the longest word), and the sum of these leaves room for one byte more.
-use Rattle.std.proofs.Common.{◌≡◌, ◌+◌, ◌≤◌, ◌++◌, length, ℕ, List, [], ◌∷◌, Bool, true, false, cond, ap, refl, arith}
+use Rattle.std.proofs.Common.{◌≡◌, ◌+◌, ◌≤◌, ◌++◌, length, ℕ, List, [], ◌∷◌, Bool, true, false, cond, ap, arith}
 use Rattle.std.proofs.Common.{◌<◌, ◌∙◌, length-append, subst, sym}
 use Rattle.std.specs.Fmt.{decimal}
 use Rattle.std.proofs.lemmas.Fmt.{length-decimal-le}
-use Rattle.std.specs.Prelude.{codes, map}
-use Rattle.tk_base.specs.declared.limits.TheConstants.{PRINT_LIMIT, SLOT_COUNT}
+use Rattle.std.specs.Prelude.{codes}
+use Rattle.tk_base.specs.declared.limits.TheConstants.{SLOT_COUNT}
 use Rattle.tk_base.specs.declared.upcall.Wait.{Wait}
 use Rattle.tk_base.specs.declared.upcall.Wait.TheVariants.{No, For, Given}
 use Rattle.process_record.specs.declared.process.State.{State}
