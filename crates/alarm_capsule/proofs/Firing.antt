@@ -1,5 +1,5 @@
 -- What a visit that fires, or stops, an alarm leaves of a process.
-use Rattle.std.proofs.Common.{◌≡◌, ℕ, ◌==◌, Bool, true, false, cond, List, [], ◌∷◌, Option, None, Some, Result, Ok, Err}
+use Rattle.std.proofs.Common.{◌≡◌, ℕ, ◌==◌, Bool, true, false, cond, List, [], ◌∷◌, Option, None, Some, Result}
 use Rattle.std.proofs.Common.{ap, option_map, refl, sym, ◌∙◌, subst}
 use Rattle.grant_values.specs.declared.alarm.Alarm.{Alarm}
 use Rattle.grant_values.specs.declared.alarm.Armed.{Armed}
@@ -10,9 +10,9 @@ use Rattle.process_model.specs.Served.{kept, own_scheduled, with_kept}
 use Rattle.process_model.proofs.Scheduling.{keeping_commutes}
 use Rattle.driver_model.specs.Steps.{own_after}
 use Rattle.process_seat.specs.declared.visit.Unvisited.{Unvisited}
-use Rattle.process_seat.specs.declared.visit.Unvisited.TheVariants.{Gone, NotEntered}
 use Rattle.process_seat.specs.Seen.{Seen}
-use Rattle.process_seat.specs.Visits.{GrantsOf, Visits, is_stale}
+use Rattle.process_seat.specs.Visits.{FoundProcess, GrantsOf, Visits, is_stale}
+use Rattle.process_seat.proofs.Outcomes.{of_visit_there, visit_by}
 use Rattle.driver_model.specs.Alarm.{alarm_driver, alarm_in, answered, armed_in, due_alarm, expiration, fired, if_due}
 use Rattle.driver_model.specs.Parts.{fired_if}
 use Rattle.driver_model.specs.Alarm.{showing, with_alarm}
@@ -24,9 +24,6 @@ Fires now expires leaves = (value : Alarm) (seen : Seen) (answer : _) (value' : 
     → (value' ≡ record { armed = None })
     × (own ≡ own_scheduled seen.driver 0 (now ∷ expires ∷ 0 ∷ []) (showing now seen.own))
 
-pub not_stale : (b : Bool) → b ≡ true → b ≡ false → ⊥
-not_stale b e f = cc
-
 nothing_due : (b : Bool) (alarm : Armed) → ◌≡◌ {A = Option Armed} (cond b None None) (Some alarm) → ⊥
 nothing_due true alarm e = cc
 nothing_due false alarm e = cc
@@ -37,31 +34,25 @@ none_kept now own alarm none due =
     nothing_due own.lives alarm (subst (λ (o : Option KeptValue). cond own.lives (if_due now (armed_in o)) None
     ≡ Some alarm) none due)
 
-pub fires : {A V : Type 0} (now expires : ℕ) (grants : GrantsOf) (life : ℕ) (flash : List ℕ) (alarm : Armed)
-    (old new : Own) (visitor : V) (leaves : Alarm → Seen → A → Alarm → Own → Type 0) (r : Result A (Unvisited V))
-    → Fires now expires leaves → grants.driver ≡ 0 → expires ≡ expiration alarm → is_stale life old ≡ false
-    → due_alarm now old ≡ Some alarm
-    → Visits grants (λ (a : Alarm). AlarmValue a.armed) visitor leaves life flash old r new
-    → new ≡ own_after (answered now old)
+pub fires : {V A : Type 0} {new : Own} (grants : GrantsOf) (visitor : V)
+    (leaves : V → Alarm → Seen → A → Alarm → Own → Type 0) (process : FoundProcess) (now expires : ℕ) (alarm : Armed)
+    (r : Result A (Unvisited V))
+    → Visits (visit_by grants (λ (a : Alarm). AlarmValue a.armed) visitor leaves) process r new
+    → Fires now expires (leaves visitor) → grants.driver ≡ 0 → expires ≡ expiration alarm
+    → is_stale process.life process.own ≡ false → due_alarm now process.own ≡ Some alarm
+    → new ≡ own_after (answered now process.own)
 unfolding answered
-fires now expires grants life flash alarm old new visitor leaves (Ok answer) says zero expires_is present due
-    visits =
-    let v = visits.1 in
-    let left = says _ _ _ _ _ v.left in
-    v.after
-    ∙ ap (λ (d : ℕ). with_kept d (AlarmValue v.value.armed) v.own) zero
-    ∙ ap (λ (a : Alarm). with_kept alarm_driver (AlarmValue a.armed) v.own) left.0
-    ∙ ap (with_alarm None) (left.1 ∙ ap (λ (d : ℕ). own_scheduled d 0 (now ∷ expires ∷ 0 ∷ []) (showing now old)) zero
-    ∙ ap (λ (e : ℕ). own_scheduled alarm_driver 0 (now ∷ e ∷ 0 ∷ []) (showing now old)) expires_is)
-    ∙ keeping_commutes alarm_driver (AlarmValue None) (fired now alarm old).schedules
-    (showing now old)
-    ∙ ap (λ (o : Option Armed). own_after (fired_if now old o)) (sym due)
-fires now expires grants life flash alarm old new visitor leaves (Err (NotEntered back)) says zero expires_is
-    present due visits =
-    absurd (none_kept now old alarm (subst (λ (d : ℕ). kept d old ≡ None) zero visits.1) due)
-fires now expires grants life flash alarm old new visitor leaves (Err (Gone back)) says zero expires_is present
-    due visits =
-    absurd (not_stale (is_stale life old) visits.0 present)
+fires grants visitor leaves process now expires alarm r visits says is expires_is present due =
+    let shown = showing now process.own in
+    of_visit_there _ process alarm_driver (λ (o : Own). o ≡ own_after (answered now process.own)) r visits is present
+    (λ was value answer own is_kept left.
+    let so = says _ _ _ _ _ left in
+    ap (λ (a : Alarm). with_kept alarm_driver (AlarmValue a.armed) own) so.0
+    ∙ ap (with_alarm None) (so.1
+    ∙ ap (λ (e : ℕ). own_scheduled alarm_driver 0 (now ∷ e ∷ 0 ∷ []) shown) expires_is)
+    ∙ keeping_commutes alarm_driver (AlarmValue None) (fired now alarm process.own).schedules shown
+    ∙ ap (λ (o : Option Armed). own_after (fired_if now process.own o)) (sym due))
+    (λ none. absurd (none_kept now process.own alarm none due))
 
 -- where the alarm's value is that none is armed, none is
 none_armed : (gs : List Grant)

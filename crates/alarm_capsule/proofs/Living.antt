@@ -132,12 +132,12 @@ abbrev pub armed_there : Result (Option Alarm) Stale → Option Armed
 armed_there (Ok (Some value)) = value.armed
 armed_there other = None
 
-pub peeked : (grants : GrantsOf) (life : ℕ) (own : Own) (found : Result (Option Alarm) Stale)
+pub peeked : (grants : GrantsOf) (life : ℕ) (flash : List ℕ) (own : Own) (found : Result (Option Alarm) Stale)
     → grants.driver ≡ alarm_driver → is_stale life own ≡ false
-    → Peeks grants (λ (a : Alarm). AlarmValue a.armed) life own found
+    → Peeks grants (λ (a : Alarm). AlarmValue a.armed) (record { life = life; flash = flash; own = own }) found
     → armed_there found ≡ alarm_in own
-peeked grants life own (Ok (Some value)) is there says =
+peeked grants life flash own (Ok (Some value)) is there says =
     sym (ap (λ (d : ℕ). armed_in (kept d own)) (sym is) ∙ ap armed_in says.1)
-peeked grants life own (Ok None) is there says =
+peeked grants life flash own (Ok None) is there says =
     sym (ap (λ (d : ℕ). armed_in (kept d own)) (sym is) ∙ ap armed_in says.1)
-peeked grants life own (Err stale) is there says = cc
+peeked grants life flash own (Err stale) is there says = cc

@@ -1,6 +1,6 @@
 -- The clock that is shown to a process.
-use Rattle.std.proofs.Common.{◌≡◌, ℕ, zero, suc, ◌+◌, ◌-◌, false, List, [], ◌∷◌, take, Option, None, Some, Result, Ok}
-use Rattle.std.proofs.Common.{Err, refl, ap, sym, subst, ◌∙◌}
+use Rattle.std.proofs.Common.{◌≡◌, ℕ, zero, suc, ◌+◌, ◌-◌, false, List, [], ◌∷◌, take, Option, None, Some, Result}
+use Rattle.std.proofs.Common.{refl, ap, sym, ◌∙◌}
 use Rattle.std.specs.Option.{option_map}
 use Rattle.std.specs.Int.{w32, to_le_bytes}
 use Rattle.std.proofs.lemmas.List.{take-append-drop}
@@ -12,12 +12,11 @@ use Rattle.grant_model.specs.Grants.{Grant, grant_of, pair_of}
 use Rattle.process_model.specs.Own.{Own}
 use Rattle.process_model.specs.Served.{kept, own_written, with_kept}
 use Rattle.process_seat.specs.declared.visit.Unvisited.{Unvisited}
-use Rattle.process_seat.specs.declared.visit.Unvisited.TheVariants.{Gone, NotEntered}
 use Rattle.process_seat.specs.Seen.{Seen}
-use Rattle.process_seat.specs.Visits.{GrantsOf, Visits, is_stale}
+use Rattle.process_seat.specs.Visits.{FoundProcess, GrantsOf, Visits, is_stale}
+use Rattle.process_seat.proofs.Outcomes.{of_visit_there, visit_by}
 use Rattle.driver_model.specs.Alarm.{alarm_driver, showing}
 use Rattle.driver_requests.proofs.Keeping.{kept_still}
-use Rattle.alarm_capsule.proofs.Firing.{not_stale}
 
 -- of the first so many bytes the first so many are the same ones
 pub taken_twice : (n : ℕ) (xs : List ℕ) → take n (take n xs) ≡ take n xs
@@ -47,20 +46,18 @@ abbrev Shows : {A : Type 0} → ℕ → (Alarm → Seen → A → Alarm → Own 
 Shows now leaves = (value : Alarm) (seen : Seen) (answer : _) (value' : Alarm) (own : Own)
     → leaves value seen answer value' own → (value' ≡ value) × (own ≡ showing now seen.own)
 
-pub shown : {A V : Type 0} (now : ℕ) (grants : GrantsOf) (life : ℕ) (flash : List ℕ) (old new : Own) (visitor : V)
-    (leaves : Alarm → Seen → A → Alarm → Own → Type 0) (r : Result A (Unvisited V)) → Shows now leaves
-    → grants.driver ≡ 0 → is_stale life old ≡ false
-    → Visits grants (λ (a : Alarm). AlarmValue a.armed) visitor leaves life flash old r new
-    → new ≡ showing now old
-shown now grants life flash old new visitor leaves (Ok answer) says is present visits =
-    let v = visits.1 in
-    let left = says _ _ _ _ _ v.left in
-    v.after
-    ∙ ap (λ (a : Alarm). with_kept grants.driver (AlarmValue a.armed) v.own) left.0
-    ∙ ap (λ (o : Own). with_kept grants.driver (AlarmValue v.was.armed) o) left.1
-    ∙ ap (λ gs. record (showing now old) { grants = gs })
-    (kept_still grants.driver (AlarmValue v.was.armed) old.grants v.kept)
-shown now grants life flash old new visitor leaves (Err (NotEntered back)) says is present visits =
-    visits.3 ∙ none_shown now old (subst (λ (d : ℕ). kept d old ≡ None) is visits.1)
-shown now grants life flash old new visitor leaves (Err (Gone back)) says is present visits =
-    absurd (not_stale (is_stale life old) visits.0 present)
+pub shown : {V A : Type 0} {new : Own} (grants : GrantsOf) (visitor : V)
+    (leaves : V → Alarm → Seen → A → Alarm → Own → Type 0) (process : FoundProcess) (now : ℕ)
+    (r : Result A (Unvisited V))
+    → Visits (visit_by grants (λ (a : Alarm). AlarmValue a.armed) visitor leaves) process r new
+    → Shows now (leaves visitor) → grants.driver ≡ 0 → is_stale process.life process.own ≡ false
+    → new ≡ showing now process.own
+shown grants visitor leaves process now r visits says is present =
+    of_visit_there _ process alarm_driver (λ (o : Own). o ≡ showing now process.own) r visits is present
+    (λ was value answer own is_kept left.
+    let so = says _ _ _ _ _ left in
+    ap (λ (a : Alarm). with_kept alarm_driver (AlarmValue a.armed) own) so.0
+    ∙ ap (with_kept alarm_driver (AlarmValue was.armed)) so.1
+    ∙ ap (λ gs. record (showing now process.own) { grants = gs })
+    (kept_still alarm_driver (AlarmValue was.armed) process.own.grants is_kept))
+    (none_shown now process.own)

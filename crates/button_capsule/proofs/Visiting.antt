@@ -1,6 +1,6 @@
 -- What a visit of the buttons leaves of a process.
-use Rattle.std.proofs.Common.{◌≡◌, ℕ, ◌<◌, ◌==◌, Bool, true, false, cond, not, ◌&&◌, List, [], ◌∷◌, Option, None, Some}
-use Rattle.std.proofs.Common.{Result, Ok, Err, refl, ap, sym, ◌∙◌}
+use Rattle.std.proofs.Common.{◌≡◌, ℕ, ◌<◌, ◌==◌, Bool, true, false, cond, not, ◌&&◌, List, [], ◌∷◌, Option, Some}
+use Rattle.std.proofs.Common.{Result, refl, ap, sym, ◌∙◌}
 use Rattle.std.proofs.lemmas.Bool.{lt-ltb}
 use Rattle.tk_base.specs.Bits.{bit_of, has_bit, with_bit}
 use Rattle.tk_base.specs.declared.call.CallRule.TheVariants.{Range}
@@ -14,9 +14,9 @@ use Rattle.driver_model.specs.Commands.{Commanded, refusing}
 use Rattle.driver_model.specs.Buttons.{buttons, edged, enabled, enabled_in, of_button, set_enabled}
 use Rattle.driver_model.specs.Parts.{with_enabled}
 use Rattle.process_seat.specs.declared.visit.Unvisited.{Unvisited}
-use Rattle.process_seat.specs.declared.visit.Unvisited.TheVariants.{Gone, NotEntered}
 use Rattle.process_seat.specs.Seen.{Seen}
-use Rattle.process_seat.specs.Visits.{GrantsOf, Visits, is_stale}
+use Rattle.process_seat.specs.Visits.{FoundProcess, GrantsOf, Visits, is_stale}
+use Rattle.process_seat.proofs.Outcomes.{of_visit, of_visit_there, visit_by}
 use Rattle.driver_requests.specs.Asking.{in_life}
 use Rattle.driver_requests.proofs.Keeping.{kept_still}
 use Rattle.button_capsule.proofs.Masks.{no_bit, none_put}
@@ -68,58 +68,47 @@ not_there true false on args own e = refl
 not_there false true on args own e = refl
 not_there false false on args own e = refl
 
-pub tells : {V : Type 0} (button : ℕ) (state : Bool) (grants : GrantsOf) (life : ℕ) (flash : List ℕ)
-    (old new : Own) (visitor : V) (leaves : Buttons → Seen → Bool → Buttons → Own → Type 0)
-    (r : Result Bool (Unvisited V)) → Tells button state leaves → grants.driver ≡ buttons
-    → Visits grants (λ (b : Buttons). ButtonsValue b.enabled) visitor leaves life flash old r new
+pub tells : {V : Type 0} {new : Own} (grants : GrantsOf) (visitor : V)
+    (leaves : V → Buttons → Seen → Bool → Buttons → Own → Type 0) (life : ℕ) (flash : List ℕ) (old : Own) (button : ℕ)
+    (state : Bool) (r : Result Bool (Unvisited V))
+    → Visits (visit_by grants (λ (b : Buttons). ButtonsValue b.enabled) visitor leaves)
+    (record { life = life; flash = flash; own = old }) r new
+    → Tells button state (leaves visitor) → grants.driver ≡ buttons
     → new ≡ in_life life old (own_after (edged button state old)) old
 unfolding edged
-tells button state grants life flash old new visitor leaves (Ok answer) says is visits =
-    let v = visits.1 in
-    let left = says _ _ _ _ _ v.left in
+tells grants visitor leaves life flash old button state r visits says is =
     let args = args_of button state in
-    let was : kept buttons old ≡ Some (ButtonsValue v.was.enabled) = ap (λ (d : ℕ). kept d old) (sym is) ∙ v.kept in
-    v.after
-    ∙ ap (λ (d : ℕ). with_kept d (ButtonsValue v.value.enabled) v.own) is
-    ∙ ap (λ (b : Buttons). with_kept buttons (ButtonsValue b.enabled) v.own) left.0
-    ∙ ap (with_kept buttons (ButtonsValue v.was.enabled))
-    (left.2 ∙ ap (λ (d : ℕ). told_if (has_bit v.was.enabled button) d args old) is)
-    ∙ keeps (has_bit v.was.enabled button) args old (ButtonsValue v.was.enabled) was
-    ∙ ap (λ (o : Option KeptValue). told_if (has_bit (enabled_in o) button) buttons args old) (sym was)
-    ∙ there old.lives (old.life == life) (has_bit (enabled old) button) args old visits.0
-tells button state grants life flash old new visitor leaves (Err (NotEntered back)) says is visits =
-    let args = args_of button state in
-    let none : kept buttons old ≡ None = ap (λ (d : ℕ). kept d old) (sym is) ∙ visits.1 in
-    visits.3
-    ∙ ap (λ (b : Bool). told_if b buttons args old) (sym (no_bit button))
+    let there_is = there old.lives (old.life == life) (has_bit (enabled old) button) args old in
+    of_visit _ (record { life = life; flash = flash; own = old }) buttons
+    (λ (o : Own). o ≡ in_life life old (own_after (edged button state old)) old) r visits is
+    (λ here was value answer own is_kept left.
+    let so = says _ _ _ _ _ left in
+    ap (λ (b : Buttons). with_kept buttons (ButtonsValue b.enabled) own) so.0
+    ∙ ap (with_kept buttons (ButtonsValue was.enabled)) so.2
+    ∙ keeps (has_bit was.enabled button) args old (ButtonsValue was.enabled) is_kept
+    ∙ ap (λ (o : Option KeptValue). told_if (has_bit (enabled_in o) button) buttons args old) (sym is_kept)
+    ∙ there_is here)
+    (λ here none.
+    ap (λ (b : Bool). told_if b buttons args old) (sym (no_bit button))
     ∙ ap (λ (o : Option KeptValue). told_if (has_bit (enabled_in o) button) buttons args old) (sym none)
-    ∙ there old.lives (old.life == life) (has_bit (enabled old) button) args old visits.0
-tells button state grants life flash old new visitor leaves (Err (Gone back)) says is visits =
-    visits.2
-    ∙ not_there old.lives (old.life == life) (has_bit (enabled old) button) (args_of button state) old visits.0
+    ∙ there_is here)
+    (not_there old.lives (old.life == life) (has_bit (enabled old) button) args old)
 
-not_stale : (b : Bool) → b ≡ true → b ≡ false → ⊥
-not_stale b e f = cc
-
-pub disables : {A V : Type 0} (button : ℕ) (grants : GrantsOf) (life : ℕ) (flash : List ℕ) (old new : Own) (visitor : V)
-    (leaves : Buttons → Seen → A → Buttons → Own → Type 0) (r : Result A (Unvisited V))
-    → Disables button leaves → grants.driver ≡ buttons → is_stale life old ≡ false
-    → Visits grants (λ (b : Buttons). ButtonsValue b.enabled) visitor leaves life flash old r new
-    → new ≡ set_enabled button false old
-disables button grants life flash old new visitor leaves (Ok answer) says is present visits =
-    let v = visits.1 in
-    let left = says _ _ _ _ _ v.left in
-    let was : kept buttons old ≡ Some (ButtonsValue v.was.enabled) = ap (λ (d : ℕ). kept d old) (sym is) ∙ v.kept in
-    v.after
-    ∙ ap (λ (d : ℕ). with_kept d (ButtonsValue v.value.enabled) v.own) is
-    ∙ ap (λ (b : Buttons). with_kept buttons (ButtonsValue b.enabled) v.own) left.0
-    ∙ ap (with_enabled (with_bit v.was.enabled button false)) left.1
-    ∙ ap (λ (o : Option KeptValue). with_enabled (with_bit (enabled_in o) button false) old) (sym was)
-disables button grants life flash old new visitor leaves (Err (NotEntered back)) says is present visits =
-    let none : kept buttons old ≡ None = ap (λ (d : ℕ). kept d old) (sym is) ∙ visits.1 in
-    visits.3 ∙ ap (λ gs. record old { grants = gs }) (sym (none_put buttons _ old.grants none))
-disables button grants life flash old new visitor leaves (Err (Gone back)) says is present visits =
-    absurd (not_stale (is_stale life old) visits.0 present)
+pub disables : {V A : Type 0} {new : Own} (grants : GrantsOf) (visitor : V)
+    (leaves : V → Buttons → Seen → A → Buttons → Own → Type 0) (process : FoundProcess) (button : ℕ)
+    (r : Result A (Unvisited V))
+    → Visits (visit_by grants (λ (b : Buttons). ButtonsValue b.enabled) visitor leaves) process r new
+    → Disables button (leaves visitor) → grants.driver ≡ buttons → is_stale process.life process.own ≡ false
+    → new ≡ set_enabled button false process.own
+disables grants visitor leaves process button r visits says is present =
+    let old = process.own in
+    of_visit_there _ process buttons (λ (o : Own). o ≡ set_enabled button false old) r visits is present
+    (λ was value answer own is_kept left.
+    let so = says _ _ _ _ _ left in
+    ap (λ (b : Buttons). with_kept buttons (ButtonsValue b.enabled) own) so.0
+    ∙ ap (with_enabled (with_bit was.enabled button false)) so.1
+    ∙ ap (λ (o : Option KeptValue). with_enabled (with_bit (enabled_in o) button false) old) (sym is_kept))
+    (λ none. ap (λ gs. record old { grants = gs }) (sym (none_put buttons _ old.grants none)))
 
 -- a command for a button that there is goes through
 pub in_range : (count button : ℕ) (own : Own) (commanded : Commanded) → button < count

@@ -18,7 +18,7 @@ use Rattle.driver_model.specs.Parts.{asking_beside}
 use Rattle.driver_model.specs.Steps.{own_after}
 use Rattle.grant_enter.specs.Homes.{ChangesOnly, Homes, IsInPlace, own_of}
 use Rattle.process_seat.specs.Seen.{Seen}
-use Rattle.process_seat.specs.Visits.{GrantsOf, Visited}
+use Rattle.process_seat.specs.Visits.{GrantVisit, Visited}
 use Rattle.driver_requests.specs.Asking.{Obeys}
 use Rattle.driver_requests.specs.Begins.{Begins}
 use Rattle.driver_requests.specs.Waiting.{queue_after}
@@ -47,12 +47,12 @@ kept_first driver own none =
     (eq-eqb driver driver refl)
 
 -- what a visitor that begins a request leaves
-abbrev BeginsRequest : {R T : Type 0} → RequestKind R → R → (T → KeptValue) → (T → Seen → Bool → T → Own → Type 0)
-    → Type 0
-BeginsRequest request_kind request keeps leaves =
-    (value : _) (seen : Seen) (begun : Bool) (value' : _) (own : Own) → leaves value seen begun value' own
-    → Begins request_kind (request_kind.told (keeps value)) request (keeps value) begun (keeps value') ×
-    (own ≡ seen.own)
+abbrev BeginsRequest : {R T V : Type 0} → RequestKind R → R → GrantVisit T V Bool → Type 0
+BeginsRequest request_kind request visit =
+    (value : _) (seen : Seen) (begun : Bool) (value' : _) (own : Own)
+    → visit.leaves visit.visitor value seen begun value' own
+    → Begins request_kind (request_kind.told (visit.keeps value)) request (visit.keeps value) begun (visit.keeps value')
+    × (own ≡ seen.own)
 
 -- nothing has changed, and a request waits
 pub record IsBusy {R : Type 0} (request_kind : RequestKind R) (old new : Own) : Type 0 where
@@ -60,12 +60,18 @@ pub record IsBusy {R : Type 0} (request_kind : RequestKind R) (old new : Own) : 
   pub waits : request_in request_kind old ≡ Some waiting
   pub same : new ≡ old
 
-module _ {R T : Type 0} (request_kind : RequestKind R) (request : R) (grants : GrantsOf) (by : Driver)
-    (keeps : T → KeptValue) (flash : List ℕ) (leaves : T → Seen → Bool → T → Own → Type 0) (old new : Own)
-    (says : BeginsRequest request_kind request keeps leaves) (is : grants.driver ≡ request_kind.driver)
-    (by_is : driver_of grants.driver ≡ Some by) (first : request_kind.told (fresh_by by) ≡ None) (place : IsInPlace old)
-    (begun : Bool) (refused : begun ≡ false)
-    (visited : Visited grants keeps leaves flash (own_entering grants.driver old) begun new) where
+module _ {R T V : Type 0} {visit : GrantVisit T V Bool} {life : ℕ} {flash : List ℕ} (request_kind : RequestKind R)
+    (request : R) (by : Driver) (old new : Own) (begun : Bool)
+    (visited : Visited visit (record { life = life; flash = flash; own = own_entering visit.grants.driver old }) begun
+    new) (refused : begun ≡ false) (says : BeginsRequest request_kind request visit)
+    (is : visit.grants.driver ≡ request_kind.driver) (by_is : driver_of visit.grants.driver ≡ Some by)
+    (first : request_kind.told (fresh_by by) ≡ None) (place : IsInPlace old) where
+  abbrev driver : ℕ
+  driver = visit.grants.driver
+
+  abbrev keeps : T → KeptValue
+  keeps = visit.keeps
+
   begins : Begins request_kind (request_kind.told (keeps visited.was)) request (keeps visited.was) begun
       (keeps visited.value)
   begins = (says _ _ _ _ _ visited.left).0
@@ -78,26 +84,26 @@ module _ {R T : Type 0} (request_kind : RequestKind R) (request : R) (grants : G
       no : (b : Bool) → b ≡ true → b ≡ false → ⊥
       no b e f = cc
 
-  is_there : (g : Grant) → grant_of grants.driver old.grants ≡ Some g → (told : Option R)
+  is_there : (g : Grant) → grant_of driver old.grants ≡ Some g → (told : Option R)
       → request_kind.told (keeps visited.was) ≡ told → IsBusy request_kind old new
   is_there g there None e = never e
   is_there g there (Some waiting) e =
       let b = subst (λ o. Begins request_kind o request (keeps visited.was) begun (keeps visited.value)) e begins in
-      let again = entered_again grants.driver old g place there in
-      let was = ap (kept grants.driver) (sym again) ∙ visited.kept in
+      let again = entered_again driver old g place there in
+      let was = ap (kept driver) (sym again) ∙ visited.kept in
       record {
         waiting = waiting;
         waits = ap (λ d. option_and_then request_kind.told (kept d old)) (sym is)
             ∙ ap (option_and_then request_kind.told) was ∙ e;
-        same = visited.after ∙ ap (λ v. with_kept grants.driver v visited.own) b.1
-            ∙ ap (with_kept grants.driver (keeps visited.was)) ((says _ _ _ _ _ visited.left).1 ∙ again)
-            ∙ ap (λ gs. record old { grants = gs }) (kept_still grants.driver (keeps visited.was) old.grants was);
+        same = visited.after ∙ ap (λ v. with_kept driver v visited.own) b.1
+            ∙ ap (with_kept driver (keeps visited.was)) ((says _ _ _ _ _ visited.left).1 ∙ again)
+            ∙ ap (λ gs. record old { grants = gs }) (kept_still driver (keeps visited.was) old.grants was);
       }
 
-  by_grant : (found : Option Grant) → grant_of grants.driver old.grants ≡ found → IsBusy request_kind old new
+  by_grant : (found : Option Grant) → grant_of driver old.grants ≡ found → IsBusy request_kind old new
   by_grant None none =
-      let fresh_is : keeps visited.was ≡ fresh_value grants.driver = some_same
-      (sym visited.kept ∙ kept_first grants.driver old none) in
+      let fresh_is : keeps visited.was ≡ fresh_value driver = some_same
+      (sym visited.kept ∙ kept_first driver old none) in
       never (ap request_kind.told (fresh_is ∙ ap (value_or_none fresh_by) by_is) ∙ first)
     where
       some_same : {a b : KeptValue} → ◌≡◌ {A = Option KeptValue} (Some a) (Some b) → a ≡ b

@@ -1,5 +1,5 @@
 -- A visit to the request of a process.
-use Rattle.std.proofs.Common.{◌≡◌, ℕ, ◌==◌, Bool, true, false, cond, not, ◌&&◌, List, Option, None, Some, IfSome}
+use Rattle.std.proofs.Common.{◌≡◌, ℕ, ◌==◌, Bool, true, false, cond, not, ◌&&◌, Option, None, Some, IfSome}
 use Rattle.std.proofs.Common.{option_and_then, unwrap_or, Result, refl, ap, sym, subst, ◌∙◌}
 use Rattle.grant_values.specs.Values.{KeptValue, NoValue}
 use Rattle.process_model.specs.Own.{Own}
@@ -8,7 +8,7 @@ use Rattle.driver_model.specs.Requests.{RequestKind, request_in, with_request}
 use Rattle.driver_model.specs.Steps.{DriverStep}
 use Rattle.driver_model.proofs.Requesting.{requesting_commutes}
 use Rattle.process_seat.specs.Seen.{Seen}
-use Rattle.process_seat.specs.Visits.{GrantsOf, Visited, is_stale, seen_by}
+use Rattle.process_seat.specs.Visits.{FoundProcess, GrantVisit, Visited, is_stale, seen_by}
 use Rattle.driver_requests.specs.Asking.{waiting_of}
 use Rattle.driver_requests.specs.Visits.{ServesWaiting, VisitsRequest}
 use Rattle.driver_requests.proofs.Keeping.{kept_still}
@@ -33,18 +33,24 @@ present true true request e = refl
 present true false request e = cc
 present false same request e = cc
 
-module _ {R T A V : Type 0} (request_kind : RequestKind R) (grants : GrantsOf) (life : ℕ) (keeps : T → KeptValue)
-    (flash : List ℕ) (visitor : V) (step : R → Seen → DriverStep) (rest : R → Seen → Option R)
-    (answers : R → Seen → A → Type 0)
-    (leaves : T → Seen → Result A V → T → Own → Type 0) (old new : Own) (answer : Result A V)
-    (is : grants.driver ≡ request_kind.driver)
-    (says : (value value' : T) (own : Own) → leaves value (seen_by grants flash old) answer value' own
-    → ServesWaiting request_kind visitor step rest answers (seen_by grants flash old)
-    (request_kind.told (keeps value)) (keeps value) answer (keeps value') own)
-    (present_is : is_stale life old ≡ false)
-    (v : Visited grants keeps leaves flash old answer new) where
+module _ {R T A V W : Type 0} {visit : GrantVisit T W (Result A V)} {process : FoundProcess} {answer : Result A V}
+    {new : Own} (request_kind : RequestKind R) (visitor : V) (step : R → Seen → DriverStep)
+    (rest : R → Seen → Option R) (answers : R → Seen → A → Type 0) (v : Visited visit process answer new)
+    (present_is : is_stale process.life process.own ≡ false) (is : visit.grants.driver ≡ request_kind.driver)
+    (says : (value value' : T) (seen : Seen) (own : Own) → visit.leaves visit.visitor value seen answer value' own
+    → ServesWaiting request_kind visitor step rest answers seen (request_kind.told (visit.keeps value))
+    (visit.keeps value) answer (visit.keeps value') own) where
+  abbrev driver : ℕ
+  driver = visit.grants.driver
+
+  abbrev keeps : T → KeptValue
+  keeps = visit.keeps
+
+  abbrev old : Own
+  old = process.own
+
   abbrev seen : Seen
-  seen = seen_by grants flash old
+  seen = seen_by visit.grants process.flash old
 
   -- the value that was kept
   was : kept request_kind.driver old ≡ Some (keeps v.was)
@@ -55,15 +61,15 @@ module _ {R T A V : Type 0} (request_kind : RequestKind R) (grants : GrantsOf) (
       → VisitsRequest request_kind visitor step rest answers seen waiting answer new
   serves None s = (
     s.0,
-    v.after ∙ ap (λ k. with_kept grants.driver k v.own) s.1 ∙ ap (with_kept grants.driver (keeps v.was)) s.2
-        ∙ ap (λ gs. record old { grants = gs }) (kept_still grants.driver (keeps v.was) old.grants v.kept),
+    v.after ∙ ap (λ k. with_kept driver k v.own) s.1 ∙ ap (with_kept driver (keeps v.was)) s.2
+        ∙ ap (λ gs. record old { grants = gs }) (kept_still driver (keeps v.was) old.grants v.kept),
   )
   serves (Some request) s =
       let kind = request_kind in
       let still = ap (kept kind.driver) v.serves.rest ∙ was in (
         s.0,
         s.1,
-        v.after ∙ ap (λ k. with_kept grants.driver k v.own) s.2
+        v.after ∙ ap (λ k. with_kept driver k v.own) s.2
             ∙ ap (λ d. with_kept d (kind.with_request (rest request seen) (keeps v.was)) v.own) is
             ∙ ap (λ k. with_kept kind.driver (kind.with_request (rest request seen) (unwrap_or k NoValue)) v.own)
             (sym still)
@@ -71,8 +77,9 @@ module _ {R T A V : Type 0} (request_kind : RequestKind R) (grants : GrantsOf) (
             ∙ requesting_commutes kind (rest request seen) (step request seen).schedules (step request seen).own,
       )
 
-  pub visited : VisitsRequest request_kind visitor step rest answers seen (waiting_of request_kind life old) answer new
+  pub visited : VisitsRequest request_kind visitor step rest answers seen (waiting_of request_kind process.life old)
+      answer new
   visited =
       subst (λ o. VisitsRequest request_kind visitor step rest answers seen o answer new)
-      (sym (present old.lives (old.life == life) _ present_is ∙ ap (option_and_then request_kind.told) was))
-      (serves (request_kind.told (keeps v.was)) (says _ _ _ v.left))
+      (sym (present old.lives (old.life == process.life) _ present_is ∙ ap (option_and_then request_kind.told) was))
+      (serves (request_kind.told (keeps v.was)) (says _ _ _ _ v.left))

@@ -20,6 +20,7 @@ use Rattle.process_seat.specs.Places.{FitsMemory, has_permissions}
 use Rattle.grant_enter.specs.Housed.{AreSettled, IsHome, layouts_of, owns_seated, homes_of}
 use Rattle.process_seat.specs.Seats.{IsSeated, IsKept, Reseats, SitsIn, first_seat, TellsPermissions, owned, app_in}
 use Rattle.process_seat.specs.Seats.{kernel_in, own_in}
+use Rattle.process_seat.specs.Visits.{FoundProcess, found_in}
 use Rattle.process_seat.proofs.Alive.{lives_so}
 use Rattle.grant_enter.proofs.Living.{placed_there, stale_is}
 use Rattle.process_seat.proofs.Windows.{windows_same}
@@ -232,6 +233,16 @@ module _ {h : Inside} {old : Homes} {slot index : ℕ} {seat : Seat} (r : Reads 
         (subst (λ (o : Own). P old.flash o (own_in m.ram new)) (sym own_before)
         (subst (λ (f : List ℕ). P f (own_in h.memory.ram seat) (own_in m.ram new)) (ap (λ (x : Homes). x.flash) r.shown)
         made))
+
+    -- so it does of the process as a driver finds it
+    pub reseated_found : (P : FoundProcess → Own → Type 0) (life : ℕ) → seat.life ≡ life
+        → P (found_in h.memory seat) (own_in m.ram new)
+        → P (record { life = life; flash = old.flash; own = own_of old slot })
+        (own_of (homes_of (with_seat h m index new)) slot)
+    reseated_found P life same made =
+        reseated_shows (λ (flash : List ℕ) (own own' : Own). P (record { life = life; flash = flash; own = own }) own')
+        (subst (λ (n : ℕ). P (record { life = n; flash = h.memory.flash; own = own_in h.memory.ram seat })
+        (own_in m.ram new)) same made)
 
     -- where it is what it was, nothing at all has changed
     pub reseated_same : own_in m.ram new ≡ own_in h.memory.ram seat → homes_of (with_seat h m index new) ≡ old

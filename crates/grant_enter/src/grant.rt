@@ -4,6 +4,7 @@ ghost use Rattle.grant_values.specs.Drivers.{counting, counts_of, driver_of};
 ghost use Rattle.process_model.specs.Handed.{own_entering};
 ghost use Rattle.grant_enter.specs.Homes.{ChangesOnly, own_of};
 ghost use Rattle.process_seat.specs.Visits.{Asks, Enters, IsCounted, Peeks, Visits};
+ghost use Rattle.process_seat.specs.Visits.{seen_by};
 
 use crate::home::Home;
 use grant_values::GrantValue;
@@ -76,24 +77,26 @@ impl<T: GrantValue, const UP: usize, const RO: usize, const RW: usize, const UR:
         let _counts = self.counts;
     }
 
-    /// Enters the grant that a process keeps for the driver, which is made, fresh, at first use:
-    /// the visitor is given the value that is kept, which is what its last visit left, and the
-    /// value that it leaves is kept. What it leaves by its own contract is then the process's; all
-    /// else of the process, and all of another slot, stays.
+    /// Has a visitor do what its own contract says with the value that a process keeps for the
+    /// driver, or at first use with a fresh one, and keeps what it leaves; or refuses, and nothing
+    /// changes. What the process keeps is what the last visit left. All else of the process, and
+    /// all of another slot, stays.
     ///
     /// It is stale exactly where the process has ended or is in another life, or none was placed in
     /// the slot; otherwise there is no room exactly where the driver is not entered and the kernel
-    /// break less the cost of its grant is below the break. Then nothing changes.
+    /// break less the cost of its grant is below the break.
     pub fn enter<V: Visit<T> + Drop>(
         &self,
         home: &mut Home,
         id: ProcessId,
         visitor: V,
     ) -> Result<V::Answer, EnterError>
-        requires asks { Asks self.now T.kept (V.asks visitor) home.old.flash
-            (own_entering self.now.driver (own_of home.old id.slot)) }
-        ensures enters { Enters self.now T.kept (V.leaves visitor) id.life home.old.flash
-            (own_of home.old id.slot) result (own_of home.new id.slot) }
+        requires asks { Asks T.kept (V.asks visitor) (seen_by self.now home.old.flash
+            (own_entering self.now.driver (own_of home.old id.slot))) }
+        ensures enters { Enters
+            (record { grants = self.now; keeps = T.kept; visitor = visitor; leaves = V.leaves })
+            (record { life = id.life; flash = home.old.flash; own = own_of home.old id.slot })
+            result (own_of home.new id.slot) }
         ensures rest { ChangesOnly id.slot home.old home.new }
     {
         if !home.is_there(&id) {
@@ -103,20 +106,23 @@ impl<T: GrantValue, const UP: usize, const RO: usize, const RW: usize, const UR:
         enter_seat::<T, V>(&mut home.memory, seat, self.driver, self.counts, visitor)
     }
 
-    /// Visits the grant that a process keeps for the driver, as [`Grant::enter`], and makes
-    /// nothing. The visitor is handed back, as it was given, exactly where there is nothing to
-    /// visit: the process has not entered the driver in this life, or it is gone, that is, it has
-    /// ended or is in another life, or none was placed in the slot. Then nothing changes.
+    /// Has a visitor do what its own contract says with the value that a process keeps for the
+    /// driver, as [`Grant::enter`], where it keeps one; or hands the visitor back, as it was given,
+    /// and nothing changes. It is handed back exactly where there is nothing to visit: the process
+    /// has not entered the driver in this life, or it is gone, that is, it has ended or is in
+    /// another life, or none was placed in the slot.
     pub fn visit<V: Visit<T> + Drop>(
         &self,
         home: &mut Home,
         id: ProcessId,
         visitor: V,
     ) -> Result<V::Answer, Unvisited<V>>
-        requires asks { Asks self.now T.kept (V.asks visitor) home.old.flash
-            (own_of home.old id.slot) }
-        ensures visits { Visits self.now T.kept visitor (V.leaves visitor) id.life home.old.flash
-            (own_of home.old id.slot) result (own_of home.new id.slot) }
+        requires asks { Asks T.kept (V.asks visitor)
+            (seen_by self.now home.old.flash (own_of home.old id.slot)) }
+        ensures visits { Visits
+            (record { grants = self.now; keeps = T.kept; visitor = visitor; leaves = V.leaves })
+            (record { life = id.life; flash = home.old.flash; own = own_of home.old id.slot })
+            result (own_of home.new id.slot) }
         ensures rest { ChangesOnly id.slot home.old home.new }
     {
         if !home.is_there(&id) {
@@ -126,11 +132,13 @@ impl<T: GrantValue, const UP: usize, const RO: usize, const RW: usize, const UR:
         visit_seat::<T, V>(&mut home.memory, visited, self.driver, self.counts, visitor)
     }
 
-    /// The value that a process keeps for the driver; None exactly where it has not entered the
-    /// driver in this life. It is stale exactly where the process has ended or is in another life,
-    /// or none was placed in the slot.
+    /// The value that a process keeps for the driver: None exactly where it has not entered the
+    /// driver in this life, and stale exactly where it has ended or is in another life, or none was
+    /// placed in the slot.
     pub fn peek(&self, home: &Home, id: ProcessId) -> Result<Option<T>, Stale>
-        ensures { Peeks self.now T.kept id.life (own_of home.now id.slot) result }
+        ensures { Peeks self.now T.kept
+            (record { life = id.life; flash = home.now.flash; own = own_of home.now id.slot })
+            result }
     {
         if !home.is_there(&id) {
             return Err(Stale);

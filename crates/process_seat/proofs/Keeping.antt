@@ -24,7 +24,7 @@ use Rattle.process_seat.specs.declared.seat.Seat.{Seat}
 use Rattle.process_seat.specs.Windows.{SameOutside}
 use Rattle.process_seat.specs.Seats.{Holds, IsKept, Reseats, app_in, kernel_in, own_in, owned, value_put, with_value_in}
 use Rattle.process_seat.specs.Seen.{IsLentTo, Seen, ServesIn}
-use Rattle.process_seat.specs.Visits.{Asks, GrantsOf, IsCounted, Visited, seen_by}
+use Rattle.process_seat.specs.Visits.{Asks, GrantVisit, IsCounted, Visited, found_in, seen_by}
 use Rattle.process_seat.proofs.Blocks.{length_kernel}
 use Rattle.process_seat.proofs.Holding.{all_with}
 use Rattle.process_seat.proofs.Reseated.{ram_reseats, reseats_on}
@@ -148,48 +148,51 @@ value_again driver counts m seat l at size v m1 seat1 w =
     (subst (λ (xs : List ℕ). IsValue xs at size driver) (sym (kernel_same driver counts m seat l m1 seat1 w)) v)
 
 -- a visitor was run between the reading of a value and the keeping of it
-module _ {T A : Type 0} (grants : GrantsOf) (keeps : T → KeptValue) (leaves : T → Seen → A → T → Own → Type 0)
-    (m : MemoryBytes) (seat : Seat) (l : IsLentTo grants.driver grants.counts m seat) (at size : ℕ)
-    (v : IsValue (kernel_in m.ram seat.layout) at size grants.driver) (was : T)
-    (is : keeps was
-    ≡ value_told grants.driver (words_of (take size (drop at (kernel_in m.ram seat.layout))))) where
-  was_kept : kept grants.driver (own_in m.ram seat) ≡ Some (keeps was)
+module _ {T V A : Type 0} (visit : GrantVisit T V A) (m : MemoryBytes) (seat : Seat)
+    (l : IsLentTo visit.grants.driver visit.grants.counts m seat) (at size : ℕ)
+    (v : IsValue (kernel_in m.ram seat.layout) at size visit.grants.driver) (was : T)
+    (is : visit.keeps was
+    ≡ value_told visit.grants.driver (words_of (take size (drop at (kernel_in m.ram seat.layout))))) where
+  was_kept : kept visit.grants.driver (own_in m.ram seat) ≡ Some (visit.keeps was)
   was_kept =
-      kept_is grants.driver (own_in m.ram seat) v.grant v.is
-      ∙ ap Some (sym (is ∙ ap (value_told grants.driver) v.taken ∙ v.fits.told))
+      kept_is visit.grants.driver (own_in m.ram seat) v.grant v.is
+      ∙ ap Some (sym (is ∙ ap (value_told visit.grants.driver) v.taken ∙ v.fits.told))
 
   -- what it asks
-  pub asks_by : (asks : T → Seen → Type 0) → Asks grants keeps asks m.flash (own_in m.ram seat)
-      → asks was (seen_by grants m.flash (own_in m.ram seat))
+  pub asks_by : (asks : T → Seen → Type 0) → Asks visit.keeps asks (seen_by visit.grants m.flash (own_in m.ram seat))
+      → asks was (seen_by visit.grants m.flash (own_in m.ram seat))
   asks_by asks may = may was was_kept
 
-  module _ (m1 : MemoryBytes) (seat1 : Seat) (w : ServesIn grants.driver m seat m1 seat1) (value : T)
-      (can : CanBeKept grants.driver (keeps value))
-      (long : length (value_put (kernel_in m1.ram seat1.layout) at size (keeps value))
+  module _ (m1 : MemoryBytes) (seat1 : Seat) (w : ServesIn visit.grants.driver m seat m1 seat1) (value : T)
+      (can : CanBeKept visit.grants.driver (visit.keeps value))
+      (long : length (value_put (kernel_in m1.ram seat1.layout) at size (visit.keeps value))
       ≡ length (kernel_in m1.ram seat1.layout)) where
-    again : IsLentTo grants.driver grants.counts m1 seat1
-    again = still_lent grants.driver grants.counts m seat l m1 seat1 w
+    again : IsLentTo visit.grants.driver visit.grants.counts m1 seat1
+    again = still_lent visit.grants.driver visit.grants.counts m seat l m1 seat1 w
 
-    stands : IsValue (kernel_in m1.ram seat1.layout) at size grants.driver
-    stands = value_again grants.driver grants.counts m seat l at size v m1 seat1 w
+    stands : IsValue (kernel_in m1.ram seat1.layout) at size visit.grants.driver
+    stands = value_again visit.grants.driver visit.grants.counts m seat l at size v m1 seat1 w
 
     -- what it left
     pub visited_by : (answer : A)
-        → leaves was (seen_by grants m.flash (own_in m.ram seat)) answer value (own_in m1.ram seat1)
-        → Visited grants keeps leaves m.flash (own_in m.ram seat) answer
-        (own_in (with_value_in m1 seat1.layout at size (keeps value)).ram seat1)
+        → visit.leaves visit.visitor was (seen_by visit.grants m.flash (own_in m.ram seat)) answer value
+        (own_in m1.ram seat1)
+        → Visited visit (found_in m seat) answer
+        (own_in (with_value_in m1 seat1.layout at size (visit.keeps value)).ram seat1)
     visited_by answer left = record {
       was = was;
       kept = was_kept;
       value = value;
       own = own_in m1.ram seat1;
       left = left;
-      serves = serving_own grants.driver grants.counts m seat l m1 seat1 w;
-      after = kept_own grants.driver grants.counts m1 seat1 again at size (keeps value) stands can long;
+      serves = serving_own visit.grants.driver visit.grants.counts m seat l m1 seat1 w;
+      after = kept_own visit.grants.driver visit.grants.counts m1 seat1 again at size (visit.keeps value) stands can
+          long;
     }
 
-    pub visit_reseats : Reseats m seat (with_value_in m1 seat1.layout at size (keeps value)) seat1
+    pub visit_reseats : Reseats m seat (with_value_in m1 seat1.layout at size (visit.keeps value)) seat1
     visit_reseats =
-        reseats_on m seat m1 seat1 (with_value_in m1 seat1.layout at size (keeps value)) seat1
-        (serving_reseats grants.driver grants.counts m seat l m1 seat1 w)
-        (kept_reseats grants.driver grants.counts m1 seat1 again at size (keeps value) stands can long)
+        reseats_on m seat m1 seat1 (with_value_in m1 seat1.layout at size (visit.keeps value)) seat1
+        (serving_reseats visit.grants.driver visit.grants.counts m seat l m1 seat1 w)
+        (kept_reseats visit.grants.driver visit.grants.counts m1 seat1 again at size (visit.keeps value) stands can
+        long)

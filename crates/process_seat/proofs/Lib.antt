@@ -11,6 +11,7 @@ pub mod Values
 pub mod Buffers
 mod Serving
 mod Writing
+pub mod Outcomes
 mod Keeping
 pub mod Alive
 mod Entering

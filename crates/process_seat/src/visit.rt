@@ -12,7 +12,7 @@ ghost use Rattle.process_seat.specs.Seats.{fits_in, kernel_in, own_in};
 ghost use Rattle.process_seat.specs.Seen.{Seen, Framed, IsLent, IsLentTo, ServesIn, seen};
 ghost use Rattle.process_seat.specs.Seen.{own_entered, seen_of};
 ghost use Rattle.process_seat.specs.Visits.{Asks, Enters, IsCounted, Peeks, Visited, Visits};
-ghost use Rattle.process_seat.specs.Visits.{grants_of};
+ghost use Rattle.process_seat.specs.Visits.{found_in, grants_of};
 
 use crate::entered::Entered;
 use crate::handing::in_order;
@@ -108,11 +108,14 @@ fn visit_at<T: GrantValue, V: Visit<T>>(
     requires counted { IsCounted T.driver place.driver place.counts T.SIZE }
     requires stands { IsValue (kernel_in memory.old.ram seat.old.layout) place.at
         (value_bytes place.driver) place.driver }
-    requires asks { Asks (grants_of place.driver place.counts) T.kept (V.asks visitor)
-        memory.old.flash (own_in memory.old.ram seat.old) }
-    ensures visited { Visited (grants_of place.driver place.counts) T.kept (V.leaves visitor)
-        memory.old.flash (own_in memory.old.ram seat.old) result
-        (own_in memory.new.ram seat.new) }
+    requires asks { Asks T.kept (V.asks visitor) (seen_of place.driver place.counts
+        memory.old.flash (own_in memory.old.ram seat.old)) }
+    ensures visited { Visited (record {
+      grants = grants_of place.driver place.counts;
+      keeps = T.kept;
+      visitor = visitor;
+      leaves = V.leaves;
+    }) (found_in memory.old seat.old) result (own_in memory.new.ram seat.new) }
     ensures reseats { Reseats memory.old seat.old memory.new seat.new }
 {
     let ValuePlace { driver, counts, at } = place;
@@ -156,10 +159,14 @@ pub fn enter_seat<T: GrantValue, V: Visit<T> + Drop>(
     requires sits { SitsIn memory.old seat.old }
     requires lives { seat.old.lives ≡ true }
     requires counted { IsCounted T.driver driver counts T.SIZE }
-    requires asks { Asks (grants_of driver counts) T.kept (V.asks visitor) memory.old.flash
-        (own_entering driver (own_in memory.old.ram seat.old)) }
-    ensures enters { Enters (grants_of driver counts) T.kept (V.leaves visitor) seat.old.life
-        memory.old.flash (own_in memory.old.ram seat.old) result (own_in memory.new.ram seat.new) }
+    requires asks { Asks T.kept (V.asks visitor) (seen_of driver counts memory.old.flash
+        (own_entering driver (own_in memory.old.ram seat.old))) }
+    ensures enters { Enters (record {
+      grants = grants_of driver counts;
+      keeps = T.kept;
+      visitor = visitor;
+      leaves = V.leaves;
+    }) (found_in memory.old seat.old) result (own_in memory.new.ram seat.new) }
     ensures reseats { Reseats memory.old seat.old memory.new seat.new }
 {
     pairs_stand_by_kind();
@@ -182,11 +189,14 @@ pub fn visit_seat<T: GrantValue, V: Visit<T> + Drop>(
     requires sits { SitsIn memory.old seat.old }
     requires lives { seat.old.lives ≡ true }
     requires counted { IsCounted T.driver driver counts T.SIZE }
-    requires asks { Asks (grants_of driver counts) T.kept (V.asks visitor) memory.old.flash
-        (own_in memory.old.ram seat.old) }
-    ensures visits { Visits (grants_of driver counts) T.kept visitor (V.leaves visitor)
-        seat.old.life memory.old.flash (own_in memory.old.ram seat.old) result
-        (own_in memory.new.ram seat.new) }
+    requires asks { Asks T.kept (V.asks visitor) (seen_of driver counts memory.old.flash
+        (own_in memory.old.ram seat.old)) }
+    ensures visits { Visits (record {
+      grants = grants_of driver counts;
+      keeps = T.kept;
+      visitor = visitor;
+      leaves = V.leaves;
+    }) (found_in memory.old seat.old) result (own_in memory.new.ram seat.new) }
     ensures reseats { Reseats memory.old seat.old memory.new seat.new }
 {
     match value_place(kernel_of(memory, &seat.layout), driver, counts) {
@@ -205,8 +215,8 @@ pub fn peek_seat<T: GrantValue>(
     requires sits { SitsIn memory.now seat.now }
     requires lives { seat.now.lives ≡ true }
     requires counted { IsCounted T.driver driver counts T.SIZE }
-    ensures peeks { Peeks (grants_of driver counts) T.kept seat.now.life
-        (own_in memory.now.ram seat.now) (Ok result) }
+    ensures peeks { Peeks (grants_of driver counts) T.kept (found_in memory.now seat.now)
+        (Ok result) }
 {
     kept_in::<T>(kernel_of(memory, &seat.layout), driver, &counts)
 }

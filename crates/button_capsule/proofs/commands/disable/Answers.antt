@@ -10,8 +10,8 @@ pub returns-clause-answer : goal.returns-clause-answer
 returns-clause-answer c =
     let own = own_of c.args.home.now c.args.id.slot in
     let left : own_of c.visit.new.home c.args.id.slot ≡ set_enabled c.args.button false own =
-    disables c.args.button _ _ _ _ _ _ _ c.visit.result (λ value seen answer value' own left. left)
-    c.button_grants.ensures.driver c.requires.present.present c.visit.ensures.visits in
+    disables _ _ _ _ c.args.button c.visit.result c.visit.ensures.visits (λ value seen answer value' own left. left)
+    c.button_grants.ensures.driver c.requires.present.present in
     ap (accepting Success) left
     ∙ in_range c.args.count c.args.button own (accepting Success (set_enabled c.args.button false own))
     (omega (arith, c.if-button-count.false))

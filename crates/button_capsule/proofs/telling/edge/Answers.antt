@@ -4,18 +4,15 @@ use Rattle.button_capsule.proofs.telling.edge.Goals as goal
 
 pub returns-in-Ok-true-clause-own : goal.returns-in-Ok-true-clause-own
 returns-in-Ok-true-clause-own c =
-    tells c.args.button c.args.state _ c.args.id.life _ (own_of c.args.home.now c.args.id.slot) _ _ _
-    c.visit-told.result (λ value seen queued value' own left. left)
-    c.button_grants.ensures.driver c.visit-told.ensures.visits
+    tells _ _ _ c.args.id.life _ (own_of c.args.home.now c.args.id.slot) c.args.button c.args.state c.visit-told.result
+    c.visit-told.ensures.visits (λ value seen queued value' own left. left) c.button_grants.ensures.driver
 
 pub returns-in_default-clause-own : goal.returns-in_default-clause-own
 returns-in_default-clause-own c =
-    tells c.args.button c.args.state _ c.args.id.life _ (own_of c.args.home.now c.args.id.slot) _ _ _
-    c.visit-told.result (λ value seen queued value' own left. left)
-    c.button_grants.ensures.driver c.visit-told.ensures.visits
+    tells _ _ _ c.args.id.life _ (own_of c.args.home.now c.args.id.slot) c.args.button c.args.state c.visit-told.result
+    c.visit-told.ensures.visits (λ value seen queued value' own left. left) c.button_grants.ensures.driver
 
 pub returns-in_default-2-clause-own : goal.returns-in_default-2-clause-own
 returns-in_default-2-clause-own c =
-    tells c.args.button c.args.state _ c.args.id.life _ (own_of c.args.home.now c.args.id.slot) _ _ _
-    c.visit-told.result (λ value seen queued value' own left. left)
-    c.button_grants.ensures.driver c.visit-told.ensures.visits
+    tells _ _ _ c.args.id.life _ (own_of c.args.home.now c.args.id.slot) c.args.button c.args.state c.visit-told.result
+    c.visit-told.ensures.visits (λ value seen queued value' own left. left) c.button_grants.ensures.driver

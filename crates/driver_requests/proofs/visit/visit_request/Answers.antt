@@ -12,8 +12,6 @@ visit-requires g c = (
 
 pub returns-in-Ok-clause-visits : goal.returns-in-Ok-clause-visits
 returns-in-Ok-clause-visits g c =
-    let own = own_of c.args.home.now c.args.id.slot in
-    visited g.R.Request.request_kind c.args.grants.now c.args.id.life _ c.args.home.now.flash c.args.visitor
-    (g.V.VisitRequest.step c.args.visitor) (g.V.VisitRequest.rest c.args.visitor)
-    (g.V.VisitRequest.answers c.args.visitor) _ own _ c.in-Ok.answer c.requires.driver
-    (λ value value' own left. left) c.in-Ok.ensures.visits.0 c.in-Ok.ensures.visits.1
+    visited g.R.Request.request_kind c.args.visitor (g.V.VisitRequest.step c.args.visitor)
+    (g.V.VisitRequest.rest c.args.visitor) (g.V.VisitRequest.answers c.args.visitor) c.in-Ok.ensures.visits.1
+    c.in-Ok.ensures.visits.0 c.requires.driver (λ value value' seen own left. left)

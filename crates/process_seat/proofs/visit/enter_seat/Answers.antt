@@ -7,9 +7,11 @@ use Rattle.board_memory.specs.Memory.{MemoryBytes}
 use Rattle.process_model.specs.Own.{Own}
 use Rattle.process_model.specs.Handed.{own_entering}
 use Rattle.process_seat.specs.Seats.{Reseats, own_in}
-use Rattle.process_seat.specs.Visits.{Asks, Visited, grants_of}
+use Rattle.process_seat.specs.Seen.{seen_of}
+use Rattle.process_seat.specs.Visits.{Asks, FoundProcess, Visited, grants_of}
 use Rattle.process_seat.proofs.Entering.{entered_own, entered_reseats, same_room}
 use Rattle.process_seat.proofs.Alive.{lives_on}
+use Rattle.process_seat.proofs.Outcomes.{visit_by}
 use Rattle.process_seat.proofs.Reseated.{reseats_on}
 use Rattle.process_seat.proofs.visit.enter_seat.Goals as goal
 use Rattle.process_seat.proofs.visit.enter_seat.Given.{Over}
@@ -43,29 +45,21 @@ entered g c =
 pub visit_at-requires-clause-asks : goal.visit_at-requires-clause-asks
 visit_at-requires-clause-asks g c =
     let at = (goal.at.visit_at-requires-clause-asks g c).In-Ok in
-    let grants = grants_of c.args.driver c.args.counts in
-    let keeps = g.T.GrantValue.kept in
-    subst (Asks grants keeps (g.V.Visit.asks c.args.visitor) c.make_room_in.new.memory.flash) (sym (entered g at))
-    (subst (λ (flash : List ℕ). Asks grants keeps (g.V.Visit.asks c.args.visitor) flash
-    (own_entering c.args.driver (own_in c.args.memory.now.ram c.args.seat.now)))
-    (sym c.in-Ok.ensures.made.grants.flash) c.requires.asks)
+    subst (Asks g.T.GrantValue.kept (g.V.Visit.asks c.args.visitor))
+    (ap₂ (seen_of c.args.driver c.args.counts) (sym c.in-Ok.ensures.made.grants.flash) (sym (entered g at)))
+    c.requires.asks
 
 pub returns-clause-enters : goal.returns-clause-enters
 returns-clause-enters g c =
     let at = (goal.at.returns-clause-enters g c).In-Ok in
-    let grants = grants_of c.args.driver c.args.counts in
-    let keeps = g.T.GrantValue.kept in
-    let leaves = g.V.Visit.leaves c.args.visitor in
-    let after = own_in c.visit_at.new.memory.ram c.visit_at.new.seat in
+    let visit = visit_by (grants_of c.args.driver c.args.counts) g.T.GrantValue.kept c.args.visitor g.V.Visit.leaves in
     let room = c.in-Ok.ensures.room ∙ same_room c.args.driver c.args.memory.now c.args.seat.now c.requires.sits in (
       lives_on (own_in c.args.memory.now.ram c.args.seat.now) c.requires.lives,
       sym room,
-      subst (λ (flash : List ℕ). Visited grants keeps leaves flash
-          (own_entering c.args.driver (own_in c.args.memory.now.ram c.args.seat.now)) c.visit_at.result after)
-          c.in-Ok.ensures.made.grants.flash
-          (subst (λ (own : Own). Visited grants keeps leaves c.make_room_in.new.memory.flash own c.visit_at.result
-          after)
-          (entered g at) c.visit_at.ensures.visited),
+      subst (λ (process : FoundProcess). Visited visit process c.visit_at.result
+          (own_in c.visit_at.new.memory.ram c.visit_at.new.seat))
+          (ap₂ (λ (flash : List ℕ) (own : Own). record { life = c.args.seat.now.life; flash = flash; own = own })
+          c.in-Ok.ensures.made.grants.flash (entered g at)) c.visit_at.ensures.visited,
     )
 
 pub returns-in_default-clause-enters : goal.returns-in_default-clause-enters

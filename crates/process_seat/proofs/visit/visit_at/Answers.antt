@@ -9,8 +9,9 @@ use Rattle.grant_model.specs.Laws.{IsValue}
 use Rattle.board_memory.specs.Memory.{MemoryBytes}
 use Rattle.process_seat.specs.Seats.{Reseats, kernel_in, own_in}
 use Rattle.process_seat.specs.Seen.{IsLentTo}
-use Rattle.process_seat.specs.Visits.{Visited, grants_of}
+use Rattle.process_seat.specs.Visits.{Visited, found_in, grants_of}
 use Rattle.process_seat.proofs.Keeping.{asks_by, can_be_kept, size_of, told_is, value_again, visited_by, visit_reseats}
+use Rattle.process_seat.proofs.Outcomes.{visit_by}
 use Rattle.process_seat.proofs.visit.visit_at.Goals as goal
 use Rattle.process_seat.proofs.visit.visit_at.Given.{Over}
 use Rattle.process_seat.proofs.visit.visit_at.Goals.{After-kernel_of, After-value_at-value}
@@ -64,8 +65,8 @@ can g c =
 pub run_visit-answer-requires-clause-asks : goal.run_visit-answer-requires-clause-asks
 run_visit-answer-requires-clause-asks g c =
     let at = goal.at.run_visit-answer-requires-clause-asks g c in
-    asks_by (grants_of c.args.place.driver c.args.place.counts) g.T.GrantValue.kept (g.V.Visit.leaves c.args.visitor)
-    c.args.memory.now c.args.seat.now (lent g at.After-kernel_of) c.args.place.at g.T.GrantValue.SIZE
+    asks_by (visit_by (grants_of c.args.place.driver c.args.place.counts) g.T.GrantValue.kept c.args.visitor
+    g.V.Visit.leaves) c.args.memory.now c.args.seat.now (lent g at.After-kernel_of) c.args.place.at g.T.GrantValue.SIZE
     (stands g at.After-kernel_of) c.value_at-value.result (is g at.After-value_at-value)
     (g.V.Visit.asks c.args.visitor) c.requires.asks
 
@@ -81,14 +82,13 @@ returns-clause-visited g c =
     let at = goal.at.returns-clause-visited g c in
     let r = c.run_visit-answer in
     let k = c.keep_value.ensures in
-    let grants = grants_of c.args.place.driver c.args.place.counts in
-    subst (λ (x : MemoryBytes). Visited grants g.T.GrantValue.kept (g.V.Visit.leaves c.args.visitor)
-    c.args.memory.now.flash (own_in c.args.memory.now.ram c.args.seat.now) r.result (own_in x.ram r.new.seat))
-    (sym k.kept)
-    (visited_by grants g.T.GrantValue.kept (g.V.Visit.leaves c.args.visitor) c.args.memory.now c.args.seat.now
-    (lent g at.After-kernel_of) c.args.place.at g.T.GrantValue.SIZE (stands g at.After-kernel_of)
-    c.value_at-value.result (is g at.After-value_at-value) r.new.memory r.new.seat r.ensures.serves r.new.value
-    (can g at.After-keep_value) k.long r.result r.ensures.left)
+    let visit = visit_by (grants_of c.args.place.driver c.args.place.counts) g.T.GrantValue.kept c.args.visitor
+    g.V.Visit.leaves in
+    subst (λ (x : MemoryBytes). Visited visit (found_in c.args.memory.now c.args.seat.now) r.result
+    (own_in x.ram r.new.seat)) (sym k.kept)
+    (visited_by visit c.args.memory.now c.args.seat.now (lent g at.After-kernel_of) c.args.place.at
+    g.T.GrantValue.SIZE (stands g at.After-kernel_of) c.value_at-value.result (is g at.After-value_at-value)
+    r.new.memory r.new.seat r.ensures.serves r.new.value (can g at.After-keep_value) k.long r.result r.ensures.left)
 
 pub returns-clause-reseats : goal.returns-clause-reseats
 returns-clause-reseats g c =
@@ -96,8 +96,7 @@ returns-clause-reseats g c =
     let r = c.run_visit-answer in
     let k = c.keep_value.ensures in
     subst (λ (x : MemoryBytes). Reseats c.args.memory.now c.args.seat.now x r.new.seat) (sym k.kept)
-    (visit_reseats (grants_of c.args.place.driver c.args.place.counts) g.T.GrantValue.kept (g.V.Visit.leaves
-    c.args.visitor)
-    c.args.memory.now c.args.seat.now (lent g at.After-kernel_of) c.args.place.at g.T.GrantValue.SIZE
+    (visit_reseats (visit_by (grants_of c.args.place.driver c.args.place.counts) g.T.GrantValue.kept c.args.visitor
+    g.V.Visit.leaves) c.args.memory.now c.args.seat.now (lent g at.After-kernel_of) c.args.place.at g.T.GrantValue.SIZE
     (stands g at.After-kernel_of) c.value_at-value.result (is g at.After-value_at-value) r.new.memory r.new.seat
     r.ensures.serves r.new.value (can g at.After-keep_value) k.long)

@@ -8,7 +8,7 @@ returns-then-not-begins g c =
     let own = own_of c.args.home.now c.args.id.slot in
     let place = c.owns_lie_in_place.ensures c.args.id.slot c.requires.may.there.slot in
     obeys_busy kind c.args.request c.args.id c.args.self.now c.args.home.now c.enter.new.home
-    (is_busy kind c.args.request c.args.grants.now _ _ _ _ own (own_of c.enter.new.home c.args.id.slot)
-    (λ value seen begun value' own left. left) c.requires.driver c.are_counted.ensures.known.driver_is
-    g.met.R.Request.none_at_first place c.in-Ok.begins c.if-not-begins.true c.in-Ok.ensures.enters.2)
+    (is_busy kind c.args.request _ own (own_of c.enter.new.home c.args.id.slot) c.in-Ok.begins
+    c.in-Ok.ensures.enters.2 c.if-not-begins.true (λ value seen begun value' own left. left) c.requires.driver
+    c.are_counted.ensures.known.driver_is g.met.R.Request.none_at_first place)
     c.enter.ensures.rest

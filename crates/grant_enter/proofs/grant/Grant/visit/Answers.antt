@@ -1,14 +1,14 @@
 -- A grant is visited: an id whose process is not there is stale, and nothing has changed. Else the seat of its slot is
 -- read (`Reads`), its process lives in that life, and what `visit_seat` promised of the seat is carried to what
 -- contracts see by `Moves`.
-use Rattle.std.proofs.Common.{◌≡◌, true, ℕ, List, not, refl, sym, ap, subst, ◌∙◌}
+use Rattle.std.proofs.Common.{◌≡◌, true, not, refl, sym, ap, subst, ◌∙◌}
 use Rattle.process_model.specs.Own.{Own}
 use Rattle.grant_enter.specs.Homes.{own_of}
 use Rattle.grant_enter.specs.Housed.{homes_of}
-use Rattle.process_seat.specs.Seats.{own_in}
-use Rattle.process_seat.specs.Visits.{Visits, GrantsOf, grants_of}
+use Rattle.process_seat.specs.Visits.{Visits, FoundProcess, GrantsOf, grants_of}
+use Rattle.process_seat.proofs.Outcomes.{visit_by}
 use Rattle.grant_enter.proofs.Living.{stale_is}
-use Rattle.grant_enter.proofs.Moves.{Reads, reads_there, reseated, reseated_only, reseated_shows}
+use Rattle.grant_enter.proofs.Moves.{Reads, reads_there, reseated, reseated_found, reseated_only}
 use Rattle.grant_enter.proofs.Moves.{seat_there, sits_before, with_seat}
 use Rattle.grant_enter.proofs.grant.Grant.visit.Goals as goal
 use Rattle.grant_enter.proofs.grant.Grant.visit.Given.{Over}
@@ -52,19 +52,19 @@ invariant_of-home g c =
 pub returns-clause-visits : goal.returns-clause-visits
 returns-clause-visits g c =
     let at = (goal.at.returns-clause-visits g c).After-index_mut-visited in
-    let Leaves : GrantsOf → ℕ → List ℕ → Own → Own → Type 0 =
-    λ grants life flash own own_after.
-    Visits grants g.T.GrantValue.kept c.args.visitor (g.V.Visit.leaves c.args.visitor) life flash own
-    c.visit_seat.result own_after in
-    let grants = grants_of c.self.inside.driver c.self.inside.counts in
+    let Comes : GrantsOf → FoundProcess → Own → Type 0 =
+    λ grants process. Visits (visit_by grants g.T.GrantValue.kept c.args.visitor g.V.Visit.leaves) process
+    c.visit_seat.result in
+    let process : FoundProcess = record {
+      life = c.args.id.life;
+      flash = c.args.home.now.flash;
+      own = own_of c.args.home.now c.args.id.slot;
+    } in
     let now = homes_of (with_seat c.home.inside c.visit_seat.new.memory c.index.result c.visit_seat.new.seat) in
-    subst (λ (grants : GrantsOf). Leaves grants c.args.id.life c.args.home.now.flash
-    (own_of c.args.home.now c.args.id.slot) (own_of now c.args.id.slot)) c.self.view_is
-    (reseated_shows (reads g at) c.visit_seat.new.memory c.visit_seat.new.seat c.visit_seat.ensures.reseats
-    (Leaves grants c.args.id.life)
-    (subst (λ (life : ℕ). Leaves grants life c.home.inside.memory.flash
-    (own_in c.home.inside.memory.ram c.index_mut-visited.result.now)
-    (own_in c.visit_seat.new.memory.ram c.visit_seat.new.seat)) (there g at).1 c.visit_seat.ensures.visits))
+    subst (λ (grants : GrantsOf). Comes grants process (own_of now c.args.id.slot)) c.self.view_is
+    (reseated_found (reads g at) c.visit_seat.new.memory c.visit_seat.new.seat c.visit_seat.ensures.reseats
+    (Comes (grants_of c.self.inside.driver c.self.inside.counts)) c.args.id.life (there g at).1
+    c.visit_seat.ensures.visits)
 
 pub returns-clause-rest : goal.returns-clause-rest
 returns-clause-rest g c =
