@@ -33,7 +33,7 @@ use Rattle.driver_model.specs.Requests.{RequestKind, asking, request_in, with_re
 use Rattle.driver_model.specs.Steps.{silently}
 use Rattle.driver_model.specs.Storage as storage
 use Rattle.kernel_laws.specs.Scheduled.{scheduled_by}
-use Rattle.kernel_laws.proofs.Commands.{handled}
+use Rattle.kernel_model.proofs.Commands.{handled}
 
 -- what holds of each row of a table, by its number, holds of what comes of a command
 module _ (own : Own) (number : ℕ) (P : Commanded → Type 0) (none : P (refusing NoCommand own)) where

@@ -4,8 +4,8 @@
 -- life drops all.
 use Rattle.std.proofs.Math.Bool.{and-false, and-true}
 use Rattle.std.proofs.Common.{◌+◌, suc, take, slice_get, slice_index_or, inl, inr, ◌⊎◌}
-use Rattle.std.proofs.Common.{◌≡◌, ◌||◌, ap₂, ne_eqb, ◌≢◌, ◌<◌, ◌≤◌, ℕ, ◌==◌, ◌-◌, Bool, true, false, not, cond, List}
-use Rattle.std.proofs.Common.{[], ◌∷◌, ◌++◌, ◌&&◌, drop, filter, length, slice_set, Option, None, Some, is_some}
+use Rattle.std.proofs.Common.{◌≡◌, ◌||◌, ap₂, ne_eqb, ◌≢◌, ◌<◌, ◌≤◌, ℕ, ◌==◌, Bool, true, false, not, cond, List}
+use Rattle.std.proofs.Common.{[], ◌∷◌, ◌++◌, ◌&&◌, drop, filter, length, Option, None, Some, is_some}
 use Rattle.std.proofs.Common.{Result, Ok, Err, refl, sym, ap, subst, ◌∙◌, arith, eqb-true, eq-eqb}
 use Rattle.std.specs.Prelude.{All, IfSome, remove}
 use Rattle.std.specs.Option.{option_map}
@@ -20,9 +20,6 @@ use Rattle.tk_base.specs.declared.call.CallRule.{CallRule}
 use Rattle.tk_base.specs.declared.call.CallRule.TheVariants.{NoDriver, NoOperation, Permission}
 use Rattle.tk_base.specs.Regs.{Registers}
 use Rattle.tk_base.specs.declared.upcall.Upcall.{Upcall as Scheduled}
-use Rattle.fault_policy.specs.declared.Action.{Action}
-use Rattle.fault_policy.specs.declared.Action.TheVariants.{Stop, Restart}
-use Rattle.fault_policy.specs.Policy.{decision}
 use Rattle.tk_base.specs.declared.kinds.PairKind.{PairKind}
 use Rattle.tk_base.specs.declared.kinds.PairKind.TheVariants.{Upcall, ReadOnly, ReadWrite, Readable}
 use Rattle.tk_base.specs.Kinds.{count_of}
@@ -43,7 +40,7 @@ use Rattle.upcall_queue.specs.Pending.{awaits, due_by, has_room, is_of, place_of
 use Rattle.upcall_queue.proofs.Places.{none_taken}
 use Rattle.process_model.specs.Own.{Own, own_ended as ended_own}
 use Rattle.process_model.specs.Flag.{with_flag}
-use Rattle.process_model.specs.Handed.{lies_in_ram, still_pending}
+use Rattle.process_model.specs.Handed.{still_pending}
 use Rattle.process_model.specs.Pairs.{HandsTheSame, HasShape, OnlyHandingChangesPairs}
 use Rattle.driver_model.specs.Steps.{own_after}
 use Rattle.driver_model.specs.Commands.{Commanded}
@@ -52,7 +49,7 @@ use Rattle.driver_model.specs.Pairs.{DriversLeavePairs}
 use Rattle.driver_model.specs.Upcalls.{DriversScheduleHeld, IsHeld, SchedulesHeld, scheduled_if}
 use Rattle.process_record.specs.declared.emit.CallMade.{CallMade}
 use Rattle.process_record.specs.declared.outcome.Outcome.{Outcome}
-use Rattle.process_record.specs.declared.outcome.Outcome.TheVariants.{GoesOn, Replied, Waits}
+use Rattle.process_record.specs.declared.outcome.Outcome.TheVariants.{Replied}
 use Rattle.process_record.specs.declared.process.Process.{Process}
 use Rattle.process_record.specs.declared.process.State.{State}
 use Rattle.process_record.specs.declared.process.State.TheVariants.{Running, Yielded, Faulted, Terminated}
@@ -66,13 +63,13 @@ use Rattle.kernel_model.specs.Parts.{failed_swap}
 use Rattle.kernel_model.specs.Parts.{object_permits, own_swapped}
 use Rattle.kernel_model.specs.Calls.{refused_with, restart, restarted_with, served, swap_by, swap_refusal}
 use Rattle.kernel_model.specs.Parts.{swapped}
-use Rattle.kernel_model.specs.Calls.{comes_to, taken_by, yield_for, yield_now, yielding}
+use Rattle.kernel_model.specs.Calls.{taken_by, yield_for, yield_now, yielding}
 use Rattle.kernel_model.specs.Turn.{TurnTrace, Turned, turn_counted, at_turn_end, faulted, idle}
 use Rattle.kernel_model.specs.Parts.{calls, delivery}
-use Rattle.kernel_model.specs.Turn.{made, settled, surroundings, turned, turn_in}
+use Rattle.kernel_model.specs.Turn.{made, surroundings, turned, turn_in}
 use Rattle.kernel_model.specs.Parts.{instructed, unknown_call}
 use Rattle.kernel_model.specs.Laws.{CanStartAgain}
-use Rattle.kernel_histories.specs.Deliveries.{First, FirstOf, IsSubscribed, Nothing, Scheduling, left_by_turn}
+use Rattle.kernel_histories.specs.Deliveries.{Takes, IsSubscribed, Nothing, Scheduling, left_by_turn}
 use Rattle.kernel_histories.specs.Deliveries.{place_taken}
 use Rattle.kernel_histories.specs.Deliveries.{removed, subscription_key, taken_by_yield, takes_away, upcalls, wait_in}
 use Rattle.kernel_histories.specs.Deliveries.{wait_of}
@@ -82,6 +79,9 @@ use Rattle.kernel_model.proofs.Comes.{plain}
 use Rattle.kernel_model.proofs.Handed.{is_handed}
 use Rattle.kernel_model.proofs.Memops.{by_test, memop_gives}
 use Rattle.kernel_model.proofs.Restarts.{restarts}
+use Rattle.kernel_model.proofs.Turning.{of_denial}
+use Rattle.kernel_model.proofs.Yields.{flag_rest, of_yield}
+use Rattle.kernel_histories.proofs.Takings.{taken_of, takes_nothing}
 use Rattle.kernel_model.proofs.Places.{free_turned}
 use Rattle.kernel_histories.proofs.Swaps.{refused_hands_nothing}
 
@@ -337,13 +337,7 @@ module _ (promise : Promise) (around : CommandContext) (r : Record) where
 
   -- a yield
   flag_pending : (at byte : ℕ) → (with_flag at byte r.own).inbox.pending ≡ r.own.inbox.pending
-  flag_pending at byte = by_place (lies_in_ram r.own.layout at 1)
-    where
-      by_place : (b : Bool)
-          → (cond b (record r.own { ram = slice_set r.own.ram (at - r.own.layout.start) byte }) r.own).inbox.pending
-          ≡ r.own.inbox.pending
-      by_place true = refl
-      by_place false = refl
+  flag_pending at byte = ap (λ (o : Own). o.inbox.pending) (flag_rest at byte r.own)
 
   of_yield_now : (at : ℕ) (first : Option Scheduled) → slice_get r.own.inbox.pending 0 ≡ first
       → Leaves r (yield_now r at first).after (λ waiting. filter (λ s. true) (remove waiting 0))
@@ -378,9 +372,17 @@ module _ (promise : Promise) (around : CommandContext) (r : Record) where
           (law.grants r.own _ refl) rest
       by_first (Some upcall) some = leaves_rest law r _ _ place refl refl (law.grants r.own _ refl) rest
 
-  of_yield : LeavesByCall r 0 (yielding r (a0 r.process.regs) (a1 r.process.regs) (a2 r.process.regs))
-  unfolding yielding
-  of_yield = by_zero (number == 0) refl
+  yields : LeavesByCall r 0 (yielding r (a0 r.process.regs) (a1 r.process.regs) (a2 r.process.regs))
+  yields =
+      of_yield (LeavesByCall r 0) r number one two (record {
+        none = λ zero is. by_leaves r 0 _ (so _ (at_number 0 zero) (of_yield_now one None is));
+        first = λ upcall zero is. by_leaves r 0 _ (so _ (at_number 0 zero) (of_yield_now one (Some upcall) is));
+        waits = λ is. by_leaves r 0 _ (so _ (at_number 1 is) (goes (waiting r.process)));
+        waits_for = λ asks is. by_leaves r 0 _ (so _ (at_number 2 asks) (of_yield_for one two None is));
+        found = λ upcall asks is. by_leaves r 0 _ (so _ (at_number 2 asks) (of_yield_for one two (Some upcall) is));
+        goes_on = λ zero asks.
+            by_leaves r 0 _ (so _ (takes_nothing number one two zero asks) (goes (after_call r.process)));
+      })
     where
       number : ℕ
       number = a0 r.process.regs
@@ -391,59 +393,20 @@ module _ (promise : Promise) (around : CommandContext) (r : Record) where
       two : ℕ
       two = a2 r.process.regs
 
-      pending : List Scheduled
-      pending = r.own.inbox.pending
+      at_number : (n : ℕ) → number ≡ n → taken_of number one two ≡ taken_of n one two
+      at_number n is = ap (λ (k : ℕ). taken_of k one two) is
 
-      waits : Served
-      waits = comes_to (with_process r (waiting r.process)) Waits
+      -- by what it takes
+      Leaving : Record → Takes → Type 0
+      Leaving s taking =
+          Leaves r s (λ waiting. filter (λ x. true) (removed (place_taken taking (upcalls waiting)) waiting))
 
-      goes_on : Served
-      goes_on = comes_to (with_process r (after_call r.process)) GoesOn
-
-      asks : Served
-      asks = yield_for r one two (slice_get pending (place_of one two pending))
-
-      -- by whether the number is 0, and whether it is 2, as the registers tell it
-      Leaving : Record → Bool → Bool → Type 0
-      Leaving s zero for_one = Leaves r s (λ waiting. filter (λ x. true)
-          (removed (place_taken (cond zero First (cond for_one (FirstOf one two) Nothing)) (upcalls waiting)) waiting))
-
-      told_so : (zero for_one : Bool) (s : Record) → (number == 0) ≡ zero → (number == 2) ≡ for_one
-          → Leaving s zero for_one → Leaving s (number == 0) (number == 2)
-      told_so zero for_one s e f leaves =
-          subst (λ (c : Bool). Leaving s c (number == 2)) (sym e)
-          (subst (λ (c : Bool). Leaving s zero c) (sym f) leaves)
+      so : (s : Record) {taking : Takes} → taken_of number one two ≡ taking → Leaving s taking
+          → Leaving s (taken_of number one two)
+      so s is leaves = subst (Leaving s) (sym is) leaves
 
       goes : (process : Process) → Leaves r (with_process r process) (λ waiting. filter (λ x. true) waiting)
       goes process = leaves_all law r _ _ refl refl (law.grants r.own r.own refl) passes_all
-
-      by_first : (number == 0) ≡ true → (first : Option Scheduled) → slice_get pending 0 ≡ first
-          → LeavesByCall r 0 (yield_now r one first)
-      by_first e None is = by_leaves r 0 _ (told_so true (number == 2) _ e refl (of_yield_now one None is))
-      by_first e (Some upcall) is =
-          by_leaves r 0 _ (told_so true (number == 2) _ e refl (of_yield_now one (Some upcall) is))
-
-      by_found : (number == 0) ≡ false → (number == 2) ≡ true → (first : Option Scheduled)
-          → slice_get pending (place_of one two pending) ≡ first → LeavesByCall r 0 (yield_for r one two first)
-      by_found e f None is = by_leaves r 0 _ (told_so false true _ e f (of_yield_for one two None is))
-      by_found e f (Some upcall) is = by_leaves r 0 _ (told_so false true _ e f (of_yield_for one two (Some upcall) is))
-
-      by_two : (number == 0) ≡ false → (b : Bool) → (number == 2) ≡ b → LeavesByCall r 0 (cond b asks goes_on)
-      by_two e true f = by_found e f (slice_get pending (place_of one two pending)) refl
-      by_two e false f = by_leaves r 0 _ (told_so false false _ e f (goes (after_call r.process)))
-
-      by_one : (number == 0) ≡ false → (b : Bool) → (number == 1) ≡ b
-          → LeavesByCall r 0 (cond b waits (cond (number == 2) asks goes_on))
-      by_one e true f =
-          by_leaves r 0 _ (told_so false false _ e (ap (λ (n : ℕ). n == 2) (eqb-true number 1 f))
-          (goes (waiting r.process)))
-      by_one e false f = by_two e (number == 2) refl
-
-      by_zero : (b : Bool) → (number == 0) ≡ b
-          → LeavesByCall r 0 (cond b (yield_now r one (slice_get pending 0))
-          (cond (number == 1) waits (cond (number == 2) asks goes_on)))
-      by_zero true e = by_first e (slice_get pending 0) refl
-      by_zero false e = by_one e (number == 1) refl
 
   -- a subscribe that the registers make
   of_subscribed : (left : List Scheduling → List Scheduling) → let swap = swap_in Upcall r.process.regs in
@@ -577,33 +540,26 @@ LeavesByTurn r t = Leaves r t.after (left_by_turn (wait_of r) t.told)
 module _ (promise : Promise) (settings : Settings) (time : ℕ) where
   of_fault : (r : Record) (denial : Denial) → CanStartAgain r
       → Leaves r (faulted settings r denial).after (left_by_turn None (faulted settings r denial).told)
-  of_fault r denial can = by_action (decision settings.policy r.process.restarts)
-    where
-      around : CommandContext
-      around = surroundings settings time r
-
-      s : Record
-      s = with_process r (after_fault r.process denial)
-
-      by_action : (action : Action) → Leaves r (settled s action) (λ waiting. filter (λ x. false) waiting)
-      by_action Stop = of_end promise around r _ passes_none _
-      by_action Restart =
-          let leaves = of_restart promise around s _ passes_none can in
-          record {
-            object = leaves.object;
-            more = leaves.more;
-            pending = leaves.pending;
-            one = leaves.one;
-            sound =
-                leaves.sound;
-          }
+  of_fault r denial can =
+      let s = with_process r (after_fault r.process denial) in
+      let around = surroundings settings time r in
+      let left = λ (waiting : List Scheduling). filter (λ (x : Scheduling). false) waiting in
+      let again = of_restart promise around s left passes_none can in
+      of_denial (λ x. Leaves r x left) settings r denial (of_end promise around r left passes_none _)
+      (record {
+        object = again.object;
+        more = again.more;
+        pending = again.pending;
+        one = again.one;
+        sound = again.sound;
+      })
 
   -- a call of each class, or none
   of_calls : (r : Record) (accesses : List MemoryAccess) → CanStartAgain r
       → let t = calls settings time r accesses (call_of r.process.regs) in Leaves r t.after (left_by_turn None t.told)
   unfolding by_form
   of_calls r accesses can =
-      of_registers Leaving regs (λ is. on 0 (yield_in regs) is (of_yield promise around r))
+      of_registers Leaving regs (λ is. on 0 (yield_in regs) is (yields promise around r))
       (λ kind is. on (class_of kind) (forms.Swap (swap_in kind regs)) is (of_kind promise around r kind))
       (λ is. on 2 (command_in regs) is (of_command promise around r _ _ _ _ _ refl))
       (λ is. on 5 (memop_in regs) is (of_memop promise around r _ _))

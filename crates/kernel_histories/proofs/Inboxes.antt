@@ -3,7 +3,7 @@
 -- by the end of the instruction and by the state of the process, as the definition of a turn goes.
 use Rattle.std.proofs.Math.Bool.{and-false}
 use Rattle.std.proofs.Common.{◌≡◌, ℕ, ◌==◌, ◌||◌, ◌&&◌, Bool, true, false, cond, not, List, [], ◌∷◌, filter, slice_get}
-use Rattle.std.proofs.Common.{Option, None, Some, is_some, Result, Ok, Err, refl, sym, ap, ap₂, subst, ◌∙◌, eqb-true}
+use Rattle.std.proofs.Common.{Option, None, Some, is_some, Result, Ok, Err, refl, sym, ap, ap₂, subst, ◌∙◌}
 use Rattle.std.specs.Prelude.{is_none, remove}
 use Rattle.std.specs.Option.{option_map}
 use Rattle.std.specs.Result.{result_err}
@@ -18,9 +18,6 @@ use Rattle.tk_base.specs.declared.upcall.Upcall.{Upcall as Scheduled}
 use Rattle.tk_base.specs.declared.upcall.Wait.{Wait}
 use Rattle.tk_base.specs.declared.upcall.Wait.TheVariants.{No, For, Given}
 use Rattle.tk_base.specs.Regs.{Registers}
-use Rattle.fault_policy.specs.declared.Action.{Action}
-use Rattle.fault_policy.specs.declared.Action.TheVariants.{Stop, Restart}
-use Rattle.fault_policy.specs.Policy.{decision}
 use Rattle.rv32_model.specs.declared.turn_end.TurnEnd.{TurnEnd}
 use Rattle.rv32_model.specs.declared.turn_end.TurnEnd.TheVariants as ends
 use Rattle.rv32_model.specs.UserTurn.{MemoryAccess}
@@ -40,20 +37,20 @@ use Rattle.driver_model.specs.Drivers.{CommandContext, CommandHandler, handler_o
 use Rattle.driver_model.specs.Steps.{own_after}
 use Rattle.driver_model.specs.Upcalls.{scheduled_if}
 use Rattle.process_record.specs.declared.emit.CallMade.{CallMade}
-use Rattle.process_record.specs.declared.outcome.Outcome.TheVariants.{Again, Ended, GoesOn, Replied, Waits}
+use Rattle.process_record.specs.declared.outcome.Outcome.TheVariants.{Again, Ended, Replied}
 use Rattle.process_record.specs.declared.process.State.{State}
 use Rattle.process_record.specs.declared.process.State.TheVariants.{Running, Yielded, Faulted, Terminated}
-use Rattle.process_record.specs.Process.{after_call, after_end, waiting}
+use Rattle.process_record.specs.Process.{after_call, after_end}
 use Rattle.process_record.specs.Parts.{after_fault}
 use Rattle.kernel_model.specs.Record.{Record, instruction, record_with_step, with_effect}
 use Rattle.kernel_model.specs.declared.settings.Settings.{Settings}
-use Rattle.kernel_model.specs.Calls.{Served, by_form, comes_to, driver_answered, ended, exit, failure_of, memop}
+use Rattle.kernel_model.specs.Calls.{Served, by_form, driver_answered, ended, exit, failure_of, memop}
 use Rattle.kernel_model.specs.Calls.{refused_with, restart, served, swap_by, swap_refusal, taken_by, yield_for}
 use Rattle.kernel_model.specs.Calls.{yield_now, yielding}
 use Rattle.kernel_model.specs.Parts.{calls, delivery, failed_swap, object_permits, swapped, unknown_call, with_process}
 use Rattle.kernel_model.specs.Turn.{Act, Alarmed, Edge, Event, Input, NoWord, Stored, Taken, Turn, Word, WriteDone}
 use Rattle.kernel_model.specs.Turn.{Turned, apply, at_turn_end, faulted, idle, is_turn, made, operated}
-use Rattle.kernel_model.specs.Turn.{settled, surroundings, turn_counted, turn_in, turned}
+use Rattle.kernel_model.specs.Turn.{surroundings, turn_counted, turn_in, turned}
 use Rattle.kernel_model.specs.Laws.{CanStartAgain}
 use Rattle.kernel_model.specs.Histories.{class_of, ends_life, handed_by}
 use Rattle.kernel_model.proofs.Classes.{command_in, exit_in, memop_in, of_registers, swap_in, yield_in}
@@ -61,9 +58,12 @@ use Rattle.kernel_model.proofs.Comes.{plain}
 use Rattle.kernel_model.proofs.Memops.{by_test, memop_gives}
 use Rattle.kernel_model.proofs.Places.{free_turned}
 use Rattle.kernel_model.proofs.Restarts.{restarts}
+use Rattle.kernel_model.proofs.Turning.{of_denial}
+use Rattle.kernel_model.proofs.Yields.{of_yield}
+use Rattle.kernel_histories.proofs.Takings.{taken_of, takes_nothing}
 use Rattle.kernel_model.proofs.Steps.{IsAnswer, of_operated, of_told}
 use Rattle.kernel_laws.proofs.Between.{of_each_answer, of_each_turn}
-use Rattle.kernel_laws.proofs.Commands.{command_leaves}
+use Rattle.kernel_model.proofs.Commands.{command_leaves}
 use Rattle.kernel_laws.proofs.Scheduled.{flag_inbox, step_inbox, told_inbox}
 use Rattle.kernel_histories.specs.Deliveries.{First, FirstOf, Nothing, Takes, place_taken, removed, subscription_key}
 use Rattle.kernel_histories.specs.Deliveries.{taken_by_yield, wait_in, wait_of}
@@ -193,9 +193,17 @@ module _ (r : Record) where
           sym (ap₂ left (all_pass (remove pending place) ∙ none_there pending place none) none)
       by_first (Some upcall) some = sym (ap₂ left (all_pass (remove pending place)) some)
 
-  of_yield : ExactByCall r 0 (yielding r (a0 regs) (a1 regs) (a2 regs))
-  unfolding yielding
-  of_yield = by_zero (number == 0) refl
+  yields : ExactByCall r 0 (yielding r (a0 regs) (a1 regs) (a2 regs))
+  yields =
+      of_yield (ExactByCall r 0) r number one two (record {
+        none = λ zero is. by_exact r 0 _ (λ can. so _ (at_number 0 zero) (now_leaves one None is));
+        first = λ upcall zero is. by_exact r 0 _ (λ can. so _ (at_number 0 zero) (now_leaves one (Some upcall) is));
+        waits = λ is. by_exact r 0 _ (λ can. so _ (at_number 1 is) (all_left inbox));
+        waits_for = λ asks is. by_exact r 0 _ (λ can. so _ (at_number 2 asks) (for_leaves one two None is));
+        found = λ upcall asks is. by_exact r 0 _ (λ can. so _ (at_number 2 asks) (for_leaves one two (Some upcall) is));
+        goes_on = λ zero asks.
+            by_exact r 0 _ (λ can. so _ (takes_nothing number one two zero asks) (all_left inbox));
+      })
     where
       number : ℕ
       number = a0 regs
@@ -206,54 +214,12 @@ module _ (r : Record) where
       two : ℕ
       two = a2 regs
 
-      asks : Served
-      asks = yield_for r one two (slice_get pending (place_of one two pending))
+      at_number : (n : ℕ) → number ≡ n → taken_of number one two ≡ taken_of n one two
+      at_number n is = ap (λ (k : ℕ). taken_of k one two) is
 
-      waits : Served
-      waits = comes_to (with_process r (waiting r.process)) Waits
-
-      goes_on : Served
-      goes_on = comes_to (with_process r (after_call r.process)) GoesOn
-
-      -- by whether the number is 0, and whether it is 2, as the registers tell it
-      Leaving : Inbox → Bool → Bool → Type 0
-      Leaving later zero for_one = later ≡ taken_so (cond zero First (cond for_one (FirstOf one two) Nothing))
-
-      told_so : (zero for_one : Bool) (later : Inbox) → (number == 0) ≡ zero → (number == 2) ≡ for_one
-          → Leaving later zero for_one → Leaving later (number == 0) (number == 2)
-      told_so zero for_one later e f leaves =
-          subst (λ (c : Bool). Leaving later c (number == 2)) (sym e)
-          (subst (λ (c : Bool). Leaving later zero c) (sym f) leaves)
-
-      by_first : (number == 0) ≡ true → (first : Option Scheduled) → slice_get pending 0 ≡ first
-          → ExactByCall r 0 (yield_now r one first)
-      by_first e None is =
-          by_exact r 0 _ (λ can. told_so true (number == 2) _ e refl (now_leaves one None is))
-      by_first e (Some upcall) is =
-          by_exact r 0 _ (λ can. told_so true (number == 2) _ e refl (now_leaves one (Some upcall) is))
-
-      by_found : (number == 0) ≡ false → (number == 2) ≡ true → (first : Option Scheduled)
-          → slice_get pending (place_of one two pending) ≡ first → ExactByCall r 0 (yield_for r one two first)
-      by_found e f None is = by_exact r 0 _ (λ can. told_so false true _ e f (for_leaves one two None is))
-      by_found e f (Some upcall) is =
-          by_exact r 0 _ (λ can. told_so false true _ e f (for_leaves one two (Some upcall) is))
-
-      by_two : (number == 0) ≡ false → (b : Bool) → (number == 2) ≡ b → ExactByCall r 0 (cond b asks goes_on)
-      by_two e true f = by_found e f (slice_get pending (place_of one two pending)) refl
-      by_two e false f = by_exact r 0 _ (λ can. told_so false false _ e f (all_left inbox))
-
-      by_one : (number == 0) ≡ false → (b : Bool) → (number == 1) ≡ b
-          → ExactByCall r 0 (cond b waits (cond (number == 2) asks goes_on))
-      by_one e true f =
-          by_exact r 0 _ (λ can. told_so false false _ e (ap (λ (n : ℕ). n == 2) (eqb-true number 1 f))
-          (all_left inbox))
-      by_one e false f = by_two e (number == 2) refl
-
-      by_zero : (b : Bool) → (number == 0) ≡ b
-          → ExactByCall r 0 (cond b (yield_now r one (slice_get pending 0))
-          (cond (number == 1) waits (cond (number == 2) asks goes_on)))
-      by_zero true e = by_first e (slice_get pending 0) refl
-      by_zero false e = by_one e (number == 1) refl
+      so : (later : Inbox) {taking : Takes} → taken_of number one two ≡ taking → later ≡ taken_so taking
+          → later ≡ taken_so (taken_of number one two)
+      so later is leaves = leaves ∙ ap taken_so (sym is)
 
   -- a swap, which is refused or made
   of_swap : (n : ℕ) (swap : Swap) → ExactByCall r n (swap_by r swap None) → ExactByCall r n (swapped r swap)
@@ -339,20 +305,16 @@ module _ (r : Record) where
 -- the turn of a process
 module _ (law : OnlyHandingChangesPairs) (settings : Settings) (time : ℕ) where
   of_fault : (r : Record) (denial : Denial) → Exact r None (faulted settings r denial)
-  of_fault r denial can = by_action (decision settings.policy r.process.restarts)
-    where
-      s : Record
-      s = with_process r (after_fault r.process denial)
-
-      by_action : (action : Action) → (settled s action).own.inbox ≡ none_left r.own.inbox
-      by_action Stop = refl
-      by_action Restart = restarts (λ x. x.own.inbox ≡ none_left r.own.inbox) s (can refl) (λ h m. refl)
+  of_fault r denial can =
+      let s = with_process r (after_fault r.process denial) in
+      of_denial (λ x. x.own.inbox ≡ none_left r.own.inbox) settings r denial refl
+      (restarts (λ x. x.own.inbox ≡ none_left r.own.inbox) s (can refl) (λ h m. refl))
 
   of_calls : (r : Record) (accesses : List MemoryAccess)
       → Exact r None (calls settings time r accesses (call_of r.process.regs))
   unfolding by_form
   of_calls r accesses =
-      of_registers Leaving regs (λ is. on 0 (yield_in regs) is (of_yield r))
+      of_registers Leaving regs (λ is. on 0 (yield_in regs) is (yields r))
       (λ kind is. on (class_of kind) (forms.Swap (swap_in kind regs)) is (of_kind r kind))
       (λ is. on 2 (command_in regs) is (of_taken r law around (handler_of (a0 regs)) refl))
       (λ is. on 5 (memop_in regs) is (of_memop r _ _))

@@ -2,13 +2,13 @@
 -- `Knows`: each pair held is the one that the turns so far told last, as long as the process may have a turn. A swap
 -- hands one pair and leaves all others; other calls leave all; a new life has none.
 use Rattle.std.proofs.Common.{◌≡◌, ◌≢◌, ◌<◌, ◌≤◌, ℕ, ◌==◌, ◌&&◌, nat_lt, Bool, true, false, cond, List, [], ◌∷◌}
-use Rattle.std.proofs.Common.{length, slice_get, slice_set, Option, None, Some, is_none, is_some, unwrap_or, Result}
+use Rattle.std.proofs.Common.{length, slice_set, Option, None, Some, is_none, is_some, unwrap_or, Result}
 use Rattle.std.proofs.Common.{Ok, Err, refl}
 use Rattle.std.proofs.Common.{ap, sym, subst, ◌∙◌, arith, eqb-true, eq-eqb, ne_eqb, ◌||◌}
 use Rattle.std.specs.Prelude.{slice_index}
 use Rattle.std.proofs.Math.Bool.{and-false}
 use Rattle.std.proofs.Math.Seq.{lt-length-set}
-use Rattle.std.proofs.lemmas.Bool.{false≢true}
+use Rattle.std.proofs.lemmas.Bool.{false≢true, or_parts, and_from, and_parts}
 use Rattle.std.proofs.lemmas.Bool.Decides.{nat_tests}
 use Rattle.std.proofs.lemmas.List.{get_or-set_same, get_or-set_other, get_or_past, places}
 use Rattle.tk_base.specs.Call.{error_of}
@@ -16,11 +16,7 @@ use Rattle.tk_base.specs.declared.access.Denial.{Denial}
 use Rattle.tk_base.specs.declared.call.CallRule.{CallRule}
 use Rattle.tk_base.specs.declared.call.CallRule.TheVariants.{NoOperation, Permission}
 use Rattle.tk_base.specs.Regs.{Registers}
-use Rattle.tk_base.specs.declared.upcall.Upcall.{Upcall as Scheduled}
 use Rattle.tbf_headers.specs.Meaning.{header_reading}
-use Rattle.fault_policy.specs.declared.Action.{Action}
-use Rattle.fault_policy.specs.declared.Action.TheVariants.{Stop, Restart}
-use Rattle.fault_policy.specs.Policy.{decision}
 use Rattle.rv32_model.specs.declared.turn_end.TurnEnd.{TurnEnd}
 use Rattle.rv32_model.specs.declared.turn_end.TurnEnd.TheVariants as ends
 use Rattle.rv32_model.specs.UserTurn.{MemoryAccess}
@@ -44,10 +40,9 @@ use Rattle.syscall_abi.specs.declared.reply.Reply.{Reply}
 use Rattle.syscall_abi.specs.declared.reply.Reply.TheVariants.{Failure, FailureU32U32, SuccessU32U32}
 use Rattle.process_record.specs.declared.emit.CallMade.{CallMade}
 use Rattle.process_record.specs.declared.outcome.Outcome.{Outcome}
-use Rattle.process_record.specs.declared.outcome.Outcome.TheVariants.{GoesOn, Replied, Waits, Ended, Again}
+use Rattle.process_record.specs.declared.outcome.Outcome.TheVariants.{Replied, Ended, Again}
 use Rattle.process_record.specs.declared.process.State.{State}
 use Rattle.process_record.specs.declared.process.State.TheVariants.{Running, Yielded, Faulted, Terminated}
-use Rattle.process_record.specs.Process.{after_call, waiting}
 use Rattle.process_record.specs.Parts.{after_exit, after_fault}
 use Rattle.kernel_model.specs.Record.{Record, instruction, with_effect, record_with_step}
 use Rattle.kernel_model.specs.Parts.{with_process}
@@ -56,12 +51,12 @@ use Rattle.kernel_model.specs.Calls.{Served, driver_answered, by_form, exit, fai
 use Rattle.kernel_model.specs.Parts.{object_permits}
 use Rattle.kernel_model.specs.Calls.{refused_with, restart, served, swap_by, swap_refusal, taken_by}
 use Rattle.kernel_model.specs.Parts.{swapped}
-use Rattle.kernel_model.specs.Calls.{comes_to, yield_for, yield_now, yielding}
+use Rattle.kernel_model.specs.Calls.{yielding}
 use Rattle.upcall_queue.specs.declared.inbox.Delivery.{Delivery}
-use Rattle.upcall_queue.specs.Pending.{due, place_of}
+use Rattle.upcall_queue.specs.Pending.{due}
 use Rattle.kernel_model.specs.Turn.{TurnTrace, Turned, arguments, called, turn_counted, at_turn_end}
 use Rattle.kernel_model.specs.Parts.{calls, delivery}
-use Rattle.kernel_model.specs.Turn.{faulted, yield_flag_of, idle, made, settled, surroundings, turned}
+use Rattle.kernel_model.specs.Turn.{faulted, yield_flag_of, idle, made, surroundings, turned}
 use Rattle.kernel_model.specs.Parts.{instructed}
 use Rattle.kernel_model.specs.Turn.{turn_in}
 use Rattle.kernel_model.specs.Parts.{unknown_call}
@@ -72,6 +67,8 @@ use Rattle.kernel_model.specs.Parts.{is_exit}
 use Rattle.kernel_model.proofs.Classes.{command_in, exit_in, memop_in, of_registers, swap_in, yield_in}
 use Rattle.kernel_model.proofs.Handed.{is_handed}
 use Rattle.kernel_model.proofs.Memops.{by_test, memop_gives}
+use Rattle.kernel_model.proofs.Turning.{of_denial}
+use Rattle.kernel_model.proofs.Yields.{kept_by_yield}
 use Rattle.kernel_model.proofs.Restarts.{restart_forgets, restart_object}
 use Rattle.kernel_model.proofs.Places.{of_turned}
 
@@ -106,17 +103,6 @@ pub record Follows (past : List TurnTrace) (t : Turned) : Type 0 where
 nothing : {X : Type 0} {P : Type 0} (x : X) → ◌≡◌ {A = Option X} None (Some x) → P
 nothing x e = cc
 
--- both tests
-both : (a b : Bool) → (a && b) ≡ true → (a ≡ true) × (b ≡ true)
-both true true e = (refl, refl)
-both true false e = absurd (false≢true e)
-both false b e = absurd (false≢true e)
-
-both_true : (a b : Bool) → a ≡ true → b ≡ true → (a && b) ≡ true
-both_true true true a b = refl
-both_true true false a b = b
-both_true false c a b = a
-
 -- kinds are told apart by the classes of their calls
 abbrev kind_of : ℕ → PairKind
 kind_of n =
@@ -137,24 +123,20 @@ same_kind a b e =
 abbrev pub is_of_swaps : ℕ → Bool
 is_of_swaps n = n == class_of Upcall || (n == class_of ReadOnly || (n == class_of ReadWrite || n == class_of Readable))
 
-neither : (a b : Bool) → (a || b) ≡ false → (a ≡ false) × (b ≡ false)
-neither true b e = absurd (false≢true (sym e))
-neither false b e = (refl, e)
-
 another_class : (n : ℕ) → is_of_swaps n ≡ false → (kind : PairKind) → (n == class_of kind) ≡ false
 another_class n apart kind = by_kind kind
   where
     buffers : (n == 4 || (n == 3 || n == 7)) ≡ false
-    buffers = (neither (n == 1) (n == 4 || (n == 3 || n == 7)) apart).1
+    buffers = (or_parts (n == 1) (n == 4 || (n == 3 || n == 7)) apart).1
 
     written : (n == 3 || n == 7) ≡ false
-    written = (neither (n == 4) (n == 3 || n == 7) buffers).1
+    written = (or_parts (n == 4) (n == 3 || n == 7) buffers).1
 
     by_kind : (k : PairKind) → (n == class_of k) ≡ false
-    by_kind Upcall = (neither (n == 1) (n == 4 || (n == 3 || n == 7)) apart).0
-    by_kind ReadOnly = (neither (n == 4) (n == 3 || n == 7) buffers).0
-    by_kind ReadWrite = (neither (n == 3) (n == 7) written).0
-    by_kind Readable = (neither (n == 3) (n == 7) written).1
+    by_kind Upcall = (or_parts (n == 1) (n == 4 || (n == 3 || n == 7)) apart).0
+    by_kind ReadOnly = (or_parts (n == 4) (n == 3 || n == 7) buffers).0
+    by_kind ReadWrite = (or_parts (n == 3) (n == 7) written).0
+    by_kind Readable = (or_parts (n == 3) (n == 7) written).1
 
 pub no_swap : (n : ℕ) → is_of_swaps n ≡ false → (kind : PairKind) → (class_of kind == n) ≡ false
 no_swap n apart kind =
@@ -281,18 +263,13 @@ module _ (law : OnlyHandingChangesPairs) (drivers : DriversLeavePairs) where
   denied : (past : List TurnTrace) (settings : Settings) (r : Record) (denial : Denial) → Knows past r
       → Follows past (faulted settings r denial)
   denied past settings r denial k = record {
-    after = by_action (decision settings.policy r.process.restarts);
+    after = of_denial (Remembers ((faulted settings r denial).told ∷ past)) settings r denial
+        (λ goes_on. absurd (false≢true (sym goes_on)))
+        (λ goes_on. known_anew past _ r (restart (with_process r (after_fault r.process denial))) k
+        (restart_forgets (with_process r (after_fault r.process denial)) k.application)
+        (restart_object (with_process r (after_fault r.process denial)) k.application) (λ key. refl));
     reply = λ made key pair none. nothing made none;
   }
-    where
-      s : Record
-      s = with_process r (after_fault r.process denial)
-
-      by_action : (action : Action) → Remembers ((faulted settings r denial).told ∷ past) (settled s action)
-      by_action Stop goes_on = absurd (false≢true (sym goes_on))
-      by_action Restart goes_on =
-          known_anew past _ r (restart s) k (restart_forgets s k.application) (restart_object s k.application)
-          (λ key. refl)
 
   -- the calls that leave all pairs
   module _ (r : Record) where
@@ -301,41 +278,9 @@ module _ (law : OnlyHandingChangesPairs) (drivers : DriversLeavePairs) where
         memop_gives (λ s. Keeps r s.after) r operation argument (λ rule. same_kept r _ refl refl)
         (λ reply. same_kept r _ refl refl) (λ new reply. same_kept r _ refl refl)
 
-    keeps_yield_now : (at : ℕ) (first : Option Scheduled) → Keeps r (yield_now r at first).after
-    keeps_yield_now at None = record { pairs = law.flag at 0 r.own; object = refl }
-    keeps_yield_now at (Some upcall) =
-        record { pairs = record { pairs = (law.flag at 1 r.own).pairs }; object = refl }
-
-    keeps_yield_for : (driver number : ℕ) (first : Option Scheduled) → Keeps r (yield_for r driver number first).after
-    keeps_yield_for driver number None = same_kept r _ refl refl
-    keeps_yield_for driver number (Some upcall) = same_kept r _ refl refl
-
     keeps_yield : (number a1 a2 : ℕ) → Keeps r (yielding r number a1 a2).after
-    unfolding yielding
     keeps_yield number a1 a2 =
-        by_test Leaves (number == 0) now (cond (number == 1) waits (cond (number == 2) asks goes_on))
-        (keeps_yield_now a1 (slice_get pending 0))
-        (by_test Leaves (number == 1) waits (cond (number == 2) asks goes_on) (same_kept r waits.after refl refl)
-        (by_test Leaves (number == 2) asks goes_on
-        (keeps_yield_for a1 a2 (slice_get pending (place_of a1 a2 pending))) (same_kept r goes_on.after refl refl)))
-      where
-        Leaves : Served → Type 0
-        Leaves s = Keeps r s.after
-
-        pending : List Scheduled
-        pending = r.own.inbox.pending
-
-        now : Served
-        now = yield_now r a1 (slice_get pending 0)
-
-        asks : Served
-        asks = yield_for r a1 a2 (slice_get pending (place_of a1 a2 pending))
-
-        waits : Served
-        waits = comes_to (with_process r (waiting r.process)) Waits
-
-        goes_on : Served
-        goes_on = comes_to (with_process r (after_call r.process)) GoesOn
+        let k = kept_by_yield r number a1 a2 in same_kept r (yielding r number a1 a2).after k.same.grants k.object
 
     keeps_answered : (c : Commanded) (answer : Result Reply CallRule) → HandsTheSame r.own (own_after c.step)
         → Keeps r (driver_answered (record_with_step r c.step) answer).after
@@ -399,9 +344,9 @@ module _ (law : OnlyHandingChangesPairs) (drivers : DriversLeavePairs) where
 
       its_key : (key : PairKey) → is_of key ≡ true → IsOf key kind driver number
       its_key key e =
-          let kinds = both (class r.process.regs == class_of key.kind) (driver == key.driver && number == key.number)
-          e in
-          let numbers = both (driver == key.driver) (number == key.number) kinds.1 in
+          let kinds = and_parts (class r.process.regs == class_of key.kind)
+          (driver == key.driver && number == key.number) e in
+          let numbers = and_parts (driver == key.driver) (number == key.number) kinds.1 in
           record {
             kind = sym (same_kind kind key.kind (ap (λ (c : ℕ). c == class_of key.kind) (sym is) ∙ kinds.0));
             driver = sym (eqb-true driver key.driver numbers.0);
@@ -411,8 +356,8 @@ module _ (law : OnlyHandingChangesPairs) (drivers : DriversLeavePairs) where
       another_key : (key : PairKey) → is_of key ≡ false → key.kind ≡ kind → key.driver ≡ driver → key.number ≢ number
       another_key key e k d n =
           false≢true (sym e
-          ∙ both_true _ _ (eq-eqb (class r.process.regs) (class_of key.kind) (is ∙ ap class_of (sym k)))
-          (both_true _ _ (eq-eqb driver key.driver (sym d)) (eq-eqb number key.number (sym n))))
+          ∙ and_from _ _ (eq-eqb (class r.process.regs) (class_of key.kind) (is ∙ ap class_of (sym k)))
+          (and_from _ _ (eq-eqb driver key.driver (sym d)) (eq-eqb number key.number (sym n))))
 
       hands : HandsOne kind driver number pair r.own (handing kind driver number pair r.own)
       hands = law.handing kind driver number pair r.own k.shape within

@@ -1,10 +1,11 @@
 -- What a turn takes of the upcalls that wait for its process: the one walk over turns. A law gives a case for each way
 -- of taking (`OfTakings`): nothing, the first or the first of one upcall by a yield, and the first as a process wakes
 -- that has yielded. What the registers tell of a yield is read off its number.
-use Rattle.std.proofs.Common.{◌≡◌, ℕ, ◌==◌, ◌&&◌, Bool, true, false, cond, List, [], Option, None, Some}
-use Rattle.std.proofs.Common.{slice_get, refl, sym, ap, subst, ◌∙◌, eqb-true}
+use Rattle.std.proofs.Common.{◌≡◌, ℕ, ◌==◌, ◌&&◌, Bool, true, false, cond, List, [], Option, None, Some, ◌∷◌}
+use Rattle.std.proofs.Common.{slice_get, refl, sym, ap, subst, ◌∙◌}
 use Rattle.std.specs.Prelude.{All, is_none}
 use Rattle.std.specs.Option.{option_map}
+use Rattle.std.proofs.Common.{ap₂}
 use Rattle.std.proofs.lemmas.List.Elements.{All-nil, All-cons}
 use Rattle.tk_base.specs.declared.call.CallRule.{CallRule}
 use Rattle.tk_base.specs.declared.call.CallRule.TheVariants.{Permission}
@@ -45,13 +46,11 @@ use Rattle.kernel_model.specs.Histories.{class_of}
 use Rattle.kernel_model.proofs.Classes.{command_in, exit_in, memop_in, of_registers, swap_in, yield_in}
 use Rattle.kernel_histories.proofs.Swaps.{no_swap}
 use Rattle.kernel_model.proofs.Memops.{by_test}
-use Rattle.kernel_laws.proofs.Refused.{only_counts}
+use Rattle.kernel_model.proofs.Yields.{of_yield}
+use Rattle.kernel_model.proofs.Turning.{only_counts}
 use Rattle.kernel_model.proofs.Steps.{of_step}
-use Rattle.kernel_model.proofs.Places.{free_turned}
-
-and_false : (b : Bool) → (b && false) ≡ false
-and_false true = refl
-and_false false = refl
+use Rattle.kernel_model.proofs.Places.{free_turned, same_some, same_there}
+use Rattle.std.proofs.Math.Bool.{and-false}
 
 -- a call of another class takes nothing that waits, nor does one that was refused
 not_of_class : (m : CallMade) → (m.class == 0) ≡ false → taken_by_call (Some m) ≡ Nothing
@@ -60,7 +59,16 @@ not_of_class m is = ap (λ (b : Bool). cond (b && is_none m.rule) (taken_by_yiel
 not_refused : (m : CallMade) (rule : CallRule) → m.rule ≡ Some rule → taken_by_call (Some m) ≡ Nothing
 not_refused m rule is =
     ap (λ (o : Option CallRule). cond (m.class == 0 && is_none o) (taken_by_yield m.args) Nothing) is
-    ∙ ap (λ (b : Bool). cond b (taken_by_yield m.args) Nothing) (and_false (m.class == 0))
+    ∙ ap (λ (b : Bool). cond b (taken_by_yield m.args) Nothing) (and-false (m.class == 0))
+
+-- what a yield of a number takes
+abbrev pub taken_of : ℕ → ℕ → ℕ → Takes
+taken_of number one two = cond (number == 0) First (cond (number == 2) (FirstOf one two) Nothing)
+
+pub takes_nothing : (number one two : ℕ) → (number == 0) ≡ false → (number == 2) ≡ false
+    → taken_of number one two ≡ Nothing
+takes_nothing number one two zero asks =
+    ap₂ (λ (b c : Bool). cond b First (cond c (FirstOf one two) Nothing)) zero asks
 
 -- what holds of a record before a turn and after it, by what the turn takes
 pub record OfTakings (P : Takes → Record → Record → Type 0) : Type 0 where
@@ -92,71 +100,40 @@ module _ (settings : Settings) (time : ℕ) (P : Takes → Record → Record →
   takes_none taking s is = subst (λ (t : Takes). P t r s) (sym is) (each.nothing r s)
 
   module _ (runs : is_yielded r.process.state ≡ false) where
-    of_yield : class regs ≡ 0 → ByCall (yielding counted (a0 regs) (a1 regs) (a2 regs))
-    unfolding yielding
-    of_yield class_is = by_zero (number == 0) refl
+    yields : class regs ≡ 0 → ByCall (yielding counted (a0 regs) (a1 regs) (a2 regs))
+    yields class_is =
+        of_yield ByCall counted (a0 regs) one two (record {
+          none = λ zero is. so (yield_now counted one None) refl (at_number 0 zero)
+              (subst (λ (o : Option Scheduled). P First r (yield_now counted one o).after) is (each.now r one runs));
+          first = λ upcall zero is. so (yield_now counted one (Some upcall)) refl (at_number 0 zero)
+              (subst (λ (o : Option Scheduled). P First r (yield_now counted one o).after) is (each.now r one runs));
+          waits = λ is. so (comes_to (with_process counted (waiting counted.process)) Waits) refl (at_number 1 is)
+              (each.nothing r _);
+          waits_for = λ asks is. so (yield_for counted one two None) refl (at_number 2 asks)
+              (subst (λ (o : Option Scheduled). P (FirstOf one two) r (yield_for counted one two o).after) is
+              (each.asks r one two runs));
+          found = λ upcall asks is. so (yield_for counted one two (Some upcall)) refl (at_number 2 asks)
+              (subst (λ (o : Option Scheduled). P (FirstOf one two) r (yield_for counted one two o).after) is
+              (each.asks r one two runs));
+          goes_on = λ zero asks. so (comes_to (with_process counted (after_call counted.process)) GoesOn) refl
+              (takes_nothing (a0 regs) one two zero asks) (each.nothing r _);
+        })
       where
-        number : ℕ
-        number = a0 regs
-
         one : ℕ
         one = a1 regs
 
         two : ℕ
         two = a2 regs
 
-        pending : List Scheduled
-        pending = r.own.inbox.pending
+        at_number : (n : ℕ) → a0 regs ≡ n → taken_of (a0 regs) one two ≡ taken_of n one two
+        at_number n is = ap (λ (k : ℕ). taken_of k one two) is
 
-        first : Served
-        first = yield_now counted one (slice_get pending 0)
-
-        asks : Served
-        asks = yield_for counted one two (slice_get pending (place_of one two pending))
-
-        waits : Served
-        waits = comes_to (with_process counted (waiting counted.process)) Waits
-
-        goes_on : Served
-        goes_on = comes_to (with_process counted (after_call counted.process)) GoesOn
-
-        -- what the registers tell of a call that broke no rule
-        told : Bool → Bool → Takes
-        told zero for_one = cond zero First (cond for_one (FirstOf one two) Nothing)
-
-        told_so : (s : Served) (zero for_one : Bool) → rule_shown s.outcome ≡ None → (number == 0) ≡ zero
-            → (number == 2) ≡ for_one → P (told zero for_one) r s.after → ByCall s
-        told_so s zero for_one none e f by =
-            subst (λ (c : ℕ). P (cond (c == 0 && is_none (rule_shown s.outcome))
-            (told (number == 0) (number == 2)) Nothing) r s.after) (sym class_is)
-            (subst (λ (o : Option CallRule). P (cond (is_none o) (told (number == 0) (number == 2)) Nothing) r s.after)
-            (sym none)
-            (subst (λ (c : Bool). P (told c (number == 2)) r s.after) (sym e)
-            (subst (λ (c : Bool). P (told zero c) r s.after) (sym f) by)))
-
-        now_broke_none : (o : Option Scheduled) → rule_shown (yield_now counted one o).outcome ≡ None
-        now_broke_none None = refl
-        now_broke_none (Some upcall) = refl
-
-        for_broke_none : (o : Option Scheduled) → rule_shown (yield_for counted one two o).outcome ≡ None
-        for_broke_none None = refl
-        for_broke_none (Some upcall) = refl
-
-        by_two : (number == 0) ≡ false → (b : Bool) → (number == 2) ≡ b → ByCall (cond b asks goes_on)
-        by_two e true f = told_so asks false true (for_broke_none _) e f (each.asks r one two runs)
-        by_two e false f = told_so goes_on false false refl e f (each.nothing r goes_on.after)
-
-        by_one : (number == 0) ≡ false → (b : Bool) → (number == 1) ≡ b
-            → ByCall (cond b waits (cond (number == 2) asks goes_on))
-        by_one e true f =
-            told_so waits false false refl e (ap (λ (n : ℕ). n == 2) (eqb-true number 1 f))
-            (each.nothing r waits.after)
-        by_one e false f = by_two e (number == 2) refl
-
-        by_zero : (b : Bool) → (number == 0) ≡ b
-            → ByCall (cond b first (cond (number == 1) waits (cond (number == 2) asks goes_on)))
-        by_zero true e = told_so first true (number == 2) (now_broke_none _) e refl (each.now r one runs)
-        by_zero false e = by_one e (number == 1) refl
+        so : (s : Served) {taking : Takes} → rule_shown s.outcome ≡ None → taken_of (a0 regs) one two ≡ taking
+            → P taking r s.after → ByCall s
+        so s none is holds =
+            subst (λ (t : Takes). P t r s.after)
+            (sym (ap₂ (λ (c : ℕ) (o : Option CallRule).
+            cond (c == 0 && is_none o) (taken_of (a0 regs) one two) Nothing) class_is none ∙ is)) holds
 
     of_served : (strict : Bool) (around : CommandContext) → class regs ≡ 0
         → ByCall (served strict around counted (yield_in regs))
@@ -165,7 +142,7 @@ module _ (settings : Settings) (time : ℕ) (P : Takes → Record → Record →
         let failure = failure_of (yield_in regs) Permission in
         let refusal = refused_with counted Permission failure in
         by_test ByCall (object_permits strict r.object (yield_in regs))
-        (yielding counted (a0 regs) (a1 regs) (a2 regs)) refusal (of_yield is)
+        (yielding counted (a0 regs) (a1 regs) (a2 regs)) refusal (yields is)
         (takes_none _ refusal.after (not_refused (made regs (Replied failure (Some Permission))) Permission refl))
 
     of_calls : (accesses : List MemoryAccess) → Takings None (calls settings time counted accesses (call_of regs))
@@ -218,38 +195,34 @@ module _ (settings : Settings) (time : ℕ) (P : Takes → Record → Record →
       subst (λ (t : Turned). Takings (wait_of r) t) (sym (free_turned settings time r free))
       (of_state of_ecall r.process.state refl)
 
--- so it is of the turn of a process in a step, if it has one
+-- what holds of the turn of a process, by what it leaves and tells, holds of what a step tells of it
+pub each_turn_told : (P : Record → TurnTrace → Type 0) (w : World) (slot : ℕ) (choice : Choice) (r s : Record)
+    → slice_get w.records slot ≡ Some r → slice_get (after w choice).records slot ≡ Some s
+    → (r.process.held ≡ false → let t = turned w.settings w.clock.time r in P t.after t.told)
+    → All (P s) (told_in slot w choice)
+each_turn_told P w slot choice r s is left turn =
+    of_step w slot (λ ended tolds o. (x : Record) → o ≡ Some x → All (P x) tolds)
+    (record {
+      stays = λ x e. All-nil (P x);
+      turn = λ q there free x e. at_turn q x (same_there (slice_get w.records slot) q r there is) free e;
+      answer = λ q there event answers x e. All-nil (P x);
+      act = λ q there verb x e. All-nil (P x);
+    })
+    choice s left
+  where
+    at_turn : (q x : Record) → q ≡ r → q.process.held ≡ false → Some (turned w.settings w.clock.time q).after ≡ Some x
+        → All (P x) ((turned w.settings w.clock.time q).told ∷ [])
+    at_turn q x same free e =
+        let t = turned w.settings w.clock.time r in
+        subst (λ (y : Record). All (P y) ((turned w.settings w.clock.time q).told ∷ [])) (same_some _ x e)
+        (subst (λ (y : Record). let t = turned w.settings w.clock.time y in All (P t.after) (t.told ∷ [])) (sym same)
+        (All-cons (P t.after) t.told [] (turn (ap (λ (y : Record). y.process.held) (sym same) ∙ free))
+        (All-nil (P t.after))))
+
 pub step_takes : (P : Takes → Record → Record → Type 0) → OfTakings P → CallsAreOfEcall
     → (w : World) (slot : ℕ) (choice : Choice) (r s : Record)
     → slice_get w.records slot ≡ Some r → slice_get (after w choice).records slot ≡ Some s
     → All (λ told. P (takes (wait_of r) told.call) r s) (told_in slot w choice)
 step_takes P each of_ecall w slot choice r s is left =
-    of_step w slot Of
-    (record {
-      stays = λ x e. All-nil (Tells x);
-      turn = λ q q_is free x e.
-          let t = turned w.settings w.clock.time q in
-          All-cons (Tells x) t.told []
-          (at_turn q x (same_record (slice_get w.records slot) q r q_is is) free e) (All-nil (Tells x));
-      answer = λ q q_is event answers x e. All-nil (Tells x);
-      act = λ q q_is verb x e. All-nil (Tells x);
-    })
-    choice s left
-  where
-    Tells : Record → TurnTrace → Type 0
-    Tells x told = P (takes (wait_of r) told.call) r x
-
-    Of : Bool → List TurnTrace → Option Record → Type 0
-    Of ended tolds o = (x : Record) → o ≡ Some x → All (Tells x) tolds
-
-    same_record : (o : Option Record) (x y : Record) → o ≡ Some x → o ≡ Some y → x ≡ y
-    same_record o x y e f = let both : Some x ≡ Some y = sym e ∙ f in cc
-
-    at_turn : (q x : Record) → q ≡ r → q.process.held ≡ false → Some (turned w.settings w.clock.time q).after ≡ Some x
-        → Tells x (turned w.settings w.clock.time q).told
-    at_turn q x same free e =
-        let is_x : (turned w.settings w.clock.time q).after ≡ x = cc in
-        subst (λ (y : Record). P (takes (wait_of r) (turned w.settings w.clock.time q).told.call) r y) is_x
-        (subst (λ (y : Record). P (takes (wait_of r) (turned w.settings w.clock.time y).told.call) r
-        (turned w.settings w.clock.time y).after) (sym same) (turn_takes w.settings w.clock.time P each r of_ecall
-        (ap (λ (y : Record). y.process.held) (sym same) ∙ free)))
+    each_turn_told (λ x told. P (takes (wait_of r) told.call) r x) w slot choice r s is left
+    (turn_takes w.settings w.clock.time P each r of_ecall)

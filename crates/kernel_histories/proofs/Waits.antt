@@ -8,7 +8,7 @@ use Rattle.std.specs.Prelude.{All, IsSomeAnd, filter_map, option_and_then, unwra
 use Rattle.std.specs.List.{cons_option, flat_map, list_any}
 use Rattle.std.specs.Option.{option_map}
 use Rattle.std.proofs.lemmas.Bool.{false≢true}
-use Rattle.std.proofs.lemmas.List.Elements.{All-nil, All-cons, All-head, All-tail, All-weaker}
+use Rattle.std.proofs.lemmas.List.Elements.{All-head, All-tail, All-weaker}
 use Rattle.tk_base.specs.declared.process.Choice.{Choice}
 use Rattle.tk_base.specs.declared.process.Choice.TheVariants.{Run, Device, Pass}
 use Rattle.tk_base.specs.declared.process.Verb.{Verb}
@@ -27,7 +27,7 @@ use Rattle.process_record.specs.Process.{after_turn, delivered}
 use Rattle.kernel_model.specs.Record.{Record}
 use Rattle.kernel_model.specs.declared.settings.Settings.{Settings}
 use Rattle.kernel_model.specs.Calls.{yield_for}
-use Rattle.kernel_model.specs.Turn.{Act, Event, Turn, TurnTrace, apply, is_turn, turn_counted, turn_in}
+use Rattle.kernel_model.specs.Turn.{Act, Event, Turn, apply, is_turn, turn_counted, turn_in}
 use Rattle.kernel_model.specs.Parts.{delivery}
 use Rattle.kernel_model.specs.Turn.{has_turn, may_turn, turned, Turned}
 use Rattle.kernel_model.specs.World.{Answer, DeviceStep, Label, Stepped, World, after, carried_out, device_step_of}
@@ -45,10 +45,11 @@ use Rattle.kernel_histories.specs.Deliveries.{wait_of}
 use Rattle.kernel_histories.specs.Waits.{HasNoTurn, WaitsGetTheFirst, awaited, upcalls_since, upcalls_told}
 use Rattle.kernel_model.proofs.Places.{of_stepped, ran-other, free_turned}
 use Rattle.kernel_model.proofs.Steps.{IsAnswer, TellsNoTurn, answer_changes, device_answers, ended_told, of_operated}
-use Rattle.kernel_model.proofs.Steps.{of_step, of_told}
+use Rattle.kernel_model.proofs.Steps.{of_told}
 use Rattle.kernel_model.proofs.Told.{labels_at, told_at, told_there}
 use Rattle.kernel_laws.proofs.Scheduled.{told_inbox}
-use Rattle.kernel_histories.proofs.Takings.{OfTakings, step_takes}
+use Rattle.kernel_histories.proofs.Takings.{OfTakings, step_takes, each_turn_told}
+use Rattle.std.proofs.Math.Bool.{and-false}
 
 -- what a process waits for after an upcall was scheduled for it, and after some
 abbrev wait_after : Wait → Scheduled → Wait
@@ -267,50 +268,20 @@ step_gives : (w : World) (slot : ℕ) (choice : Choice) (r s : Record) (args : L
     → wait_of r ≡ Some (Given args)
     → All (λ told. s.process ≡ delivered (Arguments args) (after_turn r.process)) (told_in slot w choice)
 step_gives w slot choice r s args is left waits =
-    of_step w slot Of
-    (record {
-      stays = λ x e. All-nil (Tells x);
-      turn = λ q there free x e.
-          All-cons (Tells x) (turned w.settings w.clock.time q).told [] (at_turn q x (same_record
-          (slice_get w.records slot) q r there is) free e)
-          (All-nil (Tells x));
-      answer = λ q there event answers x e. All-nil (Tells x);
-      act = λ q there verb x e. All-nil (Tells x);
-    })
-    choice s left
-  where
-    Tells : Record → TurnTrace → Type 0
-    Tells x told = x.process ≡ delivered (Arguments args) (after_turn r.process)
-
-    Of : Bool → List TurnTrace → Option Record → Type 0
-    Of ended tolds o = (x : Record) → o ≡ Some x → All (Tells x) tolds
-
-    same_record : (o : Option Record) (x y : Record) → o ≡ Some x → o ≡ Some y → x ≡ y
-    same_record o x y e f = let both : Some x ≡ Some y = sym e ∙ f in cc
-
-    at_turn : (q x : Record) → q ≡ r → q.process.held ≡ false → Some (turned w.settings w.clock.time q).after ≡ Some x
-        → x.process ≡ delivered (Arguments args) (after_turn r.process)
-    at_turn q x same free e =
-        let is_x : (turned w.settings w.clock.time q).after ≡ x = cc in
-        ap (λ (y : Record). y.process) (sym is_x)
-        ∙ ap (λ (y : Record). (turned w.settings w.clock.time y).after.process) same
-        ∙ given_turn w.settings w.clock.time r args (ap (λ (y : Record). y.process.held) (sym same) ∙ free) waits
+    each_turn_told (λ x told. x.process ≡ delivered (Arguments args) (after_turn r.process)) w slot choice r s is left
+    (λ free. given_turn w.settings w.clock.time r args free waits)
 
 -- one that waits for an upcall alone may have no turn
 waiting_rests : (r : Record) (driver number : ℕ) → wait_of r ≡ Some (For driver number) → may_turn r ≡ false
 waiting_rests r driver number waits = by_state r.process.state waits
   where
-    rests : (held : Bool) → (not held && false) ≡ false
-    rests true = refl
-    rests false = refl
-
     by_state : (state : State) → wait_in state r.own.inbox.wait ≡ Some (For driver number)
         → (not r.process.held && has_turn state (due r.own.inbox)) ≡ false
     by_state Running is = absurd (cc)
     by_state Yielded is =
         let alone : r.own.inbox.wait ≡ For driver number = cc in
         ap (λ (wait : Wait). not r.process.held && is_some (due_by wait r.own.inbox.pending)) alone
-        ∙ rests r.process.held
+        ∙ and-false (not r.process.held)
     by_state Faulted is = absurd (cc)
     by_state (Terminated code) is = absurd (cc)
 

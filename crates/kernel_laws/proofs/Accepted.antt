@@ -20,9 +20,9 @@ use Rattle.kernel_model.specs.Calls.{Served, by_form, driver_answered, exit, mem
 use Rattle.kernel_model.specs.Record.{Record, record_with_step}
 use Rattle.kernel_model.specs.Turn.{arguments, made, rule_shown, surroundings, turn_counted, turned}
 use Rattle.kernel_model.specs.declared.settings.Settings.{Settings}
-use Rattle.kernel_model.proofs.Classes.{command_in, exit_in, memop_in, yield_in}
+use Rattle.kernel_model.proofs.Classes.{command_in, exit_in, memop_in, yield_in, same_form}
 use Rattle.kernel_laws.proofs.Between.{of_turn}
-use Rattle.kernel_laws.proofs.Calling.{of_permitted}
+use Rattle.kernel_model.proofs.Calling.{of_permitted}
 
 -- what comes of a command of a process, by what takes it
 abbrev pub comes_of : CommandContext → Own → CommandHandler → CallMade → Commanded
@@ -47,9 +47,6 @@ of_class : (regs : Registers) (n : ℕ) → class regs ≡ n
     → call_of regs ≡ option_map (λ row. row.1) (find (λ row. row.0 == n) (class_table regs))
 unfolding call_of
 of_class regs n is = ap (λ (k : ℕ). option_map (λ row. row.1) (find (λ row. row.0 == k) (class_table regs))) is
-
-same_form : (form other : CallForm) → Some form ≡ Some other → form ≡ other
-same_form form other e = cc
 
 module _ (strict : Bool) (around : CommandContext) (r : Record) where
   abbrev Takes : Served → Type 0
@@ -93,8 +90,8 @@ of_accepted of_ecall settings time r =
     of_turn of_ecall settings time r (λ t. IfSome t.told.call (λ call. call.class ≡ 2 → call.rule ≡ None
     → Accepts (surroundings settings time r) r.own t.after.own t.acts call)) (record {
       nothing = tt;
-      went = λ s accesses kept inbox. tt;
-      faults = λ s denial kept. tt;
+      went = λ t is. tt;
+      faults = λ t denial is. tt;
       makes = λ accesses form is runs class accepted.
           takes settings.strict (surroundings settings time r) (turn_counted r) form is class accepted;
       delivers = λ next is yielded. tt;
@@ -120,8 +117,8 @@ accepted of_ecall n comes so settings time r =
     of_turn of_ecall settings time r (λ t.
     IfSome t.told.call (λ call. call.class ≡ n → call.rule ≡ None → HasCome comes r t.after call)) (record {
       nothing = tt;
-      went = λ s accesses kept inbox. tt;
-      faults = λ s denial kept. tt;
+      went = λ t is. tt;
+      faults = λ t denial is. tt;
       makes = λ accesses form is runs class accepted.
           let around = surroundings settings time (turn_counted r) in
           let here = comes (turn_counted r) (arguments r.process.regs) in

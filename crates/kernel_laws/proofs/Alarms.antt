@@ -2,7 +2,7 @@
 -- is due. So a choice that takes time is made where no alarm is due; and a pass leads no further than the nearest time,
 -- which is no later than that of each slot, by induction on the slots.
 use Rattle.std.proofs.Common.{◌≡◌, ◌≤◌, ◌<◌, ℕ, zero, suc, ◌+◌, ◌-◌, ◌*◌, ◌/◌, ◌==◌, Bool, true, false, cond, List, []}
-use Rattle.std.proofs.Common.{◌∷◌, find, Option, None, Some, is_some, slice_get, unwrap_or, refl, ap, sym, subst, ◌∙◌}
+use Rattle.std.proofs.Common.{◌∷◌, Option, None, Some, is_some, slice_get, unwrap_or, refl, ap, sym, subst, ◌∙◌}
 use Rattle.std.proofs.Common.{◌⊎◌, inl, inr, arith, eqb-true, fold, min, nat_le, ◌%◌, ◌^◌}
 use Rattle.std.specs.Prelude.{All, IfSome, IsSomeAnd}
 use Rattle.std.proofs.lemmas.Bool.Decides.{nat_tests}
@@ -26,19 +26,21 @@ use Rattle.driver_model.specs.Alarm.{ticks_left_of}
 use Rattle.driver_model.specs.Parts.{nearer_with}
 use Rattle.driver_model.specs.Console as console
 use Rattle.kernel_model.specs.Record.{Record, flash_of}
-use Rattle.kernel_model.specs.Turn.{Alarmed, NoWord, Taken, Word, WriteDone, turned}
-use Rattle.kernel_model.specs.World.{Answer, DeviceAnswer, Stepped, World, answer_label, can_act, carried_out}
-use Rattle.kernel_model.specs.World.{device_step_of, done, is_let, now_in, only_in, operating, owns_in, ran}
-use Rattle.kernel_model.specs.World.{receive_step, random_step, storing, telling_edge, transmitting, turn_label}
+use Rattle.kernel_model.specs.Turn.{Alarmed, NoWord, Taken, Word, WriteDone}
+use Rattle.kernel_model.specs.World.{Answer, DeviceAnswer, Stepped, World, answer_label, can_act}
+use Rattle.kernel_model.specs.World.{device_step_of, done, is_let, now_in, only_in, operating, owns_in}
+use Rattle.kernel_model.specs.World.{receive_step, random_step, storing, telling_edge, transmitting}
 use Rattle.kernel_model.specs.World.{lane_in, sending_time, work_in}
 use Rattle.kernel_model.specs.Parts.{alarmed}
 use Rattle.kernel_model.specs.Laws.{one_answered}
 use Rattle.kernel_model.specs.Run.{is_left, passes_to, next, next_time, ready_devices, ready_slots}
-use Rattle.kernel_model.proofs.Places.{of_stepped}
+use Rattle.kernel_model.proofs.Places.{none_there}
 use Rattle.kernel_model.proofs.Told.{edge_answer, of_device, told_labels, with_rest}
 use Rattle.kernel_laws.specs.Alarms.{AlarmsComeFirst, FiresWhenDue, IsDue, NextIsTheLeast, NoneFiresEarly}
 use Rattle.kernel_laws.specs.Alarms.{PassesStopAtAlarms, takes_time}
 use Rattle.kernel_laws.proofs.OneRun.{left_at, mapped_get, none_in_range}
+use Rattle.kernel_model.proofs.Runs.{found_passes}
+use Rattle.kernel_model.proofs.Labels.{labels_by_device}
 
 -- a choice that takes time is made where no device step is ready
 no_device : (d : Option Dev) (rest : Option Choice) (c : Choice) → option_or (option_map Device d) rest ≡ Some c
@@ -66,15 +68,11 @@ unfolding ready_device
 no_alarm_ready w e = second_not (can_act w dev.Event) (can_act w dev.Alarm) _ e
 
 -- where the alarm's step is not ready, no alarm is due of a process that may be served
-no_some : {X : Type 0} (o : Option X) → is_some o ≡ false → o ≡ None
-no_some None e = refl
-no_some (Some x) e = absurd (false≢true (sym e))
-
 none_due : (now : ℕ) (owns : List Own) (only : Option ℕ) (slot : ℕ) → is_some (due_for only now owns) ≡ false
     → is_let only slot ≡ true → slot + 1 ≤ SLOT_COUNT → has_due now (slice_get owns slot) ≡ false
 unfolding due_slot
 none_due now owns None slot e may within =
-    none_in_range (λ (s : ℕ). has_due now (slice_get owns s)) 0 SLOT_COUNT slot (no_some _ e) (omega arith)
+    none_in_range (λ (s : ℕ). has_due now (slice_get owns s)) 0 SLOT_COUNT slot (none_there _ e) (omega arith)
     (omega (arith, within))
 none_due now owns (Some only) slot e may within =
     ap (λ (s : ℕ). has_due now (slice_get owns s)) (eqb-true slot only may)
@@ -93,25 +91,17 @@ due_there w slot r there =
 pub alarms_come_first : AlarmsComeFirst
 alarms_come_first w c slot r few e takes there may =
     let within = slice_get_within w.records slot r there in
-    no_some (due_alarm (now_in w) r.own)
+    none_there (due_alarm (now_in w) r.own)
     (sym (due_there w slot r there)
     ∙ none_due (now_in w) (owns_in w) (only_in w) slot (no_alarm_ready w (none_ready w c e takes)) may
     (omega (arith, few, within)))
 
 -- the slot whose alarm fires has one that is due
-found : {X : Type 0} (p : X → Bool) (xs : List X) (x : X) → find p xs ≡ Some x → p x ≡ true
-found p [] x e = absurd (cc)
-found p (y ∷ ys) x e = by_test (p y) refl e (found p ys x)
-  where
-    by_test : (b : Bool) → p y ≡ b → cond b (Some y) (find p ys) ≡ Some x
-        → (find p ys ≡ Some x → p x ≡ true) → p x ≡ true
-    by_test true is f later = let same : y ≡ x = cc in ap p (sym same) ∙ is
-    by_test false is f later = later f
-
 is_due : (now : ℕ) (owns : List Own) (only : Option ℕ) (slot : ℕ) → due_for only now owns ≡ Some slot
     → has_due now (slice_get owns slot) ≡ true
 unfolding due_slot
-is_due now owns None slot e = found (λ (s : ℕ). has_due now (slice_get owns s)) (range_with_len 0 SLOT_COUNT) slot e
+is_due now owns None slot e =
+    found_passes (λ (s : ℕ). has_due now (slice_get owns s)) (range_with_len 0 SLOT_COUNT) slot e
 is_due now owns (Some only) slot e = by_test (has_due now (slice_get owns only)) refl e
   where
     by_test : (b : Bool) → has_due now (slice_get owns only) ≡ b → cond b (Some only) None ≡ Some slot
@@ -184,20 +174,9 @@ module _ (w : World) where
     stores = λ slot r first is. other slot r (storing (lane_in w) w.devices slot r) (λ now e. cc);
   }) device
 
-  of_ran : (slot : ℕ) (o : Option Record) → Fires (ran w slot o)
-  of_ran slot None = none
-  of_ran slot (Some r) =
-      All-cons (FiresWhenDue w) (turn_label slot w.clock.time (turned w.settings w.clock.time r).told) []
-      (λ now e. absurd (cc)) none
-
-  of_choice : (c : Choice) → Fires (carried_out w c)
-  unfolding carried_out
-  of_choice (Run slot) = of_ran slot (slice_get w.records slot)
-  of_choice (Device device) = of_devices device
-  of_choice (Pass ticks) = none
-
 pub none_fires_early : NoneFiresEarly
-none_fires_early w c = of_stepped (Fires w) w c (none w) (λ ready. of_choice w c)
+none_fires_early w =
+    labels_by_device (λ s. FiresWhenDue w) w (λ slot r is may now e. absurd (cc)) (of_devices w)
 
 -- Time that passes ends no later than when the next alarm becomes due: what is nearest is no later than each.
 abbrev pub IsUpTo : ℕ → Option ℕ → Type 0

@@ -2,9 +2,9 @@
 -- keeps, and then for the alarm and the buttons. A command to another driver leaves it, one to its own goes by the rows
 -- of the table (`LeavesOrSets`); so a turn leaves it, sets it as its command says, or it is as in a fresh life.
 use Rattle.std.proofs.Common.{◌≡◌, ◌⊎◌, inl, inr, ℕ, ◌+◌, ◌-◌, ◌*◌, ◌/◌, ◌%◌, ◌^◌, ◌==◌, Bool, true, false}
-use Rattle.std.proofs.Common.{cond, nat_lt}
+use Rattle.std.proofs.Common.{nat_lt}
 use Rattle.std.proofs.Common.{List, [], ◌∷◌, Option}
-use Rattle.std.proofs.Common.{None, Some, Result, Ok, Err, slice_get, slice_index, slice_set, unwrap_or}
+use Rattle.std.proofs.Common.{None, Some, Result, Ok, Err, slice_index, unwrap_or}
 use Rattle.std.proofs.Common.{option_map, refl}
 use Rattle.std.proofs.Common.{sym, ap, subst, ◌∙◌, arith, eqb-true}
 use Rattle.std.specs.Prelude.{IfSome, IsSomeAnd}
@@ -13,93 +13,54 @@ use Rattle.std.proofs.lemmas.Bool.{false≢true}
 use Rattle.tk_base.specs.Bits.{bit_of, has_bit, with_bit}
 use Rattle.tk_base.specs.declared.access.Denial.{Denial}
 use Rattle.tk_base.specs.declared.call.CallRule.{CallRule}
-use Rattle.tk_base.specs.declared.call.CallRule.TheVariants.{NoCommand, NoRoom, Range}
+use Rattle.tk_base.specs.declared.call.CallRule.TheVariants.{NoRoom, Range}
 use Rattle.tk_base.specs.declared.kinds.PairKind.{PairKind}
-use Rattle.tk_base.specs.declared.upcall.Upcall.{Upcall as Scheduled}
-use Rattle.fault_policy.specs.Policy.{decision}
-use Rattle.fault_policy.specs.declared.Action.{Action}
-use Rattle.fault_policy.specs.declared.Action.TheVariants.{Stop, Restart}
 use Rattle.grant_values.specs.declared.alarm.Armed.{Armed}
 use Rattle.grant_values.specs.declared.drivers.Driver.TheVariants.{Alarm, Buttons}
 use Rattle.grant_values.specs.Drivers.{drivers}
 use Rattle.grant_values.specs.Values.{AlarmValue, ButtonsValue, KeptValue, fresh_value}
-use Rattle.grant_model.specs.Grants.{Grant, grant_of, with_grant, with_pair}
+use Rattle.grant_model.specs.Grants.{Grant, grant_of}
 use Rattle.rv32_model.specs.Laws.{CallsAreOfEcall}
 use Rattle.syscall_abi.specs.declared.form.CallForm.{CallForm}
 use Rattle.syscall_abi.specs.declared.form.CallForm.TheVariants as forms
 use Rattle.syscall_abi.specs.declared.reply.Reply.{Reply}
 use Rattle.syscall_abi.specs.declared.reply.Reply.TheVariants.{Success, SuccessU32}
 use Rattle.syscall_abi.specs.Call.{call_of}
-use Rattle.upcall_queue.specs.Pending.{place_of}
-use Rattle.process_model.specs.Flag.{with_flag}
-use Rattle.process_model.specs.Handed.{handing, has_place, lies_in_ram, own_entering}
+use Rattle.process_model.specs.Handed.{handing, has_place, own_entering}
 use Rattle.process_model.specs.Own.{Own}
 use Rattle.process_model.specs.Served.{kept, with_kept}
 use Rattle.process_record.specs.declared.outcome.Outcome.TheVariants as outcomes
-use Rattle.process_record.specs.declared.process.State.TheVariants.{Faulted}
-use Rattle.process_record.specs.Process.{after_call, waiting}
 use Rattle.driver_model.specs.Alarm as alarm
 use Rattle.driver_model.specs.Buttons as buttons
 use Rattle.driver_model.specs.Commands.{BoardRequest, Commanded, accepting, by_number, refusing}
 use Rattle.driver_model.specs.Drivers.{CommandContext, CommandHandler, handler_by, handler_of}
 use Rattle.driver_model.specs.Steps.{own_after}
-use Rattle.kernel_model.specs.Record.{Record, record_with_step}
+use Rattle.kernel_model.specs.Record.{Record, with_effect}
 use Rattle.kernel_model.specs.declared.settings.Settings.{Settings}
-use Rattle.kernel_model.specs.Calls.{Served, comes_to, driver_answered, failure_of, refused_with}
-use Rattle.kernel_model.specs.Calls.{replied as replied_to, served, yield_for, yield_now, yielding}
+use Rattle.kernel_model.specs.Calls.{Served, failure_of, refused_with}
+use Rattle.kernel_model.specs.Calls.{replied as replied_to, served, yielding}
 use Rattle.kernel_model.specs.Parts.{with_break_at, with_process}
-use Rattle.kernel_model.specs.Turn.{Turned, faulted, made, settled, surroundings, turn_counted, turned}
+use Rattle.kernel_model.specs.Turn.{Turned, faulted, made, surroundings, turn_counted, turned}
 use Rattle.kernel_model.specs.World.{now_in}
-use Rattle.kernel_model.proofs.Memops.{by_test}
 use Rattle.process_record.specs.declared.emit.CallMade.{CallMade}
-use Rattle.kernel_laws.specs.Arming.{AlarmsAndButtonsAreSetByCommands, AlarmsAndButtonsFollowCommands, AreSetByCommands}
+use Rattle.kernel_laws.specs.Arming.{AlarmsAndButtonsAreSetByCommands, AlarmsAndButtonsFollowCommands}
+use Rattle.kernel_laws.specs.Arming.{AreSetByCommands}
 use Rattle.kernel_laws.specs.Arming.{Becomes, CommandSets, SetsAlarm, SetsBy, SetsButtons, is_among}
 use Rattle.kernel_laws.proofs.Accepted.{Accepts, comes_of, if_called, of_accepted}
-use Rattle.kernel_laws.proofs.Asking.{command_args, of_restart}
-use Rattle.kernel_laws.proofs.Beside.{scheduled_keeps}
-use Rattle.kernel_laws.proofs.Between.{of_turn, of_turns_at}
-use Rattle.kernel_laws.proofs.Calling.{of_served}
-use Rattle.kernel_laws.proofs.Commands.{command_leaves_others}
-use Rattle.kernel_laws.proofs.Values.{entering_beside, kept_entering, kept_put}
-
--- a pair that is handed leaves every value
-value_of : ℕ → List Grant → Option KeptValue
-value_of driver gs = option_map (λ g. g.value) (grant_of driver gs)
-
-handed_value : (other driver : ℕ) (kind : PairKind) (number : ℕ) (pair : ℕ × ℕ) (gs : List Grant)
-    → value_of other (with_grant driver (with_pair kind number pair) gs) ≡ value_of other gs
-unfolding value_of
-handed_value other driver kind number pair [] = refl
-handed_value other driver kind number pair (g ∷ gs) =
-    by_test_of (g.driver == driver) (handed_value other driver kind number pair gs)
-  where
-    value : Option Grant → Option KeptValue
-    value found = option_map (λ g. g.value) found
-
-    by_other : (b : Bool) → value (cond b (Some (with_pair kind number pair g)) (grant_of other gs))
-        ≡ value (cond b (Some g) (grant_of other gs))
-    by_other true = refl
-    by_other false = refl
-
-    by_rest : (b : Bool)
-        → option_map (λ g. g.value) (grant_of other (with_grant driver (with_pair kind number pair) gs))
-        ≡ option_map (λ g. g.value) (grant_of other gs)
-        → value (cond b (Some g) (grant_of other (with_grant driver (with_pair kind number pair) gs)))
-        ≡ value (cond b (Some g) (grant_of other gs))
-    by_rest true later = refl
-    by_rest false later = later
-
-    by_test_of : (here : Bool)
-        → option_map (λ g. g.value) (grant_of other (with_grant driver (with_pair kind number pair) gs))
-        ≡ option_map (λ g. g.value) (grant_of other gs)
-        → option_map (λ g. g.value) (grant_of other (cond here (with_pair kind number pair g ∷ gs)
-        (g ∷ with_grant driver (with_pair kind number pair) gs)))
-        ≡ option_map (λ g. g.value) (grant_of other (g ∷ gs))
-    by_test_of true later = by_other (g.driver == other)
-    by_test_of false later = by_rest (g.driver == other) later
-
-same_call : (a b : CommandHandler) → Some a ≡ Some b → a ≡ b
-same_call a b e = cc
+use Rattle.kernel_laws.proofs.Asking.{of_restart}
+use Rattle.kernel_model.proofs.Beside.{scheduled_keeps}
+use Rattle.kernel_laws.proofs.Between.{of_turns_at}
+use Rattle.kernel_model.proofs.Calling.{of_commanded, of_served}
+use Rattle.kernel_model.proofs.Classes.{made_as}
+use Rattle.kernel_model.proofs.Turning.{of_denial, of_each_end}
+use Rattle.rv32_model.specs.UserTurn.{UserTurn}
+use Rattle.kernel_model.proofs.Yields.{kept_by_yield}
+use Rattle.process_record.specs.Parts.{after_fault}
+use Rattle.kernel_model.specs.Parts.{commanded}
+use Rattle.kernel_model.proofs.Commands.{command_leaves_others, row, if_either}
+use Rattle.kernel_model.proofs.Values.{kept_entering, kept_put, alarm_blank, entering_read}
+use Rattle.kernel_model.proofs.Places.{same_some}
+use Rattle.kernel_model.proofs.Values.{kept_handing}
 
 -- What a command leaves of a value: it is as it was, and the command is none of those of some numbers, or it was
 -- refused; or it was accepted, and sets the value.
@@ -121,20 +82,10 @@ module _ {X : Type 0} (driver : ℕ) (read : Option KeptValue → X) (Sets : ℕ
   abbrev value : Own → X
   value own = read (kept driver own)
 
-  entering_value : (other : ℕ) (own : Own) → value (own_entering other own) ≡ value own
-  entering_value other own = by_driver (other == driver) refl
-    where
-      by_driver : (b : Bool) → (other == driver) ≡ b → value (own_entering other own) ≡ value own
-      by_driver true e =
-          ap (λ (d : ℕ). value (own_entering d own)) (eqb-true other driver e)
-          ∙ ap read (kept_entering driver own) ∙ blank (kept driver own)
-      by_driver false e = ap read (entering_beside other driver own e)
-
   handing_value : (kind : PairKind) (other number : ℕ) (pair : ℕ × ℕ) (own : Own)
       → value (handing kind other number pair own) ≡ value own
-  unfolding value_of
   handing_value kind other number pair own =
-      ap read (handed_value driver other kind number pair (own_entering other own).grants) ∙ entering_value other own
+      ap read (kept_handing driver other kind number pair own) ∙ entering_read driver read blank other own
 
   grants_value : (own o : Own) → o.grants ≡ own.grants → value o ≡ value own
   grants_value own o same = ap (λ (gs : List Grant). read (option_map (λ g. g.value) (grant_of driver gs))) same
@@ -203,119 +154,79 @@ module _ {X : Type 0} (driver : ℕ) (read : Option KeptValue → X) (Sets : ℕ
     abbrev around : CommandContext
     around = surroundings settings time (turn_counted r)
 
-    module _ (form : CallForm) (is : call_of r.process.regs ≡ Some form) where
+    module _ (t : UserTurn) (form : CallForm) (is : call_of t.regs ≡ Some form) where
+      abbrev ran : Record
+      ran = with_effect (turn_counted r) t
+
       abbrev LeavesCall : Served → Type 0
       LeavesCall s =
           (value s.after.own ≡ value r.own)
-          ⊎ (SetsBy Sets around.now (value r.own) (value s.after.own) (made r.process.regs s.outcome)
+          ⊎ (SetsBy Sets around.now (value r.own) (value s.after.own) (made t.regs s.outcome)
           ⊎ ((s.after.own.life ≡ r.own.life + 1) × (value s.after.own ≡ read None)))
 
       call_kept : (s : Served) → s.after.own.grants ≡ r.own.grants → LeavesCall s
       call_kept s same = inl (grants_value r.own s.after.own same)
 
-      flag_so : (at byte : ℕ) → (with_flag at byte r.own).grants ≡ r.own.grants
-      flag_so at byte = by_place (lies_in_ram r.own.layout at 1)
-        where
-          by_place : (b : Bool)
-              → (cond b (record r.own { ram = slice_set r.own.ram (at - r.own.layout.start) byte }) r.own).grants
-              ≡ r.own.grants
-          by_place true = refl
-          by_place false = refl
-
-      counted : Record
-      counted = turn_counted r
-
-      by_now : (at : ℕ) (first : Option Scheduled) → LeavesCall (yield_now (turn_counted r) at first)
-      by_now at None = call_kept (yield_now (turn_counted r) at None) (flag_so at 0)
-      by_now at (Some upcall) = call_kept (yield_now (turn_counted r) at (Some upcall)) (flag_so at 1)
-
-      by_for : (d number : ℕ) (first : Option Scheduled) → LeavesCall (yield_for (turn_counted r) d number first)
-      by_for d number None = call_kept (yield_for (turn_counted r) d number None) refl
-      by_for d number (Some upcall) = call_kept (yield_for (turn_counted r) d number (Some upcall)) refl
-
-      by_yield : (number a b : ℕ) → LeavesCall (yielding (turn_counted r) number a b)
-      unfolding yielding
-      by_yield number a b =
-          by_test LeavesCall (number == 0) _ _ (by_now a (slice_get r.own.inbox.pending 0))
-          (by_test LeavesCall (number == 1) waited _ (call_kept waited refl)
-          (by_test LeavesCall (number == 2) _ goes_on
-          (by_for a b (slice_get r.own.inbox.pending (place_of a b r.own.inbox.pending))) (call_kept goes_on refl)))
-        where
-          waited : Served
-          waited = comes_to (with_process (turn_counted r) (waiting (turn_counted r).process)) outcomes.Waits
-
-          goes_on : Served
-          goes_on = comes_to (with_process (turn_counted r) (after_call (turn_counted r).process)) outcomes.GoesOn
-
       by_answer : (d number x y : ℕ) → form ≡ forms.Command d number x y → (c : Commanded)
-          → LeavesAt d around number x y r.own c → (answer : Result Reply CallRule) → c.answer ≡ answer
-          → LeavesCall (record (driver_answered (record_with_step (turn_counted r) c.step) answer) { acts = c.acts })
-      by_answer d number x y same c (inl stays) (Ok reply) e = inl stays
-      by_answer d number x y same c (inl stays) (Err rule) e = inl stays
-      by_answer d number x y same c (inr sets) (Ok reply) e =
-          let a = command_args r.process.regs d number x y (is ∙ ap (λ (f : CallForm). Some f) same) in
+          → LeavesAt d around number x y ran.own c → LeavesCall (commanded ran c)
+      by_answer d number x y same c (inl stays) =
+          of_commanded LeavesCall ran c (λ reply is. inl stays) (λ rule is. inl stays)
+      by_answer d number x y same c (inr sets) =
+          of_commanded LeavesCall ran c
+          (λ reply answers.
+          let a = made_as t.regs (forms.Command d number x y) (is ∙ ap (λ (f : CallForm). Some f) same) in
           inr (inl (record {
-            class = a.0;
+            class = a.1.class_is;
             accepted = refl;
-            sets = subst (λ (args : List ℕ). Sets around.now (value r.own) args (value (own_after c.step))) a.1 sets.1;
-          }))
-      by_answer d number x y same c (inr sets) (Err rule) e = absurd (apart sets.0.0 sets.0.1)
+            sets = subst (λ (args : List ℕ). Sets around.now (value r.own) args (value (own_after c.step))) a.0 sets.1;
+          })))
+          (λ rule answers. absurd (apart rule sets.0.0 answers sets.0.1))
         where
-          apart : (reply : Reply) → c.answer ≡ Ok reply → ⊥
-          apart reply ok = let both : ◌≡◌ {A = Result Reply CallRule} (Err rule) (Ok reply) = sym e ∙ ok in cc
+          apart : (rule : CallRule) (reply : Reply) → c.answer ≡ Err rule → c.answer ≡ Ok reply → ⊥
+          apart rule reply e ok = let both : ◌≡◌ {A = Result Reply CallRule} (Err rule) (Ok reply) = sym e ∙ ok in cc
 
-      of_call : LeavesCall (served settings.strict (surroundings settings time (turn_counted r)) (turn_counted r) form)
+      of_call : LeavesCall (served settings.strict (surroundings settings time ran) ran form)
       of_call =
-          of_served LeavesCall around (turn_counted r) settings.strict form (record {
-            refused = λ rule. call_kept (refused_with (turn_counted r) rule (failure_of form rule)) refl;
-            same = λ reply. call_kept (replied_to (turn_counted r) reply) refl;
-            moved = λ new reply. call_kept (replied_to (with_break_at (turn_counted r) new) reply) refl;
-            swapped = λ swap reply. inl (handing_value swap.kind swap.driver swap.number swap.pair r.own);
-            yields = λ number a b same. by_yield number a b;
+          of_served LeavesCall around ran settings.strict form (record {
+            refused = λ rule. call_kept (refused_with ran rule (failure_of form rule)) refl;
+            same = λ reply. call_kept (replied_to ran reply) refl;
+            moved = λ new reply may. call_kept (replied_to (with_break_at ran new) reply) refl;
+            swapped = λ swap reply may. inl (handing_value swap.kind swap.driver swap.number swap.pair ran.own);
+            yields = λ number a b same.
+                call_kept (yielding ran number a b) (kept_by_yield ran number a b).same.grants;
             commands = λ d number x y taker same there.
-                let c = taker around number x y r.own in
-                by_answer d number x y same c (of_any here d taker there around number x y r.own) c.answer refl;
+                let c = taker around number x y ran.own in
+                by_answer d number x y same c (of_any here d taker there around number x y ran.own);
             ends = λ kind code same. inl refl;
             again = λ kind code same. of_restart (λ o. (value o ≡ value r.own)
-                ⊎ (SetsBy Sets around.now (value r.own) (value o) (made r.process.regs outcomes.Again)
-                ⊎ ((o.life ≡ r.own.life + 1) × (value o ≡ read None)))) (turn_counted r) (inl refl)
+                ⊎ (SetsBy Sets around.now (value r.own) (value o) (made t.regs outcomes.Again)
+                ⊎ ((o.life ≡ r.own.life + 1) × (value o ≡ read None)))) ran (inl refl)
                 (λ brk. inr (inr (refl, refl)));
           })
 
     of_fault : (s : Record) (denial : Denial) → s.own.grants ≡ r.own.grants → s.own.life ≡ r.own.life
         → LeavesTurn around.now r (faulted settings s denial)
-    of_fault s denial grants life = by_action (decision settings.policy s.process.restarts)
+    of_fault s denial grants life =
+        of_denial (λ x. Stands x.own) settings s denial (inl (grants_value r.own s.own grants))
+        (of_restart Stands (with_process s (after_fault s.process denial)) (inl (grants_value r.own s.own grants))
+        (λ brk. inr (inr (ap (λ (n : ℕ). n + 1) life, refl))))
       where
-        fault : Record
-        fault = record s { process = record s.process { state = Faulted; held = false; denial = Some denial } }
-
-        by_action : (action : Action) → let o = (settled fault action).own in
+        Stands : Own → Type 0
+        Stands o =
             (value o ≡ value r.own) ⊎ (IsSomeAnd None (SetsBy Sets around.now (value r.own) (value o))
             ⊎ ((o.life ≡ r.own.life + 1) × (value o ≡ read None)))
-        by_action Stop = inl (grants_value r.own s.own grants)
-        by_action Restart =
-            of_restart (λ o. (value o ≡ value r.own)
-            ⊎ (IsSomeAnd None (SetsBy Sets around.now (value r.own) (value o))
-            ⊎ ((o.life ≡ r.own.life + 1) × (value o ≡ read None)))) fault (inl (grants_value r.own s.own grants))
-            (λ brk. inr (inr (ap (λ (n : ℕ). n + 1) life, refl)))
 
-    pub of_turns : CallsAreOfEcall → LeavesTurn around.now r (turned settings time r)
-    of_turns of_ecall =
-        of_turn of_ecall settings time r (LeavesTurn around.now r) (record {
-          nothing = inl refl;
-          went = λ s accesses kept inbox. inl (grants_value r.own s.own kept.grants);
-          faults = λ s denial kept. of_fault s denial kept.grants kept.life;
-          makes = λ accesses form is runs. of_call form is;
+    pub of_turns : LeavesTurn around.now r (turned settings time r)
+    of_turns =
+        of_each_end settings time r (LeavesTurn around.now r) (record {
+          nothing = λ none. inl refl;
+          went = λ t is. inl refl;
+          faults = λ t denial is runs. of_fault (with_effect (turn_counted r) t) denial refl refl;
+          makes = λ t form is calls runs made. of_call t form made;
           delivers = λ next is yielded. inl refl;
         })
 
 -- The alarm.
-alarm_blank : (o : Option KeptValue)
-    → alarm.armed_in (Some (unwrap_or o (fresh_value alarm.alarm_driver))) ≡ alarm.armed_in o
-unfolding drivers
-alarm_blank None = refl
-alarm_blank (Some v) = refl
-
 buttons_blank : (o : Option KeptValue)
     → buttons.enabled_in (Some (unwrap_or o (fresh_value buttons.buttons))) ≡ buttons.enabled_in o
 unfolding drivers
@@ -340,21 +251,6 @@ module _ (around : CommandContext) (number x y : ℕ) (own : Own) where
       LeavesOrSets set_buttons number c.answer (buttons.enabled own) (buttons.enabled (own_after c.step))
       (SetsButtons around.now (buttons.enabled own) (0x3 ∷ number ∷ x ∷ y ∷ []) (buttons.enabled (own_after c.step)))
 
-  abbrev chosen : Option (ℕ × Commanded) → Commanded
-  chosen found = unwrap_or (option_map (λ row. row.1) found) (refusing NoCommand own)
-
-  row : (P : Commanded → Type 0) (n : ℕ) (c : Commanded) (rest : Option (ℕ × Commanded)) → (number ≡ n → P c)
-      → P (chosen rest) → P (chosen (cond (n == number) (Some (n, c)) rest))
-  row P n c rest here later = if_equal (n == number) refl
-    where
-      if_equal : (b : Bool) → (n == number) ≡ b → P (chosen (cond b (Some (n, c)) rest))
-      if_equal true e = here (sym (eqb-true n number e))
-      if_equal false e = later
-
-  if_so : (P : Commanded → Type 0) (b : Bool) (c d : Commanded) → P c → P d → P (cond b c d)
-  if_so P true c d h k = h
-  if_so P false c d h k = k
-
   -- an alarm that is put where the driver keeps something
   armed_put : (armed : Armed) → alarm.alarm_in (alarm.with_alarm (Some armed) (own_entering alarm.alarm_driver own))
       ≡ Some armed
@@ -375,7 +271,7 @@ module _ (around : CommandContext) (number x y : ℕ) (own : Own) where
       → LeavesAlarm (alarm.arming armed own)
   by_arming armed sets =
       let o = alarm.with_alarm (Some armed) (own_entering alarm.alarm_driver own) in
-      if_so LeavesAlarm (has_place alarm.alarm_driver own) (accepting (SuccessU32 (alarm.expiration armed)) o)
+      if_either LeavesAlarm (has_place alarm.alarm_driver own) (accepting (SuccessU32 (alarm.expiration armed)) o)
       (refusing NoRoom own)
       (inr (
         (SuccessU32 (alarm.expiration armed), refl),
@@ -390,13 +286,14 @@ module _ (around : CommandContext) (number x y : ℕ) (own : Own) where
   of_alarm : LeavesAlarm (by_number (alarm.commands around.now x y) number own)
   unfolding alarm.commands
   of_alarm =
-      row LeavesAlarm 0 _ _ (λ is. inl (refl, no_row set_alarm number 0 refl is))
-      (row LeavesAlarm 1 _ _ (λ is. inl (refl, no_row set_alarm number 1 refl is))
-      (row LeavesAlarm 2 _ _ (λ is. inl (refl, no_row set_alarm number 2 refl is))
-      (row LeavesAlarm 3 _ _ (λ is. by_stopping is (alarm.alarm_in own))
-      (row LeavesAlarm 5 _ _ (λ is. by_arming (record { reference = around.now; delta = x })
+      row number own LeavesAlarm 0 _ _ (λ is. inl (refl, no_row set_alarm number 0 refl is))
+      (row number own LeavesAlarm 1 _ _ (λ is. inl (refl, no_row set_alarm number 1 refl is))
+      (row number own LeavesAlarm 2 _ _ (λ is. inl (refl, no_row set_alarm number 2 refl is))
+      (row number own LeavesAlarm 3 _ _ (λ is. by_stopping is (alarm.alarm_in own))
+      (row number own LeavesAlarm 5 _ _ (λ is. by_arming (record { reference = around.now; delta = x })
       (refl, inr (inl (is, refl))))
-      (row LeavesAlarm 6 _ _ (λ is. by_arming (record { reference = x; delta = y }) (refl, inr (inr (is, refl))))
+      (row number own LeavesAlarm 6 _ _ (λ is. by_arming (record { reference = x; delta = y })
+      (refl, inr (inr (is, refl))))
       (inl (refl, λ among reply e. cc)))))))
 
   -- a mask that is put, which is put only where the driver keeps something
@@ -411,12 +308,13 @@ module _ (around : CommandContext) (number x y : ℕ) (own : Own) where
       ap buttons.enabled_in (kept_entering buttons.buttons own) ∙ buttons_blank (kept buttons.buttons own)
 
   there : (c : Commanded) → LeavesButtons c → LeavesButtons (buttons.of_button around.buttons x own c)
-  there c h = if_so LeavesButtons (nat_lt x around.buttons) c (refusing Range own) h (inl (refl, λ among reply e. cc))
+  there c h =
+      if_either LeavesButtons (nat_lt x around.buttons) c (refusing Range own) h (inl (refl, λ among reply e. cc))
 
   by_enabling : number ≡ 1 → LeavesButtons (buttons.enabling x own)
   by_enabling is =
       let o = own_entering buttons.buttons own in
-      if_so LeavesButtons (has_place buttons.buttons own) (accepting Success (buttons.set_enabled x true o))
+      if_either LeavesButtons (has_place buttons.buttons own) (accepting Success (buttons.set_enabled x true o))
       (refusing NoRoom own)
       (inr (
         (Success, refl),
@@ -468,11 +366,11 @@ module _ (around : CommandContext) (number x y : ℕ) (own : Own) where
   of_buttons : LeavesButtons (by_number (buttons.commands around.buttons around.pressed x) number own)
   unfolding buttons.commands
   of_buttons =
-      row LeavesButtons 0 _ _ (λ is. inl (refl, no_row set_buttons number 0 refl is))
-      (row LeavesButtons 1 _ _ (λ is. there (buttons.enabling x own) (by_enabling is))
-      (row LeavesButtons 2 _ _
+      row number own LeavesButtons 0 _ _ (λ is. inl (refl, no_row set_buttons number 0 refl is))
+      (row number own LeavesButtons 1 _ _ (λ is. there (buttons.enabling x own) (by_enabling is))
+      (row number own LeavesButtons 2 _ _
       (λ is. there (accepting Success (buttons.set_enabled x false own)) (by_disabling is))
-      (row LeavesButtons 3 _ _
+      (row number own LeavesButtons 3 _ _
       (λ is. there (accepting (SuccessU32 (bit_of (has_bit around.pressed x))) own)
       (inl (refl, no_row set_buttons number 3 refl is))) (inl (refl, λ among reply e. cc)))))
 
@@ -481,23 +379,23 @@ alarm_here : (taker : CommandHandler) → handler_of alarm.alarm_driver ≡ Some
 unfolding drivers
 alarm_here taker is around number x y own =
     subst (λ (t : CommandHandler). LeavesAlarm around number x y own (t around number x y own))
-    (same_call (handler_by Alarm) taker is) (of_alarm around number x y own)
+    (same_some (handler_by Alarm) taker is) (of_alarm around number x y own)
 
 buttons_here : (taker : CommandHandler) → handler_of buttons.buttons ≡ Some taker → (around : CommandContext)
     (number x y : ℕ) (own : Own) → LeavesButtons around number x y own (taker around number x y own)
 unfolding drivers
 buttons_here taker is around number x y own =
     subst (λ (t : CommandHandler). LeavesButtons around number x y own (t around number x y own))
-    (same_call (handler_by Buttons) taker is) (of_buttons around number x y own)
+    (same_some (handler_by Buttons) taker is) (of_buttons around number x y own)
 
-pub alarms_and_buttons : CallsAreOfEcall → AlarmsAndButtonsAreSetByCommands
-alarms_and_buttons of_ecall w choice =
+pub alarms_and_buttons : AlarmsAndButtonsAreSetByCommands
+alarms_and_buttons w choice =
     of_turns_at (AreSetByCommands (now_in w)) w (λ r. record {
       alarm = of_turns alarm.alarm_driver alarm.armed_in SetsAlarm set_alarm alarm_blank alarm_here w.settings
-          w.clock.time r of_ecall;
+          w.clock.time r;
       buttons = of_turns buttons.buttons buttons.enabled_in SetsButtons set_buttons buttons_blank buttons_here
           w.settings
-          w.clock.time r of_ecall;
+          w.clock.time r;
     }) choice
 
 pub follow_commands : CallsAreOfEcall → AlarmsAndButtonsFollowCommands

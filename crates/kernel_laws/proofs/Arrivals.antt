@@ -1,5 +1,5 @@
 -- What comes in comes in the order in which it was to.
-use Rattle.std.proofs.Common.{◌≡◌, ℕ, Bool, true, false, cond, List, [], ◌∷◌, ◌++◌, slice_get, Option, None, Some}
+use Rattle.std.proofs.Common.{◌≡◌, ℕ, Bool, true, false, cond, List, [], ◌∷◌, slice_get, Option, None, Some}
 use Rattle.std.proofs.Common.{refl, sym, ap, ◌∙◌}
 use Rattle.std.specs.List.{cons_option}
 use Rattle.std.specs.Option.{option_map}
@@ -11,37 +11,24 @@ use Rattle.tk_base.specs.declared.process.Dev.{Dev}
 use Rattle.tk_base.specs.declared.process.Dev.TheVariants as dev
 use Rattle.script_text.specs.Settings.{ScriptEvent as Arrival, EventKind}
 use Rattle.script_text.specs.Settings as script
-use Rattle.driver_model.specs.Commands.{BoardRequest, QueueName, Waits, Leaves, Lights, Writes, Reads, Randoms, Stores}
+use Rattle.driver_model.specs.Commands.{BoardRequest}
 use Rattle.kernel_model.specs.Record.{Record}
 use Rattle.kernel_model.specs.Turn.{turned}
-use Rattle.kernel_model.specs.World.{DeviceAnswer, Devices, Stepped, World, acted, after, answering, arrived}
+use Rattle.kernel_model.specs.World.{DeviceAnswer, Devices, Stepped, World, after, answering, arrived}
 use Rattle.kernel_model.specs.Parts.{alarmed}
 use Rattle.kernel_model.specs.World.{carried_out}
-use Rattle.kernel_model.specs.World.{coming_in, device_step_of, done, is_ready, queue_without, ran, random_step}
+use Rattle.kernel_model.specs.World.{coming_in, device_step_of, done, is_ready, ran, random_step}
 use Rattle.kernel_model.specs.World.{operating, receive_step, routed, serving}
 use Rattle.kernel_model.specs.Parts.{served_by}
 use Rattle.kernel_model.specs.Parts.{acting_on, acts_of}
-use Rattle.kernel_model.specs.World.{lane_in, storing, telling_nobody, transmitting, with_queue}
+use Rattle.kernel_model.specs.World.{lane_in, storing, telling_nobody, transmitting}
 use Rattle.kernel_model.specs.Parts.{slot_of_name}
 use Rattle.kernel_model.specs.Edges.{arrival_in, first_for}
-use Rattle.kernel_model.proofs.Places.{stepped_else, stepped_ready}
+use Rattle.kernel_model.proofs.Places.{stepped_else, stepped_ready, routed_rest}
 
 -- what a turn asks of the board, and an answer to a request, lets nothing come in
-queue_arrivals : (name : QueueName) (change : List ℕ → List ℕ) (d : Devices)
-    → (with_queue name change d).arrivals ≡ d.arrivals
-queue_arrivals Writes change d = refl
-queue_arrivals Reads change d = refl
-queue_arrivals Randoms change d = refl
-queue_arrivals Stores change d = refl
-
-acted_arrivals : (slot : ℕ) (act : BoardRequest) (d : Devices) → (acted slot act d).arrivals ≡ d.arrivals
-acted_arrivals slot (Waits queue) d = queue_arrivals queue (λ slots. slots ++ slot ∷ []) d
-acted_arrivals slot (Leaves queue) d = queue_arrivals queue (queue_without slot) d
-acted_arrivals slot (Lights led switch) d = refl
-
 routed_arrivals : (slot : ℕ) (acts : List BoardRequest) (d : Devices) → (routed slot acts d).arrivals ≡ d.arrivals
-routed_arrivals slot [] d = refl
-routed_arrivals slot (act ∷ acts) d = routed_arrivals slot acts (acted slot act d) ∙ acted_arrivals slot act d
+routed_arrivals slot acts d = ap (λ (x : Devices). x.arrivals) (routed_rest slot acts d)
 
 -- nor does an operator's act let anything in beside itself
 acting_arrivals : (verb : Verb) (rs : List Record) (d : Devices) (o : Option ℕ)

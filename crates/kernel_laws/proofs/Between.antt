@@ -1,48 +1,45 @@
 -- What holds of each thing that a turn may come to holds of every turn, and so of each label that tells one; and what
--- holds of what each event leaves holds of each label that tells one. The definition of a turn is walked once, by the
--- state and by the end of the instruction; labels go by the choice, since devices tell no turn.
-use Rattle.std.proofs.Common.{◌≡◌, ℕ, false, List, [], Option, None, Some, slice_get}
-use Rattle.std.proofs.Common.{refl, sym, ap, subst, ◌∙◌, arith}
-use Rattle.std.specs.Prelude.{All, IfSome, IsSomeAnd}
+-- holds of what each event leaves holds of each label that tells one. The definition of a turn is walked once
+-- (`of_each_end`), and an instruction that calls does no more than that; and labels are (`of_labels`).
+use Rattle.std.proofs.Common.{◌≡◌, ℕ, false, List, Option, Some, slice_get}
+use Rattle.std.proofs.Common.{sym, ap, subst, ◌∙◌}
+use Rattle.std.specs.Prelude.{All, IsSomeAnd}
 use Rattle.std.specs.Option.{option_map}
 use Rattle.std.proofs.lemmas.Bool.{false≢true}
-use Rattle.std.proofs.lemmas.List.Elements.{All-nil, All-cons}
 use Rattle.tk_base.specs.declared.access.Denial.{Denial}
 use Rattle.tk_base.specs.declared.process.Choice.{Choice}
-use Rattle.tk_base.specs.declared.process.Choice.TheVariants.{Run, Device, Pass}
 use Rattle.upcall_queue.specs.declared.inbox.Delivery.{Delivery}
 use Rattle.upcall_queue.specs.Pending.{due, left_by}
-use Rattle.rv32_model.specs.declared.turn_end.TurnEnd.{TurnEnd}
 use Rattle.rv32_model.specs.declared.turn_end.TurnEnd.TheVariants as ends
 use Rattle.rv32_model.specs.Laws.{CallsAreOfEcall}
-use Rattle.rv32_model.specs.UserTurn.{MemoryAccess}
+use Rattle.rv32_model.specs.UserTurn.{MemoryAccess, UserTurn}
 use Rattle.syscall_abi.specs.declared.form.CallForm.{CallForm}
 use Rattle.syscall_abi.specs.Call.{call_of}
 use Rattle.process_model.specs.Permission.{denied}
-use Rattle.process_record.specs.declared.process.State.{State}
-use Rattle.process_record.specs.declared.process.State.TheVariants.{Running, Yielded, Faulted, Terminated}
+use Rattle.process_record.specs.declared.process.State.TheVariants.{Running, Yielded}
 use Rattle.kernel_model.specs.Record.{Record, byte_at, instruction, with_effect}
 use Rattle.kernel_model.specs.declared.settings.Settings.{Settings}
 use Rattle.kernel_model.specs.Calls.{deliver, served}
-use Rattle.kernel_model.specs.Turn.{Event, TurnTrace, Turned, apply, at_turn_end, called, faulted, idle, is_turn}
-use Rattle.kernel_model.specs.Turn.{surroundings, turn_counted, turn_in, turned, untraced}
-use Rattle.kernel_model.specs.Parts.{calls, delivery, happens}
-use Rattle.kernel_model.specs.World.{Answer, DeviceStep, Label, Stepped, World, after, after_deed, after_turn_of}
-use Rattle.kernel_model.specs.World.{answer_label, carried_out, device_step_of, done, labels, ran}
+use Rattle.kernel_model.specs.Turn.{Event, TurnTrace, Turned, apply, called, faulted, idle, is_turn}
+use Rattle.kernel_model.specs.Turn.{surroundings, turn_counted, turned, untraced}
+use Rattle.kernel_model.specs.Parts.{calls, happens}
+use Rattle.kernel_model.specs.World.{Answer, Label, World, after, after_deed, after_turn_of}
+use Rattle.kernel_model.specs.World.{answer_label, labels}
 use Rattle.kernel_model.specs.World.{turn_label}
-use Rattle.kernel_model.proofs.Lines.{SameKept}
-use Rattle.kernel_model.proofs.Places.{of_stepped, of_turned, set_own}
-use Rattle.kernel_model.proofs.Steps.{TellsNoTurn, device_answers}
-use Rattle.kernel_model.proofs.Told.{told_at, told_labels}
+use Rattle.kernel_model.proofs.Places.{set_own}
+use Rattle.kernel_model.proofs.Told.{told_at}
 use Rattle.kernel_laws.specs.Between.{OfAnswerIn, OfEachAnswer, OfEachTurn, OfTurnIn}
-use Rattle.kernel_laws.proofs.Refused.{only_counts}
+use Rattle.kernel_model.proofs.Labels.{of_labels}
+use Rattle.kernel_model.proofs.Turning.{of_each_end, only_counts}
 
--- what holds of each thing that a turn may come to: nothing; an instruction that goes; a denial; a call; a delivery
+-- what holds of each thing that a turn may come to: nothing; an instruction that goes; a denial; a call, of a process
+-- whose instruction did no more; a delivery
 pub record OfEachThing (settings : Settings) (time : ℕ) (r : Record) (P : Turned → Type 0) : Type 0 where
   pub nothing : P (idle r)
-  pub went : (s : Record) (accesses : List MemoryAccess) → SameKept r.own s.own → s.own.inbox ≡ r.own.inbox
-      → P (record (idle s) { told = record untraced { accesses = accesses } })
-  pub faults : (s : Record) (denial : Denial) → SameKept r.own s.own → P (faulted settings s denial)
+  pub went : (t : UserTurn) → t ≡ instruction r
+      → P (record (idle (with_effect (turn_counted r) t)) { told = record untraced { accesses = t.accesses } })
+  pub faults : (t : UserTurn) (denial : Denial) → t ≡ instruction r
+      → P (faulted settings (with_effect (turn_counted r) t) denial)
   pub makes : (accesses : List MemoryAccess) (form : CallForm) → call_of r.process.regs ≡ Some form
       → r.process.state ≡ Running
       → let s = turn_counted r in
@@ -52,39 +49,25 @@ pub record OfEachThing (settings : Settings) (time : ℕ) (r : Record) (P : Turn
 
 module _ (of_ecall : CallsAreOfEcall) (settings : Settings) (time : ℕ) (r : Record) (P : Turned → Type 0)
     (each : OfEachThing settings time r P) where
-  all_kept : SameKept r.own r.own
-  all_kept = record { grants = refl; lives = refl; life = refl; dropped = refl }
-
-  of_calls : (accesses : List MemoryAccess) (call : Option CallForm) → call_of r.process.regs ≡ call
-      → r.process.state ≡ Running → P (calls settings time (turn_counted r) accesses call)
-  of_calls accesses None is runs = each.faults (turn_counted r) _ all_kept
-  of_calls accesses (Some call) is runs = each.makes accesses call is runs
-
-  of_end : (s : Record) (accesses : List MemoryAccess) (end : TurnEnd) → (end ≡ ends.Call → s ≡ turn_counted r)
-      → r.process.state ≡ Running → SameKept r.own s.own → s.own.inbox ≡ r.own.inbox
-      → P (at_turn_end settings time s accesses end)
-  of_end s accesses ends.Went same runs kept inbox = each.went s accesses kept inbox
-  of_end s accesses ends.Call same runs kept inbox =
-      subst (λ (x : Record). P (calls settings time x accesses (call_of x.process.regs))) (sym (same refl))
-      (of_calls accesses (call_of r.process.regs) refl runs)
-  of_end s accesses (ends.Trap denial) same runs kept inbox = each.faults s denial kept
-
-  of_delivery : (next : Option Delivery) → due r.own.inbox ≡ next → r.process.state ≡ Yielded → P (delivery r next)
-  of_delivery None is yielded = each.nothing
-  of_delivery (Some next) is yielded = each.delivers next is yielded
-
-  of_state : (state : State) → r.process.state ≡ state → P (turn_in settings time state r)
-  of_state Running is =
-      let t = instruction r in
-      of_end (with_effect (turn_counted r) t) t.accesses t.end
-      (λ calls. let e = of_ecall (denied r.own.layout) (byte_at r) r.process.regs calls in only_counts r t e.1 e.2)
-      is (record { grants = refl; lives = refl; life = refl; dropped = refl }) refl
-  of_state Yielded is = of_delivery (due r.own.inbox) refl is
-  of_state Faulted is = each.nothing
-  of_state (Terminated code) is = each.nothing
+  -- an instruction that calls only counts
+  calls_count : (t : UserTurn) → t ≡ instruction r → t.end ≡ ends.Call → with_effect (turn_counted r) t ≡ turn_counted r
+  calls_count t is calls =
+      let e = of_ecall (denied r.own.layout) (byte_at r) r.process.regs
+      (sym (ap (λ (u : UserTurn). u.end) is) ∙ calls) in
+      ap (with_effect (turn_counted r)) is ∙ only_counts r (instruction r) e.1 e.2
 
   pub of_turn : P (turned settings time r)
-  of_turn = of_turned P settings time r each.nothing (of_state r.process.state refl)
+  of_turn =
+      of_each_end settings time r P (record {
+        nothing = λ none. each.nothing;
+        went = each.went;
+        faults = λ t denial is runs. each.faults t denial is;
+        makes = λ t form is calls runs.
+            subst (λ (x : Record). call_of x.process.regs ≡ Some form
+            → P (called x t.accesses form (served settings.strict (surroundings settings time x) x form)))
+            (sym (calls_count t is calls)) (λ made. each.makes t.accesses form made runs);
+        delivers = each.delivers;
+      })
 
 -- of each label that tells a turn, by its process before and after it
 module _ (Holds : Record → Record → TurnTrace → Type 0) (w : World)
@@ -96,37 +79,17 @@ module _ (Holds : Record → Record → TurnTrace → Type 0) (w : World)
       (λ s. Holds r s label.trace))) (sym is_r)
       (subst (λ (o : Option Record). IsSomeAnd o (λ s. Holds r s label.trace)) (sym is_s) holds)
 
-  of_ran : (slot : ℕ) (o : Option Record) → slice_get w.records slot ≡ o
-      → let s = ran w slot o in All (OfTurnIn Holds w s.after) s.labels
-  of_ran slot None is = All-nil (OfTurnIn Holds w w)
-  of_ran slot (Some r) is =
-      let t = turned w.settings w.clock.time r in
-      All-cons (OfTurnIn Holds w (after_turn_of w slot t)) (turn_label slot w.clock.time t.told) []
-      (there (after_turn_of w slot t) (turn_label slot w.clock.time t.told) r t.after is
-      (set_own w.records slot t.after r is) (turns r))
-      (All-nil (OfTurnIn Holds w (after_turn_of w slot t)))
-
-  of_deed : (v : World) (o : Option DeviceStep) → IfSome o (λ deed. TellsNoTurn deed.told)
-      → All (OfTurnIn Holds w v) (done w o).labels
-  of_deed v None answers = All-nil (OfTurnIn Holds w v)
-  of_deed v (Some deed) answers =
-      told_labels (OfTurnIn Holds w v) deed.told 0 w.records
-      (λ slot at r a here there is turn. absurd (false≢true (sym (answers at a is) ∙ turn)))
-
-  of_choice : (choice : Choice) → let s = carried_out w choice in All (OfTurnIn Holds w s.after) s.labels
-  unfolding carried_out
-  of_choice (Run slot) = of_ran slot (slice_get w.records slot) refl
-  of_choice (Device device) =
-      of_deed (done w (device_step_of w device)).after (device_step_of w device) (device_answers w device)
-  of_choice (Pass ticks) = All-nil (OfTurnIn Holds w (carried_out w (Pass ticks)).after)
-
 -- of those of one world, which may know its time
 pub of_turns_at : (Holds : Record → Record → TurnTrace → Type 0) (w : World)
     → ((r : Record) → let t = turned w.settings w.clock.time r in Holds r t.after t.told)
     → (choice : Choice) → All (OfTurnIn Holds w (after w choice)) (labels w choice)
-of_turns_at Holds w turns choice =
-    of_stepped (λ (s : Stepped). All (OfTurnIn Holds w s.after) s.labels) w choice (All-nil (OfTurnIn Holds w w))
-    (λ ready. of_choice Holds w turns choice)
+of_turns_at Holds w turns =
+    of_labels (λ s. OfTurnIn Holds w s.after) w
+    (λ slot r is may.
+    let t = turned w.settings w.clock.time r in
+    there Holds w turns (after_turn_of w slot t) (turn_label slot w.clock.time t.told) r t.after is
+    (set_own w.records slot t.after r is) (turns r))
+    (λ deed slot r a is told no_turn turn. absurd (false≢true (sym no_turn ∙ turn)))
 
 pub of_each_turn : (Holds : Record → Record → TurnTrace → Type 0)
     → ((settings : Settings) (time : ℕ) (r : Record) → let t = turned settings time r in Holds r t.after t.told)
@@ -145,37 +108,15 @@ module _ (Holds : Event → Record → Record → Type 0)
       (sym is_r)
       (subst (λ (o : Option Record). IsSomeAnd o (λ s. Holds a.event r s)) (sym is_s) (holds no_turn))
 
-  deed_answers : (o : Option DeviceStep) → let s = done w o in All (OfAnswerIn Holds w s.after) s.labels
-  deed_answers None = All-nil (OfAnswerIn Holds w w)
-  deed_answers (Some deed) =
-      told_labels (OfAnswerIn Holds w (after_deed w deed)) deed.told 0 w.records
-      (λ slot at r a here there is.
-      let same : slot ≡ at = omega (arith, here) in
-      let there_at : slice_get w.records at ≡ Some r = ap (slice_get w.records) (sym same) ∙ there in
-      answered (after_deed w deed) at a r (apply w.settings a.event r) there_at
-      (told_at w.settings deed.told w.records at
-      ∙ ap (λ (told : Option Answer). option_map (happens w.settings told) (slice_get w.records at)) is
-      ∙ ap (option_map (happens w.settings (Some a))) there_at)
-      (events w.settings a.event r))
-
-  ran_answers : (slot : ℕ) (o : Option Record) → let s = ran w slot o in All (OfAnswerIn Holds w s.after) s.labels
-  ran_answers slot None = All-nil (OfAnswerIn Holds w w)
-  ran_answers slot (Some r) =
-      let t = turned w.settings w.clock.time r in
-      All-cons (OfAnswerIn Holds w (after_turn_of w slot t)) (turn_label slot w.clock.time t.told) []
-      (λ no_turn. absurd (false≢true (sym no_turn)))
-      (All-nil (OfAnswerIn Holds w (after_turn_of w slot t)))
-
-  choice_answers : (choice : Choice) → let s = carried_out w choice in All (OfAnswerIn Holds w s.after) s.labels
-  unfolding carried_out
-  choice_answers (Run slot) = ran_answers slot (slice_get w.records slot)
-  choice_answers (Device device) = deed_answers (device_step_of w device)
-  choice_answers (Pass ticks) = All-nil (OfAnswerIn Holds w (carried_out w (Pass ticks)).after)
-
 pub of_each_answer : (Holds : Event → Record → Record → Type 0)
     → ((settings : Settings) (event : Event) (r : Record) → is_turn event ≡ false
     → Holds event r (apply settings event r))
     → OfEachAnswer Holds
-of_each_answer Holds events w choice =
-    of_stepped (λ (s : Stepped). All (OfAnswerIn Holds w s.after) s.labels) w choice (All-nil (OfAnswerIn Holds w w))
-    (λ ready. choice_answers Holds events w choice)
+of_each_answer Holds events w =
+    of_labels (λ s. OfAnswerIn Holds w s.after) w (λ slot r is may no_turn. absurd (false≢true (sym no_turn)))
+    (λ deed slot r a is told no_turn.
+    answered Holds events w (after_deed w deed) slot a r (apply w.settings a.event r) is
+    (told_at w.settings deed.told w.records slot
+    ∙ ap (λ (told : Option Answer). option_map (happens w.settings told) (slice_get w.records slot)) told
+    ∙ ap (option_map (happens w.settings (Some a))) is)
+    (events w.settings a.event r))

@@ -31,14 +31,10 @@ use Rattle.kernel_laws.specs.Clock.{AsksNoClock, StepsWithoutClockHaveCauses, Tu
 use Rattle.kernel_model.specs.Causes.{AllHaveCauses, AnswerHasCauses, EachChangeHasACause, IsCause, IsDoneByTurn}
 use Rattle.kernel_model.specs.Causes.{Overwrites, StepsHaveCauses, StorageChangesAt, TurnHasCauses, TurnsHaveCauses}
 use Rattle.kernel_laws.proofs.Answered.{told_has_causes}
-use Rattle.kernel_model.proofs.Places.{of_stepped, ran-other, ran-own}
+use Rattle.kernel_model.proofs.Places.{of_stepped, ran-other, ran-own, same_there}
 use Rattle.kernel_model.proofs.Replays.{one_step}
 use Rattle.kernel_model.proofs.Steps.{TellsNoTurn, device_answers}
 use Rattle.kernel_model.proofs.Told.{told_at}
-
--- two records at one place are one
-same_record : (o : Option Record) (x y : Record) → o ≡ Some x → o ≡ Some y → x ≡ y
-same_record o x y e f = let both : Some x ≡ Some y = sym e ∙ f in cc
 
 -- a label is in a list, where it is in its rest
 contains_past : (before ls : List Label) (label : Label) → Contains ls label → Contains (before ++ ls) label
@@ -82,7 +78,7 @@ module _ (w : World) (slot : ℕ) (r : Record) (is : slice_get w.records slot �
 
   at_record : (labels : List Label) (x s : Record) (o : Option Record) → o ≡ Some x → o ≡ Some s → P labels x
       → P labels s
-  at_record labels x s o e f holds = subst (P labels) (same_record o x s e f) holds
+  at_record labels x s o e f holds = subst (P labels) (same_there o x s e f) holds
 
   apart : (a b : ℕ) → (a == b) ≡ false → b ≡ a → ⊥
   apart a b e same = false≢true (sym e ∙ eq-eqb a b (sym same))
@@ -105,7 +101,7 @@ module _ (w : World) (slot : ℕ) (r : Record) (is : slice_get w.records slot �
           subst (λ (n : ℕ). P (turn_label n w.clock.time (t q).told ∷ []) s) (sym same)
           (at_record (turn_label slot w.clock.time (t q).told ∷ []) (t q).after s _ left f
           (subst (λ (x : Record). P (turn_label slot w.clock.time (t x).told ∷ []) (t x).after)
-          (same_record _ r q is at_slot) (turn same_is)))
+          (same_there _ r q is at_slot) (turn same_is)))
       by_slot false e_is = at_record _ r s _ (ran-other w other slot (Some q) (apart other slot e_is) ∙ is) f (stays _)
 
   -- a device's step, whatever it tells
@@ -188,7 +184,7 @@ caused_answer slot labels a r s told causes = record {
 stays_else : (w : World) (choice : Choice) (slot : ℕ) (r s : Record) → slice_get w.records slot ≡ Some r
     → slice_get (after w choice).records slot ≡ Some s → events slot w choice ≡ [] → s ≡ r
 stays_else w choice slot r s is left none =
-    same_record (slice_get (after w choice).records slot) s r left
+    same_there (slice_get (after w choice).records slot) s r left
     (one_step w choice slot ∙ ap (λ (h : List Event). option_map (replay w.settings h) (slice_get w.records slot)) none
     ∙ ap (option_map (replay w.settings [])) is)
 

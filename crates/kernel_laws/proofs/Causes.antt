@@ -3,7 +3,7 @@
 -- shown the clock, or any byte as its process starts again (`Changes`); a delivery changes none. The walk is the
 -- definition's.
 use Rattle.std.proofs.Common.{◌≡◌, ◌⊎◌, inl, inr, ℕ, ◌+◌, ◌==◌, Bool, true, false, cond, ◌&&◌, List, Option}
-use Rattle.std.proofs.Common.{None, Some, Result, Ok, Err, is_ok, is_some, slice_get, slice_index, refl, ap, sym, subst}
+use Rattle.std.proofs.Common.{None, Some, Err, is_ok, is_some, slice_index, refl, ap, sym, subst}
 use Rattle.std.proofs.Common.{◌∙◌, ◌≤◌, arith, eqb-true, nat_le, option_and_then}
 use Rattle.std.specs.Prelude.{IsTrue}
 use Rattle.std.specs.List.{list_any}
@@ -11,13 +11,7 @@ use Rattle.tk_base.specs.declared.access.Denial.{Denial}
 use Rattle.tk_base.specs.declared.call.CallRule.{CallRule}
 use Rattle.tk_base.specs.declared.upcall.Upcall.{Upcall as Scheduled}
 use Rattle.upcall_queue.specs.declared.inbox.Delivery.{Delivery}
-use Rattle.upcall_queue.specs.Pending.{due, place_of}
-use Rattle.fault_policy.specs.declared.Action.{Action}
-use Rattle.fault_policy.specs.declared.Action.TheVariants.{Stop, Restart}
-use Rattle.fault_policy.specs.Policy.{decision}
-use Rattle.tbf_headers.specs.declared.fault.HeaderFault.{HeaderFault}
-use Rattle.tbf_headers.specs.declared.program.Main.{Main}
-use Rattle.tbf_headers.specs.Meaning.{Meaning, header_reading}
+use Rattle.upcall_queue.specs.Pending.{due}
 use Rattle.rv32_model.specs.declared.turn_end.TurnEnd.{TurnEnd}
 use Rattle.rv32_model.specs.declared.turn_end.TurnEnd.TheVariants as ends
 use Rattle.rv32_model.specs.Laws.{CallsAreOfEcall, stores_at}
@@ -34,35 +28,35 @@ use Rattle.process_model.specs.Handed.{lies_in_ram}
 use Rattle.driver_model.specs.Bytes.{CommandsWriteInBuffers, ShowsClock, clock_buffer, shows_clock}
 use Rattle.driver_model.specs.Steps.{own_after}
 use Rattle.driver_model.specs.Commands.{Commanded}
-use Rattle.driver_model.specs.Drivers.{CommandContext, CommandHandler, handler_of}
-use Rattle.process_record.specs.declared.outcome.Outcome.TheVariants.{GoesOn, Replied, Waits}
+use Rattle.driver_model.specs.Drivers.{CommandContext}
+use Rattle.process_record.specs.declared.outcome.Outcome.TheVariants.{Replied}
 use Rattle.process_record.specs.declared.process.Process.{Process}
 use Rattle.process_record.specs.declared.process.State.{State}
 use Rattle.process_record.specs.declared.process.State.TheVariants.{Running, Yielded, Faulted, Terminated}
 use Rattle.process_record.specs.Process.{after_call, waiting}
 use Rattle.process_record.specs.Parts.{after_fault}
-use Rattle.kernel_model.specs.Record.{Record, byte_at, instruction, with_effect, record_with_step}
-use Rattle.kernel_model.specs.Parts.{with_process}
+use Rattle.kernel_model.specs.Record.{Record, byte_at, instruction, with_effect}
+use Rattle.kernel_model.specs.Parts.{commanded, with_process}
 use Rattle.kernel_model.specs.declared.settings.Settings.{Settings}
-use Rattle.kernel_model.specs.Calls.{Served, driver_answered, by_form, exit, memop, restart}
-use Rattle.kernel_model.specs.Parts.{object_permits}
-use Rattle.kernel_model.specs.Calls.{served, swap_by, swap_refusal, taken_by, yield_now}
-use Rattle.kernel_model.specs.Parts.{restarted_by, restarted_main}
-use Rattle.kernel_model.specs.Calls.{comes_to, yield_for, yielding}
+use Rattle.kernel_model.specs.Calls.{Served, restart}
+use Rattle.kernel_model.specs.Calls.{served, yield_now}
+use Rattle.kernel_model.specs.Calls.{yielding}
 use Rattle.kernel_model.specs.Turn.{TurnTrace, Turned, turn_counted, at_turn_end, faulted, yield_flag_of, idle}
 use Rattle.kernel_model.specs.Parts.{calls, delivery}
-use Rattle.kernel_model.specs.Turn.{made, settled, surroundings, turn_in}
+use Rattle.kernel_model.specs.Turn.{made, surroundings, turn_in}
 use Rattle.kernel_model.specs.Parts.{instructed, unknown_call}
 use Rattle.kernel_model.specs.Histories.{ends_life}
 use Rattle.kernel_model.specs.Parts.{is_exit}
 use Rattle.kernel_model.specs.Causes.{IsDoneByTurn, IsFlagOfYield, TurnHasCauses, TurnsHaveCauses, showed_clock}
 use Rattle.process_model.specs.Permission.{denied}
 use Rattle.std.proofs.lemmas.Bool.{and_parts, false≢true, leb-true}
-use Rattle.kernel_laws.proofs.Refused.{only_counts}
+use Rattle.kernel_model.proofs.Turning.{of_denial, only_counts}
 use Rattle.kernel_laws.specs.Clock.{TurnsWithoutClockHaveCauses, asks_clock}
 use Rattle.process_record.specs.declared.emit.CallMade.{CallMade}
-use Rattle.kernel_model.proofs.Classes.{of_registers}
-use Rattle.kernel_model.proofs.Memops.{by_test, memop_gives}
+use Rattle.kernel_model.proofs.Calling.{of_commanded, of_served}
+use Rattle.kernel_model.proofs.Classes.{IsCommand, made_as}
+use Rattle.kernel_model.proofs.Restarts.{restart_by}
+use Rattle.kernel_model.proofs.Yields.{of_yield}
 use Rattle.kernel_model.proofs.Places.{of_turned}
 
 -- what a call, or a fault, leaves of a process's bytes: they change at the flag, or as it starts again where it ends a
@@ -99,47 +93,9 @@ same_own r flag process = kept r (with_process r process) flag (λ at before aft
 
 restarts_so : (r : Record) (flag : Option ℕ) (ends : Bool) {shown : Bool} → ends ≡ true
     → Changes r flag ends shown (restart r)
-unfolding restart
-restarts_so r flag ends {shown} is = by_reading (header_reading r.object)
-  where
-    by_main : (h : Meaning) (m : Option Main) → Changes r flag ends shown (restarted_main r h m)
-    by_main h None = kept r r flag (λ at before after. refl) refl
-    by_main h (Some m) = record { own = λ at before after. inr (inr (inl (is, refl))); storage = refl }
-
-    by_reading : (h : Result Meaning HeaderFault) → Changes r flag ends shown (restarted_by r h)
-    by_reading (Ok h) = by_main h h.main
-    by_reading (Err fault) = kept r r flag (λ at before after. refl) refl
-
--- registers that make a yield have its class, its number and its second argument
-yield_class : (regs : Registers) (number x y : ℕ) → call_of regs ≡ Some (forms.Yield number x y)
-    → (class regs ≡ 0) × ((a0 regs ≡ number) × (a1 regs ≡ x))
-yield_class regs number x y =
-    of_registers (λ (o : Option CallForm). o ≡ Some (forms.Yield number x y)
-    → (class regs ≡ 0) × ((a0 regs ≡ number) × (a1 regs ≡ x))) regs
-    (λ is e. (is, (cc, cc))) (λ kind is e. absurd (cc)) (λ is e. absurd (cc)) (λ is e. absurd (cc))
-    (λ is e. absurd (cc)) (λ e. absurd (cc))
-
--- registers that make an exit have its class
-exit_class : (regs : Registers) (kind code : ℕ) → call_of regs ≡ Some (forms.Exit kind code) → class regs ≡ 6
-exit_class regs kind code =
-    of_registers (λ (o : Option CallForm). o ≡ Some (forms.Exit kind code) → class regs ≡ 6) regs
-    (λ is e. absurd (cc)) (λ kind is e. absurd (cc)) (λ is e. absurd (cc)) (λ is e. absurd (cc))
-    (λ is e. is) (λ e. absurd (cc))
-
--- registers that make a command have its class, its driver and its number
-pub record IsCommand (regs : Registers) (driver number : ℕ) : Type 0 where
-  pub class_is : class regs ≡ 2
-  pub driver_is : a0 regs ≡ driver
-  pub number_is : a1 regs ≡ number
-
-pub command_class : (regs : Registers) (driver number x y : ℕ)
-    → call_of regs ≡ Some (forms.Command driver number x y) → IsCommand regs driver number
-command_class regs driver number x y =
-    of_registers (λ (o : Option CallForm). o ≡ Some (forms.Command driver number x y)
-    → IsCommand regs driver number) regs
-    (λ is e. absurd (cc)) (λ kind is e. absurd (cc))
-    (λ is e. record { class_is = is; driver_is = cc; number_is = cc })
-    (λ is e. absurd (cc)) (λ is e. absurd (cc)) (λ e. absurd (cc))
+restarts_so r flag ends {shown} is =
+    restart_by (Changes r flag ends shown) r (kept r r flag (λ at before after. refl) refl)
+    (λ h m read main. record { own = λ at before after. inr (inr (inl (is, refl))); storage = refl })
 
 -- such a command shows the clock where it is the one that does, and broke no rule
 clock_shown : (regs : Registers) (driver number : ℕ) (reply : Reply) → IsCommand regs driver number
@@ -169,116 +125,73 @@ module _ (law : OnlyWritesChangeBytes) (commands : CommandsWriteInBuffers) (arou
   of_yield_now at (Some upcall) =
       record { own = λ a before after. at_flag (law.flag at 1 r.own a before after); storage = refl }
 
-  of_yield_for : (driver number : ℕ) (first : Option Scheduled) → Leaves r None (yield_for r driver number first)
-  of_yield_for driver number None = record { own = λ a before after. inl refl; storage = refl }
-  of_yield_for driver number (Some upcall) = record { own = λ a before after. inl refl; storage = refl }
-
-  of_yield : (number a1 a2 : ℕ) → Leaves r (yield_flag_of r (forms.Yield number a1 a2)) (yielding r number a1 a2)
-  unfolding yielding
-  of_yield number a1 a2 = by_number (number == 0)
+  yields : (number a1 a2 : ℕ) → Leaves r (yield_flag_of r (forms.Yield number a1 a2)) (yielding r number a1 a2)
+  yields number a1 a2 =
+      of_yield (Leaves r (yield_flag_of r (forms.Yield number a1 a2))) r number a1 a2 (record {
+        none = λ zero is. at_zero zero None;
+        first = λ upcall zero is. at_zero zero (Some upcall);
+        waits = λ one. same_own r _ (waiting r.process);
+        waits_for = λ two is. record { own = λ a before after. inl refl; storage = refl };
+        found = λ upcall two is. record { own = λ a before after. inl refl; storage = refl };
+        goes_on = λ zero two. same_own r _ (after_call r.process);
+      })
     where
-      waits : Served
-      waits = comes_to (with_process r (waiting r.process)) Waits
+      at_zero : number ≡ 0 → (first : Option Scheduled)
+          → Leaves r (yield_flag_of r (forms.Yield number a1 a2)) (yield_now r a1 first)
+      at_zero zero first =
+          subst (λ (n : ℕ). Leaves r (yield_flag_of r (forms.Yield n a1 a2)) (yield_now r a1 first)) (sym zero)
+          (of_yield_now a1 first)
 
-      goes_on : Served
-      goes_on = comes_to (with_process r (after_call r.process)) GoesOn
-
-      first : ℕ → Option Scheduled
-      first place = slice_get r.own.inbox.pending place
-
-      place : ℕ
-      place = place_of a1 a2 r.own.inbox.pending
-
-      by_two : (two : Bool) → Leaves r None (cond two (yield_for r a1 a2 (first place)) goes_on)
-      by_two true = of_yield_for a1 a2 (first place)
-      by_two false = same_own r None (after_call r.process)
-
-      by_one : (one : Bool)
-          → Leaves r None (cond one waits (cond (number == 2) (yield_for r a1 a2 (first place)) goes_on))
-      by_one true = same_own r None (waiting r.process)
-      by_one false = by_two (number == 2)
-
-      by_number : (b : Bool)
-          → Leaves r (cond (b && lies_in_ram r.own.layout a1 1) (Some a1) None)
-          (cond b (yield_now r a1 (first 0))
-          (cond (number == 1) waits (cond (number == 2) (yield_for r a1 a2 (first place)) goes_on)))
-      by_number true = of_yield_now a1 (first 0)
-      by_number false = by_one (number == 1)
-
-  of_swap : (swap : Swap) (o : Option CallRule) → Leaves r None (swap_by r swap o)
-  of_swap swap None = kept r _ None (law.handing swap.kind swap.driver swap.number swap.pair r.own) refl
-  of_swap swap (Some rule) = same_own r None _
-
-  of_answer : (driver number : ℕ) (c : Commanded) (answer : Result Reply CallRule) → c.answer ≡ answer
-      → IsCommand r.process.regs driver number → ChangesAt (ShowsClock driver number r.own c) r.own (own_after c.step)
-      → Leaves r None (driver_answered (record_with_step r c.step) answer)
-  of_answer driver number c (Ok reply) is command changes =
-      record { own = λ at before after. by_cause at (changes at before after); storage = refl }
+  of_command : (driver number : ℕ) (c : Commanded) (flag : Option ℕ) → IsCommand r.process.regs driver number
+      → ChangesAt (ShowsClock driver number r.own c) r.own (own_after c.step) → Leaves r flag (commanded r c)
+  of_command driver number c flag command changes =
+      of_commanded (Leaves r flag) r c
+      (λ reply is. record { own = λ at before after. shows reply at (changes at before after); storage = refl })
+      (λ rule is. kept r _ None (λ at before after. none rule is at (changes at before after)) refl)
     where
-      by_cause : (at : ℕ) {A B C : Type 0} → A ⊎ ShowsClock driver number r.own c at
+      shows : (reply : Reply) (at : ℕ) {A B C : Type 0} → A ⊎ ShowsClock driver number r.own c at
           → A ⊎ (B ⊎ (C ⊎ ((showed_clock (Some (made r.process.regs (Replied reply None))) ≡ true)
           × IsInside (clock_buffer r.own) at)))
-      by_cause at (inl same) = inl same
-      by_cause at (inr shows) =
-          inr (inr (inr (clock_shown r.process.regs driver number reply command shows.0, shows.2)))
-  of_answer driver number c (Err rule) is command changes =
-      kept r _ None (λ at before after. by_cause at (changes at before after)) refl
-    where
-      by_cause : (at : ℕ) {A : Type 0} → A ⊎ ShowsClock driver number r.own c at → A
-      by_cause at (inl same) = same
-      by_cause at (inr shows) = absurd (false≢true (ap is_ok (sym is) ∙ shows.1))
+      shows reply at (inl same) = inl same
+      shows reply at (inr shown) =
+          inr (inr (inr (clock_shown r.process.regs driver number reply command shown.0, shown.2)))
 
-  of_taken : (driver number a2 a3 : ℕ) (o : Option CommandHandler) → handler_of driver ≡ o
-      → IsCommand r.process.regs driver number → (asked_in r.process.regs ≡ true → IsWhole r.own)
-      → Leaves r None (taken_by around number a2 a3 r o)
-  of_taken driver number a2 a3 None is command whole = same_own r None _
-  of_taken driver number a2 a3 (Some taker) is command whole =
-      let c = taker around number a2 a3 r.own in
-      of_answer driver number c c.answer refl command
-      (commands driver taker is around number a2 a3 r.own
-      (λ clock. whole (clock_asked r.process.regs driver number command clock)))
+      none : (rule : CallRule) → c.answer ≡ Err rule → (at : ℕ) {A : Type 0}
+          → A ⊎ ShowsClock driver number r.own c at → A
+      none rule is at (inl same) = same
+      none rule is at (inr shown) = absurd (false≢true (ap is_ok (sym is) ∙ shown.1))
 
-  of_memop : (operation argument : ℕ) → Leaves r None (memop r operation argument)
-  of_memop operation argument =
-      memop_gives (Leaves r None) r operation argument (λ rule. same_own r None _) (λ reply. same_own r None _)
-      (λ new reply. kept r _ None (λ at before after. refl) refl)
-
-  of_exit : (kind code : ℕ) → class r.process.regs ≡ 6 → Leaves r None (exit r kind code)
-  unfolding exit
-  of_exit kind code six =
-      by_test (Leaves r None) (kind == 0) _ _ (kept r _ None (λ at before after. refl) refl)
-      (by_test (Leaves r None) (kind == 1) _ _ (restarts_so r None _ (ap (λ (n : ℕ). n == 6 && true) six))
-      (same_own r None _))
-
-  of_form : (form : CallForm) → call_of r.process.regs ≡ Some form → (asked_in r.process.regs ≡ true → IsWhole r.own)
-      → Leaves r (yield_flag_of r form) (by_form around r form)
-  unfolding by_form
-  of_form (forms.Yield number a1 a2) is whole = of_yield number a1 a2
-  of_form (forms.Swap swap) is whole = of_swap swap (swap_refusal swap r.own)
-  of_form (forms.Command driver number a2 a3) is whole =
-      of_taken driver number a2 a3 (handler_of driver) refl (command_class r.process.regs driver number a2 a3 is) whole
-  of_form (forms.Memop operation argument) is whole = of_memop operation argument
-  of_form (forms.Exit kind code) is whole = of_exit kind code (exit_class r.process.regs kind code is)
-
-  of_served : (strict : Bool) (call : CallForm) → call_of r.process.regs ≡ Some call
+  of_call : (strict : Bool) (call : CallForm) → call_of r.process.regs ≡ Some call
       → (asked_in r.process.regs ≡ true → IsWhole r.own)
       → Leaves r (yield_flag_of r call) (served strict around r call)
-  unfolding served
-  of_served strict call is whole =
-      by_test (Leaves r (yield_flag_of r call)) (object_permits strict r.object call) _ _
-      (of_form call is whole) (same_own r _ _)
+  of_call strict call is whole =
+      of_served (Leaves r (yield_flag_of r call)) around r strict call (record {
+        refused = λ rule. same_own r _ _;
+        same = λ reply. same_own r _ _;
+        moved = λ new reply may. kept r _ _ (λ at before after. refl) refl;
+        swapped = λ swap reply may.
+            kept r _ _ (law.handing swap.kind swap.driver swap.number swap.pair r.own) refl;
+        yields = λ number a1 a2 same.
+            subst (λ (form : CallForm). Leaves r (yield_flag_of r form) (yielding r number a1 a2)) (sym same)
+            (yields number a1 a2);
+        commands = λ driver number a2 a3 taker same there.
+            let command = (made_as r.process.regs (forms.Command driver number a2 a3)
+            (is ∙ ap (λ (form : CallForm). Some form) same)).1 in
+            of_command driver number (taker around number a2 a3 r.own) (yield_flag_of r call) command
+            (commands driver taker there around number a2 a3 r.own
+            (λ clock. whole (clock_asked r.process.regs driver number command clock)));
+        ends = λ kind code same. kept r _ _ (λ at before after. refl) refl;
+        again = λ kind code same.
+            restarts_so r _ _ (ap (λ (n : ℕ). n == 6 && true) (made_as r.process.regs (forms.Exit kind code)
+            (is ∙ ap (λ (form : CallForm). Some form) same)));
+      })
 
 of_fault : (settings : Settings) (r : Record) (denial : Denial)
     → Changes r None true false (faulted settings r denial).after
-of_fault settings r denial = by_action (decision settings.policy r.process.restarts)
-  where
-    s : Record
-    s = with_process r (after_fault r.process denial)
-
-    by_action : (action : Action) → Changes r None true false (settled s action)
-    by_action Stop = kept r _ None (λ at before after. refl) refl
-    by_action Restart = let changes = restarts_so s None true refl in
-        record { own = changes.own; storage = changes.storage }
+of_fault settings r denial =
+    let changes = restarts_so (with_process r (after_fault r.process denial)) None true refl in
+    of_denial (Changes r None true false) settings r denial (kept r _ None (λ at before after. refl) refl)
+    (record { own = changes.own; storage = changes.storage })
 
 module _ (law : OnlyWritesChangeBytes) (commands : CommandsWriteInBuffers) (of_ecall : CallsAreOfEcall)
     (settings : Settings) (time : ℕ) where
@@ -290,7 +203,7 @@ module _ (law : OnlyWritesChangeBytes) (commands : CommandsWriteInBuffers) (of_e
       → let t = calls settings time r accesses call in (asks_clock t.told.call ≡ true → IsWhole r.own) → Causes r t
   of_calls r accesses None is whole = of_fault settings r (unknown_call r.process)
   of_calls r accesses (Some call) is whole =
-      of_served law commands (surroundings settings time r) r settings.strict call is whole
+      of_call law commands (surroundings settings time r) r settings.strict call is whole
 
   of_end : (r : Record) (accesses : List MemoryAccess) (end : TurnEnd)
       → let t = at_turn_end settings time r accesses end in
@@ -343,7 +256,7 @@ module _ (law : OnlyWritesChangeBytes) (commands : CommandsWriteInBuffers) (of_e
               let at_is : x ≡ at = same_place e in
               let from : s.own.layout.start ≤ x = leb-true _ _ bounds.0 in
               let up_to : x + 1 ≤ s.own.layout.brk = leb-true _ _ bounds.1 in
-              let c = yield_class s.process.regs number x y is in
+              let c = made_as s.process.regs (forms.Yield number x y) is in
               record {
                 flag = e;
                 made = (class_is ∙ c.0, first ∙ c.1.0 ∙ eqb-true number 0 parts.0, second ∙ c.1.1 ∙ at_is, kept);

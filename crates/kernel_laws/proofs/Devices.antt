@@ -3,20 +3,17 @@
 -- list of words is put at its place.
 use Rattle.std.proofs.Common.{◌≡◌, ◌⊎◌, inl, inr, ℕ, zero, suc, Bool, true, false, cond, List, [], ◌∷◌, drop, map}
 use Rattle.std.proofs.Common.{slice_get, slice_index_or, slice_set, Option, None, Some, refl, sym, ap, subst}
-use Rattle.std.specs.Prelude.{unwrap_or}
 use Rattle.std.specs.Option.{option_map}
 use Rattle.std.proofs.lemmas.List.Elements.{All-nil, All-cons}
 use Rattle.tk_base.specs.declared.process.Choice.TheVariants.{Device}
 use Rattle.tk_base.specs.declared.process.Dev.{Dev}
 use Rattle.tk_base.specs.declared.process.Dev.TheVariants as dev
-use Rattle.tk_base.specs.declared.process.Verb.{Verb}
 use Rattle.script_text.specs.Settings.{ScriptEvent as Arrival, EventKind}
 use Rattle.script_text.specs.Settings as script
 use Rattle.board_devices.specs.SerialLine.{SerialLine, line_at, with_input}
 use Rattle.process_record.specs.Operator.{ends_by}
 use Rattle.driver_model.specs.Commands.{leaving_all}
 use Rattle.driver_model.specs.Console as console
-use Rattle.driver_model.specs.Random as random
 use Rattle.kernel_model.specs.Record.{Record, flash_of}
 use Rattle.kernel_model.specs.Turn.{Event, NoWord, Taken, Word, WriteDone}
 use Rattle.kernel_model.specs.World.{Answer, DeviceAnswer, DeviceStep, Devices, Label, Stepped, World, answer_label}
@@ -24,9 +21,9 @@ use Rattle.kernel_model.specs.World.{answering, arrived, carried_out, coming_in,
 use Rattle.kernel_model.specs.World.{operating}
 use Rattle.kernel_model.specs.World.{random_step, receive_step, routed, serving, storing, telling_edge, telling_nobody}
 use Rattle.kernel_model.specs.World.{transmitting, unmade}
-use Rattle.kernel_model.specs.Parts.{acting_on, alarmed, drawn_event, served_by, slot_of_name}
+use Rattle.kernel_model.specs.Parts.{alarmed, drawn_event, served_by}
 use Rattle.kernel_model.specs.Laws.{one_answered}
-use Rattle.kernel_model.proofs.Told.{done_one, edge_answer, told_labels, with_rest}
+use Rattle.kernel_model.proofs.Told.{done_one, edge_answer, told_labels, with_rest, of_coming}
 use Rattle.kernel_model.proofs.Places.{stepped_ready}
 use Rattle.kernel_laws.specs.Devices.{ChangesItsOwn, DevicesChangeTheirOwn, KeepsOthers, SpeaksSo}
 
@@ -174,45 +171,34 @@ module _ (w : World) where
       );
     }
 
-    of_nobody : Leaves (telling_nobody left)
-    of_nobody = leaves (telling_nobody left) (λ at a is. absurd (cc)) refl (λ other. refl)
-
-    of_edge : (button : ℕ) (pressed : Bool) → Leaves (telling_edge button pressed w.records left)
-    of_edge button pressed =
-        leaves (telling_edge button pressed w.records left)
-        (λ at a is. inl (
-          button,
-          pressed,
-          ap (λ (x : Answer). x.event)
-              (edge_answer button pressed (slice_get w.records at) a is),
-        )) refl (λ other. refl)
-
-    of_there : (verb : Verb) (slot : ℕ) (o : Option Record) → slice_get w.records slot ≡ o
-        → Leaves (unwrap_or (option_map (λ (r : Record). answering slot (operating verb left slot r)) o)
-        (telling_nobody left))
-    of_there verb slot None e = of_nobody
-    of_there verb slot (Some r) e =
-        subst (Changes dev.Event) (sym (done_one w slot (operating verb left slot r) r e))
-        (answers dev.Event slot r (operating verb left slot r) (inr (verb, refl)) (by_end (ends_by verb r.process)))
+    of_kind : (kind : EventKind) → Leaves (coming_in kind w.records left)
+    of_kind =
+        of_coming Leaves w left (record {
+          bytes = λ bytes.
+              leaves (coming_in (script.Input bytes) w.records left) (λ at a is. absurd (cc)) refl
+              (ring_alone bytes d.lines);
+          edges = λ button pressed.
+              leaves (telling_edge button pressed w.records left)
+              (λ at a is. inl (
+                button,
+                pressed,
+                ap (λ (x : Answer). x.event) (edge_answer button pressed (slice_get w.records at) a is),
+              )) refl (λ other. refl);
+          nobody = leaves (telling_nobody left) (λ at a is. absurd (cc)) refl (λ other. refl);
+          acts = λ verb slot r is.
+              subst (Changes dev.Event) (sym (done_one w slot (operating verb left slot r) r is))
+              (answers dev.Event slot r (operating verb left slot r) (inr (verb, refl))
+              (by_end slot (ends_by verb r.process)));
+        })
       where
-        by_end : (b : Bool) → KeepsOthers dev.Event lane d (routed slot (cond b leaving_all []) left)
-        by_end true = (
+        by_end : (slot : ℕ) (b : Bool) → KeepsOthers dev.Event lane d (routed slot (cond b leaving_all []) left)
+        by_end slot true = (
           ap (λ (arrivals : List Arrival). record (routed slot leaving_all left) { arrivals = arrivals })
               is_rest,
           λ other. refl,
         )
-        by_end false = (ap (λ (arrivals : List Arrival). record left { arrivals = arrivals }) is_rest, λ other. refl)
-
-    of_act : (verb : Verb) (o : Option ℕ) → Leaves (acting_on verb w.records left o)
-    of_act verb None = of_nobody
-    of_act verb (Some slot) = of_there verb slot (slice_get w.records slot) refl
-
-    of_kind : (kind : EventKind) → Leaves (coming_in kind w.records left)
-    of_kind (script.Input bytes) =
-        leaves (coming_in (script.Input bytes) w.records left) (λ at a is. absurd (cc)) refl (ring_alone bytes d.lines)
-    of_kind (script.Press button) = of_edge button true
-    of_kind (script.Release button) = of_edge button false
-    of_kind (script.Act verb name) = of_act verb (slot_of_name name w.records)
+        by_end slot false =
+            (ap (λ (arrivals : List Arrival). record left { arrivals = arrivals }) is_rest, λ other. refl)
 
   of_arrivals : (arrivals : List Arrival) → arrivals ≡ d.arrivals → Changes dev.Event
       (done w (arrived w.records d arrivals))

@@ -22,18 +22,18 @@ use Rattle.script_text.specs.Settings as script
 use Rattle.grant_values.specs.declared.console.WaitingRead.{WaitingRead}
 use Rattle.board_devices.specs.SerialLine.{SerialLine, line_at, with_input}
 use Rattle.process_model.specs.Own.{Own}
-use Rattle.driver_model.specs.Commands.{BoardRequest, Waits, Leaves, Lights, QueueName, Writes, Reads, Randoms, Stores}
+use Rattle.driver_model.specs.Commands.{BoardRequest, Reads}
 use Rattle.driver_model.specs.Console as console
 use Rattle.driver_model.specs.Console.{console_reads}
 use Rattle.driver_model.specs.Requests.{unanswered, waiting_in}
 use Rattle.kernel_model.specs.Record.{Record, flash_of}
 use Rattle.kernel_model.specs.Turn.{Taken, WriteDone, turned}
-use Rattle.kernel_model.specs.World.{Answer, DeviceAnswer, DeviceStep, Devices, Label, Stepped, World, acted, after}
+use Rattle.kernel_model.specs.World.{Answer, DeviceAnswer, DeviceStep, Devices, Label, Stepped, World, after}
 use Rattle.kernel_model.specs.World.{answer_label, answering, arrived, carried_out, coming_in, device_step_of, done}
-use Rattle.kernel_model.specs.World.{is_ready, labels, labels_told, lane_in, only_for, operating, queue_without, ran}
+use Rattle.kernel_model.specs.World.{is_ready, labels, labels_told, lane_in, only_for, operating, ran}
 use Rattle.kernel_model.specs.World.{random_step, receive_step, routed, stepped, storing, telling_edge}
 use Rattle.kernel_model.specs.World.{telling_nobody}
-use Rattle.kernel_model.specs.World.{transmitting, turn_label, unmade, with_queue}
+use Rattle.kernel_model.specs.World.{transmitting, turn_label, unmade}
 use Rattle.kernel_model.specs.Parts.{acting_on, acts_of, alarmed, drawn_event, served_by, slot_of_name}
 use Rattle.kernel_model.specs.Named.{lane_by, slots_in}
 use Rattle.kernel_model.specs.Laws.{one_answered}
@@ -41,7 +41,7 @@ use Rattle.kernel_model.specs.Choices.{labels_of_all}
 use Rattle.kernel_model.specs.Edges.{arrival_in, arrivals_in, first_for}
 use Rattle.kernel_model.specs.Replay.{after_all}
 use Rattle.kernel_model.proofs.Told.{done_one, edge_answer, of_device as of_each_device, told_labels, with_rest}
-use Rattle.kernel_model.proofs.Places.{of_stepped, stepped_else, stepped_ready}
+use Rattle.kernel_model.proofs.Places.{of_stepped, stepped_else, stepped_ready, routed_rest}
 use Rattle.kernel_laws.specs.Inputs.{HasRoom, InputIsKept, IsSubsequence, IsTheLast, KeepsInput, RingsHaveTheLast}
 use Rattle.kernel_laws.specs.Inputs.{bytes_arriving, bytes_in, input_in, input_told, inputs_told, last_of, ring_in}
 use Rattle.kernel_laws.specs.Words.{of_lane}
@@ -183,20 +183,8 @@ moved_first ring own = by_read (waiting_in console_reads own)
     by_read (Some read) = taken_first _ ring
 
 -- what a turn asks of the board, and what an operator's act does, reads nothing
-queue_lines : (name : QueueName) (change : List ℕ → List ℕ) (d : Devices) → (with_queue name change d).lines ≡ d.lines
-queue_lines Writes change d = refl
-queue_lines Reads change d = refl
-queue_lines Randoms change d = refl
-queue_lines Stores change d = refl
-
-acted_lines : (slot : ℕ) (act : BoardRequest) (d : Devices) → (acted slot act d).lines ≡ d.lines
-acted_lines slot (Waits queue) d = queue_lines queue (λ slots. slots ++ slot ∷ []) d
-acted_lines slot (Leaves queue) d = queue_lines queue (queue_without slot) d
-acted_lines slot (Lights led switch) d = refl
-
 routed_lines : (slot : ℕ) (acts : List BoardRequest) (d : Devices) → (routed slot acts d).lines ≡ d.lines
-routed_lines slot [] d = refl
-routed_lines slot (act ∷ acts) d = routed_lines slot acts (acted slot act d) ∙ acted_lines slot act d
+routed_lines slot acts d = ap (λ (x : Devices). x.lines) (routed_rest slot acts d)
 
 sent_none : (b : Bool) → input_in (cond b WriteDone Taken) ≡ []
 sent_none true = refl

@@ -1,3 +1,4 @@
+pub mod Between
 pub mod Refused
 pub mod Kept
 pub mod Turns
@@ -8,8 +9,6 @@ mod Alone
 mod Answered
 mod Caused
 pub mod OneRun
-pub mod Between
-pub mod Calling
 pub mod Accepted
 pub mod Registers
 mod Replies
@@ -17,6 +16,7 @@ mod Delivered
 pub mod Asking
 mod Arming
 pub mod Withdrawing
+pub mod AsAsked
 mod Restarting
 mod Breaks
 mod Alarms
@@ -28,9 +28,6 @@ mod Lanes
 mod Words
 mod Devices
 mod Inputs
-pub mod Values
-pub mod Commands
-pub mod Beside
 pub mod Scheduled
 pub mod EdgeSteps
 pub mod Arrivals

@@ -45,7 +45,7 @@ use Rattle.partition_turns.specs.Windows.{window_end, window_slot}
 use Rattle.kernel_model.specs.Choices.{are_ready, labels_of_all}
 use Rattle.kernel_model.specs.Replay.{after_all, chosen}
 use Rattle.kernel_laws.specs.OneRun.{ChosenAreReady, HasNoAlarm, IsDoneWhereNothingIsLeft, NothingIsLeft, OneRun}
-use Rattle.kernel_model.proofs.Places.{of_world}
+use Rattle.kernel_model.proofs.Places.{of_world, none_there}
 use Rattle.kernel_laws.proofs.Turns.{step_same}
 use Rattle.kernel_model.proofs.Runs.{next_ready, passed_over}
 
@@ -414,10 +414,6 @@ none_for false (Some device) next e = absurd (false≢true (sym e))
 none_for false None (Some at) e = absurd (false≢true (sym e))
 none_for false None None e = (refl, (refl, refl))
 
-not_found : {X : Type 0} (o : Option X) → is_some o ≡ false → o ≡ None
-not_found None e = refl
-not_found (Some x) e = absurd (false≢true (sym e))
-
 nearer_some : (a : Option ℕ) (n : ℕ) → nearer a (Some n) ≡ None → ⊥
 nearer_some None n e = cc
 nearer_some (Some m) n e = cc
@@ -438,7 +434,7 @@ windows_left u n few e =
         → (if b then nearer (work_of w).next (Some (window_end w.clock.time (suc n))) else None) ≡ None
         → find (is_left_for w) (range_with_len 0 SLOT_COUNT) ≡ None
     not_left true is none = absurd (nearer_some (work_of w).next (window_end w.clock.time (suc n)) none)
-    not_left false is none = not_found (find (is_left_for w) (range_with_len 0 SLOT_COUNT)) is
+    not_left false is none = none_there (find (is_left_for w) (range_with_len 0 SLOT_COUNT)) is
 
     of_none : find (is_left_for w) (range_with_len 0 SLOT_COUNT) ≡ None → NothingIsLeft w
     of_none none =

@@ -1,69 +1,51 @@
 -- That queues are first come, first served, by what a turn, an answer and an operator's act do to them. A turn asks the
 -- board for one thing at most, or leaves all queues (`MovesOne`), and an answer takes out the one that was answered; so
 -- of each queue one slot joined or left it, or nothing changed. Who is answered is the first.
-use Rattle.std.proofs.Common.{◌≡◌, ◌⊎◌, inl, inr, ℕ, ◌==◌, Bool, true, false, cond, List, [], ◌∷◌, ◌++◌, Option}
+use Rattle.std.proofs.Common.{◌≡◌, ◌⊎◌, inl, inr, ℕ, Bool, true, false, cond, List, [], ◌∷◌, ◌++◌, Option}
 use Rattle.std.proofs.Common.{None, Some, slice_get, unwrap_or, refl, sym, ap, subst, ◌∙◌, arith}
 use Rattle.std.specs.Prelude.{All}
 use Rattle.std.specs.Option.{option_map}
-use Rattle.std.proofs.lemmas.Bool.{false≢true}
 use Rattle.std.proofs.lemmas.List.Elements.{All-nil, All-cons}
 use Rattle.tk_base.specs.declared.process.Verb.{Verb}
-use Rattle.tk_base.specs.declared.upcall.Upcall.{Upcall as Scheduled}
 use Rattle.grant_values.specs.declared.drivers.Driver.{Driver}
-use Rattle.grant_values.specs.declared.drivers.Driver.TheVariants.{Alarm, Buttons, Console, Leds, Random, Storage}
 use Rattle.process_model.specs.Own.{Own}
 use Rattle.process_record.specs.Operator.{ends_by}
 use Rattle.rv32_model.specs.Laws.{CallsAreOfEcall}
-use Rattle.upcall_queue.specs.Pending.{place_of}
 use Rattle.driver_model.specs.Asked.{AskTheirOwn, OneOf}
 use Rattle.driver_model.specs.Drivers.{CommandContext, CommandHandler, handler_by}
 use Rattle.tk_base.specs.declared.process.Choice.{Choice}
 use Rattle.tk_base.specs.declared.process.Choice.TheVariants.{Run, Device, Pass}
 use Rattle.tk_base.specs.declared.process.Dev.{Dev}
-use Rattle.driver_model.specs.Commands.{BoardRequest, QueueName, Writes, Reads, Randoms, Stores, Waits, Leaves, Lights}
-use Rattle.driver_model.specs.Commands.{is_same, leaving_all, On, Off, Toggle, Switch}
+use Rattle.driver_model.specs.Commands.{BoardRequest, QueueName, Writes, Reads, Randoms, Stores, Waits, Leaves, On, Off}
+use Rattle.driver_model.specs.Commands.{Lights}
+use Rattle.driver_model.specs.Commands.{is_same, leaving_all, Switch}
 use Rattle.driver_model.specs.Console as console
 use Rattle.kernel_model.specs.Record.{Record, flash_of}
 use Rattle.kernel_model.specs.declared.settings.Settings.{Settings}
-use Rattle.kernel_model.specs.Calls.{yield_for, yield_now, yielding}
 use Rattle.kernel_model.specs.Turn.{NoWord, Taken, Word, WriteDone, surroundings, turn_counted, turned}
 use Rattle.kernel_model.specs.World.{Answer, DeviceAnswer, Devices, Label, Stepped, World, after_answer, answer_label}
 use Rattle.kernel_model.specs.World.{with_queue, carried_out, device_step_of, done, lane_in, operating, queue_without}
 use Rattle.kernel_model.specs.World.{ran, random_step, receive_step, routed, storing, telling_edge, transmitting}
-use Rattle.kernel_model.specs.World.{turn_label, only_in, may_serve}
+use Rattle.kernel_model.specs.World.{only_in, may_serve}
 use Rattle.kernel_model.specs.Parts.{acts_of, alarmed}
 use Rattle.kernel_model.specs.Laws.{one_answered}
 use Rattle.kernel_model.specs.Named.{slots_in}
 use Rattle.kernel_model.proofs.Memops.{by_test}
-use Rattle.kernel_model.proofs.Places.{of_stepped, queue_with}
+use Rattle.kernel_model.proofs.Places.{of_stepped, queue_with, same_name}
 use Rattle.kernel_model.proofs.Told.{edge_answer, of_device, told_labels, with_rest}
-use Rattle.kernel_laws.specs.Queues.{ChangesByOne, FirstAreServed, IsOfFirst, JoinsOrLeaves, QueuesKeepOrder, queue_for}
+use Rattle.kernel_laws.specs.Queues.{ChangesByOne, FirstAreServed, IsOfFirst, JoinsOrLeaves, QueuesKeepOrder}
+use Rattle.kernel_laws.specs.Queues.{queue_for}
 use Rattle.kernel_laws.proofs.Between.{of_turn}
-use Rattle.kernel_laws.proofs.Calling.{of_served}
-use Rattle.kernel_laws.proofs.Commands.{handled}
+use Rattle.kernel_model.proofs.Calling.{of_served}
+use Rattle.kernel_model.proofs.Yields.{kept_by_yield}
+use Rattle.kernel_model.proofs.Commands.{handled}
+use Rattle.kernel_model.proofs.Labels.{labels_by_device}
+use Rattle.grant_values.specs.declared.drivers.Driver.TheVariants.{Alarm, Buttons, Console, Leds, Random, Storage}
+use Rattle.driver_model.specs.Commands.{Toggle}
 
 -- a queue in which nothing changed, or one slot came as the last one, or one went
 abbrev Moves : ℕ → List ℕ → List ℕ → Type 0
 Moves slot before later = (later ≡ before) ⊎ JoinsOrLeaves slot before later
-
--- two names of queues that are the same are one
-same_name : (a b : QueueName) → is_same a b ≡ true → a ≡ b
-same_name Writes Writes e = refl
-same_name Writes Reads e = absurd (false≢true e)
-same_name Writes Randoms e = absurd (false≢true e)
-same_name Writes Stores e = absurd (false≢true e)
-same_name Reads Writes e = absurd (false≢true e)
-same_name Reads Reads e = refl
-same_name Reads Randoms e = absurd (false≢true e)
-same_name Reads Stores e = absurd (false≢true e)
-same_name Randoms Writes e = absurd (false≢true e)
-same_name Randoms Reads e = absurd (false≢true e)
-same_name Randoms Randoms e = refl
-same_name Randoms Stores e = absurd (false≢true e)
-same_name Stores Writes e = absurd (false≢true e)
-same_name Stores Reads e = absurd (false≢true e)
-same_name Stores Randoms e = absurd (false≢true e)
-same_name Stores Stores e = refl
 
 -- where one queue changes in such a way, each does
 changed : (queue name : QueueName) (change : List ℕ → List ℕ) (slot : ℕ) (d : Devices)
@@ -144,36 +126,20 @@ module _ (asked : AskTheirOwn) where
       by_one acts (inr (inl e)) = so acts _ e (asks_waits Stores)
       by_one acts (inr (inr e)) = absurd e
 
-  of_yield : (r : Record) (number x y : ℕ) → MovesOne (yielding r number x y).acts
-  unfolding yielding
-  of_yield r number x y =
-      by_test (λ s. MovesOne s.acts) (number == 0) _ _ (by_now (slice_get r.own.inbox.pending 0))
-      (by_test (λ s. MovesOne s.acts) (number == 1) _ _ asks_none
-      (by_test (λ s. MovesOne s.acts) (number == 2) _ _ (by_for (slice_get r.own.inbox.pending (place_of x y
-      r.own.inbox.pending))) asks_none))
-    where
-      by_now : (first : Option Scheduled) → MovesOne (yield_now r x first).acts
-      by_now None = asks_none
-      by_now (Some upcall) = asks_none
-
-      by_for : (first : Option Scheduled) → MovesOne (yield_for r x y first).acts
-      by_for None = asks_none
-      by_for (Some upcall) = asks_none
-
   of_turns : CallsAreOfEcall → (settings : Settings) (time : ℕ) (r : Record) → MovesOne (turned settings time r).acts
   of_turns of_ecall settings time r =
       of_turn of_ecall settings time r (λ t. MovesOne t.acts) (record {
         nothing = asks_none;
-        went = λ s accesses kept inbox. asks_none;
-        faults = λ s denial kept. leaves_all;
+        went = λ t is. asks_none;
+        faults = λ t denial is. leaves_all;
         makes = λ accesses form is runs.
             of_served (λ s. MovesOne s.acts) (surroundings settings time (turn_counted r)) (turn_counted r)
             settings.strict form (record {
               refused = λ rule. asks_none;
               same = λ reply. asks_none;
-              moved = λ new reply. asks_none;
-              swapped = λ swap reply. asks_none;
-              yields = λ number x y same. of_yield (turn_counted r) number x y;
+              moved = λ new reply may. asks_none;
+              swapped = λ swap reply may. asks_none;
+              yields = λ number x y same. so _ [] (kept_by_yield (turn_counted r) number x y).acts asks_none;
               commands = λ driver number x y taker same there.
                   handled (λ (t : CommandHandler). MovesOne (t (surroundings settings time (turn_counted r)) number x y
                   r.own).acts) driver taker there
@@ -298,17 +264,6 @@ module _ (w : World) where
         (λ queue e. same_queue slot Stores queue e first);
   }) device
 
-  serve_ran : (slot : ℕ) (o : Option Record) → Serves (ran w slot o)
-  serve_ran slot None = none
-  serve_ran slot (Some r) =
-      All-cons (IsOfFirst w) (turn_label slot w.clock.time (turned w.settings w.clock.time r).told) []
-      (λ queue e. absurd (cc)) none
-
-  serve_choice : (choice : Choice) → Serves (carried_out w choice)
-  unfolding carried_out
-  serve_choice (Run slot) = serve_ran slot (slice_get w.records slot)
-  serve_choice (Device device) = serve_devices device
-  serve_choice (Pass ticks) = none
-
 pub first_are_served : FirstAreServed
-first_are_served w choice = of_stepped (Serves w) w choice (none w) (λ ready. serve_choice w choice)
+first_are_served w =
+    labels_by_device (λ s. IsOfFirst w) w (λ slot r is may queue e. absurd (cc)) (serve_devices w)

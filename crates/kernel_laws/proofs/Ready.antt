@@ -1,11 +1,9 @@
 -- That only such processes have turns as may have one, and that a turn of any other would do nothing.
-use Rattle.std.proofs.Common.{◌≡◌, ◌⊎◌, inl, inr, ◌<◌, ℕ, ◌&&◌, Bool, true, false, cond, not, List, [], ◌∷◌, length}
+use Rattle.std.proofs.Common.{◌≡◌, ◌⊎◌, inl, inr, ◌<◌, ◌&&◌, Bool, true, false, cond, not, List, [], ◌∷◌, length}
 use Rattle.std.proofs.Common.{Option, None, Some, is_some, slice_get, refl, sym, subst, ◌∙◌, arith}
 use Rattle.std.specs.Prelude.{All, IsSomeAnd}
 use Rattle.std.proofs.lemmas.Bool.{false≢true}
 use Rattle.std.proofs.lemmas.List.Elements.{All-nil, All-cons, All-head, All-tail}
-use Rattle.tk_base.specs.declared.process.Choice.{Choice}
-use Rattle.tk_base.specs.declared.process.Choice.TheVariants.{Run, Device, Pass}
 use Rattle.upcall_queue.specs.declared.inbox.Delivery.{Delivery}
 use Rattle.tk_base.specs.declared.upcall.Upcall.{Upcall as Scheduled}
 use Rattle.tk_base.specs.declared.upcall.Wait.{Wait}
@@ -16,32 +14,17 @@ use Rattle.process_record.specs.declared.process.State.TheVariants.{Running, Yie
 use Rattle.kernel_model.specs.Record.{Record}
 use Rattle.kernel_model.specs.Parts.{delivery}
 use Rattle.kernel_model.specs.Turn.{has_turn, idle, is_turn, may_turn, turn_in, turned}
-use Rattle.kernel_model.specs.World.{Label, Stepped, World, labels, carried_out, is_ready, ran, turn_label}
-use Rattle.kernel_model.proofs.Labels.{device_labels}
-use Rattle.kernel_model.specs.Named.{can_run}
-use Rattle.kernel_model.proofs.Places.{free_where_may, may_where_ready, of_stepped}
+use Rattle.kernel_model.specs.World.{Label, World, labels}
+use Rattle.kernel_model.proofs.Labels.{of_labels}
+use Rattle.kernel_model.proofs.Places.{free_where_may}
 use Rattle.kernel_laws.specs.Ready.{HasDue, IsOfReady, MayHaveTurn, TurnsAreOfReadyProcesses, TurnsAreOfThose}
 use Rattle.kernel_laws.specs.Ready.{UnreadyTurnsDoNothing}
 
-module _ (w : World) where
-  of_ran : (slot : ℕ) (o : Option Record) → slice_get w.records slot ≡ o → can_run o ≡ true
-      → All (IsOfReady w) (ran w slot o).labels
-  of_ran slot None there may = All-nil (IsOfReady w)
-  of_ran slot (Some r) there may =
-      All-cons (IsOfReady w) (turn_label slot w.clock.time (turned w.settings w.clock.time r).told) []
-      (λ turn. subst (λ (o : Option Record). IsSomeAnd o (λ r. may_turn r ≡ true)) (sym there) may)
-      (All-nil (IsOfReady w))
-
-  of_choice : (choice : Choice) → is_ready w choice ≡ true → All (IsOfReady w) (carried_out w choice).labels
-  unfolding carried_out
-  of_choice (Run slot) ready = of_ran slot (slice_get w.records slot) refl (may_where_ready w slot ready)
-  of_choice (Device device) ready =
-      device_labels (IsOfReady w) w (λ slot r a there is turn. absurd (false≢true (sym is ∙ turn))) device
-  of_choice (Pass ticks) ready = All-nil (IsOfReady w)
-
 pub turns_are_of_ready_processes : TurnsAreOfReadyProcesses
-turns_are_of_ready_processes w choice =
-    of_stepped (λ (s : Stepped). All (IsOfReady w) s.labels) w choice (All-nil (IsOfReady w)) (of_choice w choice)
+turns_are_of_ready_processes w =
+    of_labels (λ s. IsOfReady w) w
+    (λ slot r is may turn. subst (λ (o : Option Record). IsSomeAnd o (λ r. may_turn r ≡ true)) (sym is) may)
+    (λ deed slot r a is told no_turn turn. absurd (false≢true (sym no_turn ∙ turn)))
 
 pub unready_turns_do_nothing : UnreadyTurnsDoNothing
 unfolding turned

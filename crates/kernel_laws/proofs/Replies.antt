@@ -4,7 +4,7 @@
 use Rattle.std.proofs.Common.{◌≡◌, ◌≢◌, ◌⊎◌, inl, inr, ◌<◌, ◌≤◌, ℕ, zero, suc, ◌+◌, ◌%◌, ◌^◌, ◌==◌, Bool, true, false}
 use Rattle.std.proofs.Common.{cond, find, List, [], ◌∷◌, length, Option, None, Some, is_some, option_map}
 use Rattle.std.proofs.Common.{Result, Ok, Err}
-use Rattle.std.proofs.Common.{IfSome, slice_get, refl, sym, ap, subst, ◌∙◌, arith}
+use Rattle.std.proofs.Common.{IfSome, refl, sym, ap, subst, ◌∙◌, arith}
 use Rattle.std.specs.Prelude.{All}
 use Rattle.std.proofs.lemmas.Bool.{false≢true}
 use Rattle.std.proofs.lemmas.List.Elements.{All-nil, All-cons, All-head, All-tail}
@@ -14,14 +14,12 @@ use Rattle.tk_base.specs.declared.access.Denial.{Denial}
 use Rattle.tk_base.specs.declared.call.CallRule.{CallRule}
 use Rattle.tk_base.specs.declared.kinds.PairKind.{PairKind}
 use Rattle.tk_base.specs.declared.kinds.PairKind.TheVariants.{Upcall, ReadOnly, ReadWrite, Readable}
-use Rattle.tk_base.specs.declared.upcall.Upcall.{Upcall as Scheduled}
 use Rattle.rv32_model.specs.Laws.{CallsAreOfEcall, Denies, IsInstrAt}
 use Rattle.rv32_model.specs.UserTurn.{MemoryAccess, executed, on_word, user_turn}
 use Rattle.rv32_model.specs.declared.instr.Instr.{Instr}
 use Rattle.rv32_model.specs.declared.instr.Instr.TheVariants.{Ecall}
 use Rattle.rv32_model.specs.declared.turn_end.TurnEnd.{TurnEnd}
 use Rattle.rv32_model.specs.declared.turn_end.TurnEnd.TheVariants.{Call}
-use Rattle.upcall_queue.specs.Pending.{place_of}
 use Rattle.driver_model.specs.Commands.{BoardRequest}
 use Rattle.syscall_abi.specs.declared.form.CallForm.{CallForm}
 use Rattle.syscall_abi.specs.declared.form.CallForm.TheVariants as forms
@@ -34,28 +32,26 @@ use Rattle.process_record.specs.declared.outcome.Outcome.{Outcome}
 use Rattle.process_record.specs.declared.outcome.Outcome.TheVariants as outcomes
 use Rattle.process_record.specs.declared.outcome.Outcome.TheVariants.{Replied}
 use Rattle.process_record.specs.declared.process.Process.{Process}
-use Rattle.process_record.specs.Process.{after_call, after_reply, waiting}
+use Rattle.process_record.specs.Process.{after_reply}
 use Rattle.process_model.specs.Permission.{denied}
 use Rattle.process_record.specs.declared.process.State.{State}
 use Rattle.kernel_model.specs.Record.{Record, byte_at, instruction, with_effect}
 use Rattle.kernel_model.specs.declared.settings.Settings.{Settings}
-use Rattle.kernel_model.specs.Calls.{Served, comes_to, driver_answered, failure_of, refused_with, served}
-use Rattle.kernel_model.specs.Calls.{yield_for, yield_now}
-use Rattle.kernel_model.specs.Calls.{yielding}
+use Rattle.kernel_model.specs.Calls.{Served, driver_answered, failure_of, refused_with, served}
 use Rattle.kernel_model.specs.Histories.{class_of}
-use Rattle.kernel_model.specs.Parts.{calls, with_process}
+use Rattle.kernel_model.specs.Parts.{calls}
 use Rattle.kernel_model.specs.Turn.{Turned, arguments, at_turn_end, made, reply_shown, surroundings}
 use Rattle.kernel_model.specs.Turn.{turn_counted, turn_in}
 use Rattle.kernel_model.specs.Turn.{turned}
 use Rattle.kernel_model.specs.World.{Label, World, after, labels}
 use Rattle.kernel_model.specs.Refused.{IfRefused, RefusalsChangeLittle}
-use Rattle.kernel_model.proofs.Classes.{of_registers}
-use Rattle.kernel_model.proofs.Memops.{by_test}
+use Rattle.kernel_model.proofs.Classes.{made_as, of_registers, same_form}
 use Rattle.kernel_model.proofs.Places.{free_turned}
 use Rattle.kernel_laws.specs.Replies.{CallIsSeen, ChangesByRefusal, EcallsAreTold, IfRefusedSeen, TellsItsCall}
 use Rattle.kernel_laws.specs.Replies.{RefusalsAreSeen, RepliesStand, ReplyStands, is_swap_class}
 use Rattle.kernel_laws.proofs.Between.{of_each_turn, of_turn}
-use Rattle.kernel_laws.proofs.Calling.{of_served}
+use Rattle.kernel_model.proofs.Calling.{of_served}
+use Rattle.kernel_model.proofs.Yields.{kept_by_yield}
 use Rattle.kernel_laws.proofs.Registers.{as_many, register_again, register_beside, register_there}
 use Rattle.kernel_laws.proofs.Registers.{words_beside, words_pc}
 
@@ -116,53 +112,24 @@ module _ (r : Record) (form : CallForm) (is : call_of r.process.regs ≡ Some fo
       (replied_regs s.process (Failure (error_of rule))
       ∙ ap (λ (p : Process). past (Failure (error_of rule)) p.regs) same)
 
-  is_yield : (number x y : ℕ) → form ≡ forms.Yield number x y → HasNone
-  is_yield number x y same =
-      inl (of_registers (λ (o : Option CallForm). o ≡ Some (forms.Yield number x y) → class r.process.regs ≡ 0)
-      r.process.regs (λ c e. c) (λ kind c e. absurd (cc)) (λ c e. absurd (cc)) (λ c e. absurd (cc))
-      (λ c e. absurd (cc)) (λ e. absurd (cc)) (is ∙ ap (λ (f : CallForm). Some f) same))
-
-  is_exit : (kind code : ℕ) → form ≡ forms.Exit kind code → HasNone
-  is_exit kind code same =
-      inr (of_registers (λ (o : Option CallForm). o ≡ Some (forms.Exit kind code) → class r.process.regs ≡ 6)
-      r.process.regs (λ c e. absurd (cc)) (λ kind c e. absurd (cc)) (λ c e. absurd (cc)) (λ c e. absurd (cc))
-      (λ c e. c) (λ e. absurd (cc)) (is ∙ ap (λ (f : CallForm). Some f) same))
-
-  by_now : (at : ℕ) (first : Option Scheduled) → HasNone → Gets (yield_now r at first)
-  by_now at None has = gets_none _ _ outcomes.GoesOn (λ reply rule e. cc) has
-  by_now at (Some upcall) has = gets_none _ _ outcomes.Delivered (λ reply rule e. cc) has
-
-  by_for : (driver number : ℕ) (first : Option Scheduled) → HasNone → Gets (yield_for r driver number first)
-  by_for driver number None has = gets_none _ _ outcomes.Waits (λ reply rule e. cc) has
-  by_for driver number (Some upcall) has = gets_none _ _ outcomes.Delivered (λ reply rule e. cc) has
-
-  by_yield : (number x y : ℕ) → HasNone → Gets (yielding r number x y)
-  unfolding yielding
-  by_yield number x y has =
-      by_test Gets (number == 0) _ _ (by_now x (slice_get r.own.inbox.pending 0) has)
-      (by_test Gets (number == 1) waits _ (gets_none waits.after [] outcomes.Waits (λ reply rule e. cc) has)
-      (by_test Gets (number == 2) _ goes_on
-      (by_for x y (slice_get r.own.inbox.pending (place_of x y r.own.inbox.pending)) has)
-      (gets_none goes_on.after [] outcomes.GoesOn (λ reply rule e. cc) has)))
-    where
-      waits : Served
-      waits = comes_to (with_process r (waiting r.process)) outcomes.Waits
-
-      goes_on : Served
-      goes_on = comes_to (with_process r (after_call r.process)) outcomes.GoesOn
-
   gets : (settings : Settings) (time : ℕ) → Gets (served settings.strict (surroundings settings time r) r form)
   gets settings time =
       of_served Gets (surroundings settings time r) r settings.strict form (record {
         refused = λ rule. gets_reply _ [] (failure_of form rule) (Some rule) (replied_regs r.process (failure_of form
             rule));
         same = λ reply. gets_reply _ [] reply None (replied_regs r.process reply);
-        moved = λ new reply. gets_reply _ [] reply None (replied_regs r.process reply);
-        swapped = λ swap reply. gets_reply _ [] reply None (replied_regs r.process reply);
-        yields = λ number x y same. by_yield number x y (is_yield number x y same);
+        moved = λ new reply may. gets_reply _ [] reply None (replied_regs r.process reply);
+        swapped = λ swap reply may. gets_reply _ [] reply None (replied_regs r.process reply);
+        yields = λ number x y same.
+            gets_none _ _ _ (kept_by_yield r number x y).silent.reply
+            (inl (made_as r.process.regs (forms.Yield number x y) (is ∙ ap (λ (f : CallForm). Some f) same)).0);
         commands = λ driver number x y taker same there. by_answer _ _ _ refl;
-        ends = λ kind code same. gets_none _ _ outcomes.Ended (λ reply rule e. cc) (is_exit kind code same);
-        again = λ kind code same. gets_none _ _ outcomes.Again (λ reply rule e. cc) (is_exit kind code same);
+        ends = λ kind code same.
+            gets_none _ _ outcomes.Ended (λ reply rule e. cc)
+            (inr (made_as r.process.regs (forms.Exit kind code) (is ∙ ap (λ (f : CallForm). Some f) same)));
+        again = λ kind code same.
+            gets_none _ _ outcomes.Again (λ reply rule e. cc)
+            (inr (made_as r.process.regs (forms.Exit kind code) (is ∙ ap (λ (f : CallForm). Some f) same)));
       })
 
 -- so a reply that a call shows stands there
@@ -227,8 +194,8 @@ replies_stand of_ecall =
     of_each_turn (λ r s told. IfSome told.call (CallIsSeen r s)) (λ settings time r.
     of_turn of_ecall settings time r (λ t. IfSome t.told.call (CallIsSeen r t.after)) (record {
       nothing = tt;
-      went = λ s accesses kept inbox. tt;
-      faults = λ s denial kept. tt;
+      went = λ t is. tt;
+      faults = λ t denial is. tt;
       makes = λ accesses form is runs.
           let s = call_seen (turn_counted r) form is _ (gets (turn_counted r) form is settings time) in
           record {
@@ -343,9 +310,6 @@ module _ (regs : Registers) (many : length regs.x ≡ 32) (rule : CallRule) wher
 
   IsRefusedBy : CallForm → Type 0
   IsRefusedBy form = Refuses (put_reply (failure_of form rule) regs)
-
-  same_form : (form other : CallForm) → Some form ≡ Some other → form ≡ other
-  same_form form other e = cc
 
   carried : (form other : CallForm) → Some form ≡ Some other → Refuses (put_reply (failure_of form rule) regs)
       → Refuses (put_reply (failure_of other rule) regs)

@@ -3,12 +3,12 @@
 -- call or the event tells. By the walk over calls and ends; each answer leaves the inbox until it schedules.
 use Rattle.std.proofs.Common.{◌≡◌, ℕ, suc, ◌+◌, ◌-◌, ◌==◌, ◌&&◌, nat_le, not, Bool, true, false, cond, List, [], ◌∷◌}
 use Rattle.std.proofs.Common.{drop, filter}
-use Rattle.std.proofs.Common.{length, slice_get, Option, None, Some, Result, Ok, Err, refl, sym, ap, ap₂, subst, ◌∙◌}
+use Rattle.std.proofs.Common.{length, Option, None, Some, Result, Ok, Err, refl, sym, ap, ap₂, subst, ◌∙◌}
 use Rattle.std.proofs.Common.{IfSome, arith, eqb-true, unwrap_or}
-use Rattle.std.specs.Prelude.{is_none, option_and_then, remove, slice_set}
+use Rattle.std.specs.Prelude.{is_none, option_and_then, remove}
 use Rattle.std.specs.List.{position_or_len}
 use Rattle.std.specs.Option.{option_map, option_map_or}
-use Rattle.std.proofs.lemmas.Bool.{false≢true}
+use Rattle.std.proofs.lemmas.Bool.{and_parts}
 use Rattle.std.proofs.Math.Seq.{drop-length}
 use Rattle.tk_base.specs.declared.access.Denial.{Denial}
 use Rattle.tk_base.specs.declared.call.CallRule.{CallRule}
@@ -22,11 +22,6 @@ use Rattle.tk_base.specs.declared.upcall.Wait.{Wait}
 use Rattle.tk_base.specs.declared.upcall.Wait.TheVariants.{For, Given, No}
 use Rattle.tk_base.specs.Regs.{Registers}
 use Rattle.tk_base.specs.declared.process.Verb.{Verb}
-use Rattle.tbf_headers.specs.declared.fault.HeaderFault.{HeaderFault}
-use Rattle.tbf_headers.specs.declared.program.Main.{Main}
-use Rattle.tbf_headers.specs.Meaning.{Meaning, header_reading}
-use Rattle.rv32_model.specs.declared.turn_end.TurnEnd.{TurnEnd}
-use Rattle.rv32_model.specs.declared.turn_end.TurnEnd.TheVariants as ends
 use Rattle.rv32_model.specs.Laws.{CallsAreOfEcall}
 use Rattle.rv32_model.specs.UserTurn.{MemoryAccess}
 use Rattle.syscall_abi.specs.declared.form.Swap.{Swap}
@@ -34,13 +29,10 @@ use Rattle.syscall_abi.specs.declared.form.CallForm.{CallForm}
 use Rattle.syscall_abi.specs.declared.form.CallForm.TheVariants as forms
 use Rattle.syscall_abi.specs.declared.reply.Reply.{Reply}
 use Rattle.syscall_abi.specs.Call.{a0, a1, a2, a3, call_of, class}
-use Rattle.fault_policy.specs.declared.Action.{Action}
-use Rattle.fault_policy.specs.declared.Action.TheVariants.{Stop, Restart}
-use Rattle.fault_policy.specs.Policy.{decision}
 use Rattle.upcall_queue.specs.declared.inbox.Delivery.{Delivery}
 use Rattle.upcall_queue.specs.declared.inbox.Delivery.TheVariants.{Function, Arguments}
 use Rattle.upcall_queue.specs.declared.inbox.Inbox.{Inbox}
-use Rattle.upcall_queue.specs.Pending.{cleared, due, is_of, left_by, place_of, scheduled, taken_at, without_key}
+use Rattle.upcall_queue.specs.Pending.{cleared, is_of, left_by, place_of, scheduled, taken_at, without_key}
 use Rattle.grant_values.specs.declared.alarm.Armed.{Armed}
 use Rattle.grant_values.specs.declared.console.WaitingRead.{WaitingRead}
 use Rattle.grant_values.specs.declared.console.WaitingWrite.{WaitingWrite}
@@ -50,8 +42,6 @@ use Rattle.grant_values.specs.declared.storage.StorageKind.TheVariants.{Read, Wr
 use Rattle.grant_values.specs.declared.storage.StorageRequest.{StorageRequest}
 use Rattle.process_model.specs.Own.{Own}
 use Rattle.process_model.specs.Flag.{with_flag}
-use Rattle.process_model.specs.Handed.{lies_in_ram}
-use Rattle.process_model.specs.Permission.{denied}
 use Rattle.process_model.specs.Served.{ScheduledUpcall, own_scheduling, upcall_of}
 use Rattle.driver_model.specs.Alarm.{answered as alarm_answered, due_alarm}
 use Rattle.driver_model.specs.Parts.{fired_if, with_word}
@@ -67,37 +57,35 @@ use Rattle.driver_model.specs.Steps.{DriverStep, own_after, scheduling, silently
 use Rattle.driver_model.specs.Storage.{answered as storage_answered, moving, finished, storage_served}
 use Rattle.driver_model.specs.Storage.{storages}
 use Rattle.driver_model.specs.Upcalls.{scheduled_if}
-use Rattle.process_record.specs.declared.outcome.Outcome.TheVariants.{GoesOn, Waits}
-use Rattle.process_record.specs.declared.process.State.{State}
-use Rattle.process_record.specs.declared.process.State.TheVariants.{Running, Yielded, Faulted, Terminated}
-use Rattle.process_record.specs.Process.{after_call, waiting}
 use Rattle.process_record.specs.Parts.{after_fault}
-use Rattle.kernel_model.specs.Record.{Record, byte_at, instruction, record_with_step, with_effect}
+use Rattle.kernel_model.specs.Record.{Record, record_with_step, with_effect}
 use Rattle.kernel_model.specs.Parts.{with_process}
 use Rattle.kernel_model.specs.declared.settings.Settings.{Settings}
-use Rattle.kernel_model.specs.Calls.{Served, by_form, comes_to, driver_answered, exit, failure_of, memop}
+use Rattle.kernel_model.specs.Calls.{Served, by_form, driver_answered, exit, failure_of, memop}
 use Rattle.kernel_model.specs.Parts.{object_permits}
 use Rattle.kernel_model.specs.Calls.{refused, refused_with, replied, restart, served}
-use Rattle.kernel_model.specs.Parts.{restarted_by, restarted_main}
 use Rattle.kernel_model.specs.Calls.{swap_by, swap_refusal}
-use Rattle.kernel_model.specs.Calls.{taken_by, yield_for, yield_now, yielding}
+use Rattle.kernel_model.specs.Calls.{taken_by, yielding}
 use Rattle.kernel_model.specs.Parts.{swapped}
 use Rattle.kernel_model.specs.Edges.{IsThenScheduled}
 use Rattle.kernel_model.specs.Named.{is_of_edge}
 use Rattle.kernel_model.specs.Histories.{class_of}
 use Rattle.kernel_model.specs.Turn.{Event, Turn, Alarmed, Edge, Taken, WriteDone, Input, Word, NoWord, Stored, Turned}
-use Rattle.kernel_model.specs.Turn.{apply, at_turn_end, faulted, made, rule_shown, settled}
-use Rattle.kernel_model.specs.Parts.{calls, delivery}
+use Rattle.kernel_model.specs.Turn.{apply, faulted, made, rule_shown}
+use Rattle.kernel_model.specs.Parts.{calls}
 use Rattle.kernel_model.specs.Turn.{Act, operated, surroundings}
-use Rattle.kernel_model.specs.Turn.{turn_counted, turn_in, turned}
+use Rattle.kernel_model.specs.Turn.{turn_counted, turned}
 use Rattle.kernel_model.proofs.Classes.{command_in, exit_in, memop_in, of_registers, swap_in, yield_in}
 use Rattle.kernel_model.proofs.Memops.{by_test, memop_gives}
 use Rattle.kernel_model.proofs.Steps.{IsAnswer, of_operated}
-use Rattle.kernel_model.proofs.Places.{of_turned}
 use Rattle.kernel_laws.specs.Scheduled.{answer_step, call_schedules, command_schedules, scheduled_by}
 use Rattle.kernel_laws.specs.Scheduled.{turn_schedules, upcall_told}
-use Rattle.kernel_laws.proofs.Commands.{command_leaves}
-use Rattle.kernel_laws.proofs.Refused.{only_counts}
+use Rattle.kernel_model.proofs.Commands.{command_leaves}
+use Rattle.kernel_model.proofs.Restarts.{restart_by}
+use Rattle.kernel_model.proofs.Turning.{of_denial}
+use Rattle.kernel_model.proofs.Yields.{flag_rest, of_yield}
+use Rattle.kernel_laws.proofs.Between.{of_turn}
+use Rattle.std.proofs.Math.Bool.{and-false}
 
 -- an element that is not the first is taken out
 later_removed : {X : Type 0} (x : X) (xs : List X) (n : ℕ) → remove (x ∷ xs) (1 + n) ≡ x ∷ remove xs n
@@ -164,15 +152,11 @@ front_gone {X} p (x ∷ xs) = by_test_of (p x)
     by_test_of true = (1, refl)
     by_test_of false = (0, refl)
 
-both_true : (a b : Bool) → (a && b) ≡ true → (a ≡ true) × (b ≡ true)
-both_true true b e = (refl, e)
-both_true false b e = absurd (false≢true e)
-
 -- an upcall of a driver and a number is of an edge as these are those of edges
 of_key : (driver number : ℕ) (u : Scheduled) → is_of driver number u ≡ true
     → is_of_edge u ≡ is_of_edge (record u { driver = driver; number = number })
 of_key driver number u is =
-    let both = both_true (u.driver == driver) (u.number == number) is in
+    let both = and_parts (u.driver == driver) (u.number == number) is in
     ap₂ (λ (d n : ℕ). is_of_edge (record u { driver = d; number = n })) (eqb-true u.driver driver both.0)
     (eqb-true u.number number both.1)
 
@@ -181,7 +165,7 @@ edge_key : (driver number : ℕ) (b : Bool) → (driver == buttons && number == 
     → (P : ℕ → ℕ → Type 0) → P buttons 0 → (((u : Scheduled) → is_of driver number u ≡ true → is_of_edge u ≡ false)
     → P driver number) → P driver number
 edge_key driver number true is P same apart =
-    let both = both_true (driver == buttons) (number == 0) is in
+    let both = and_parts (driver == buttons) (number == 0) is in
     subst (λ (d : ℕ). P d number) (sym (eqb-true driver buttons both.0))
     (subst (λ (n : ℕ). P buttons n) (sym (eqb-true number 0 both.1)) same)
 edge_key driver number false is P same apart = apart (λ u e. of_key driver number u e ∙ is)
@@ -299,12 +283,7 @@ same_inbox r s inbox pressed =
     record { remains = subst (IsRemainder r.own.inbox) (sym inbox) (all_remain r.own.inbox); pressed = pressed }
 
 pub flag_inbox : (at byte : ℕ) (own : Own) → (with_flag at byte own).inbox ≡ own.inbox
-flag_inbox at byte own = by_place (lies_in_ram own.layout at 1)
-  where
-    by_place : (b : Bool)
-        → (cond b (record own { ram = slice_set own.ram (at - own.layout.start) byte }) own).inbox ≡ own.inbox
-    by_place true = refl
-    by_place false = refl
+flag_inbox at byte own = ap (λ (o : Own). o.inbox) (flag_rest at byte own)
 
 -- what a step of a driver leaves, which leaves what was scheduled
 pub step_inbox : (step : DriverStep) (inbox : Inbox) → step.own.inbox ≡ inbox
@@ -316,10 +295,6 @@ step_inbox step inbox same = by_upcall step.schedules
         ≡ scheduled_if (option_map (λ u. upcall_of u.driver u.number u.args step.own) o) inbox
     by_upcall None = same
     by_upcall (Some u) = ap (scheduled (upcall_of u.driver u.number u.args step.own)) same
-
-and_false : (b : Bool) → (b && false) ≡ false
-and_false true = refl
-and_false false = refl
 
 -- the turn of a process
 module _ (refuse : RefusedByAnyDriver) (settings : Settings) (time : ℕ) (r : Record) where
@@ -357,41 +332,34 @@ module _ (refuse : RefusedByAnyDriver) (settings : Settings) (time : ℕ) (r : R
       subst (λ (o : Option Scheduled). Schedules o r s.after)
       (sym (ap (λ (o : Option CallRule). cond (class regs == 2 && is_none o)
       (command_schedules around r.own args) None) is
-      ∙ ap (λ (b : Bool). cond b (command_schedules around r.own args) None) (and_false (class regs == 2))))
+      ∙ ap (λ (b : Bool). cond b (command_schedules around r.own args) None) (and-false (class regs == 2))))
       (nothing_more r s.after left)
 
   same : (s : Record) → s.own.inbox ≡ r.own.inbox → s.pressed ≡ r.pressed → Keeps r s
   same s inbox pressed = same_inbox r s inbox pressed
 
-  of_yield_now : (at : ℕ) (first : Option Scheduled) → Left (yield_now counted at first)
-  of_yield_now at None = same _ (flag_inbox at 0 r.own) refl
-  of_yield_now at (Some upcall) = record {
-    remains = subst (λ (inbox : Inbox). IsRemainder r.own.inbox (taken_at 0 inbox)) (sym (flag_inbox at 1 r.own))
-        (taken_first r.own.inbox);
-    pressed = refl;
-  }
-
-  of_yield_for : (driver number : ℕ) (first : Option Scheduled) → Left (yield_for counted driver number first)
-  of_yield_for driver number None = record {
-    remains = record {
-      dropped = refl;
-      given = λ args e. absurd (one_wait driver number args e);
-      gone = 0;
-      pending = refl;
-    };
-    pressed = refl;
-  }
-  of_yield_for driver number (Some upcall) = record { remains = taken_of driver number r.own.inbox; pressed = refl }
-
-  of_yield : (number one two : ℕ) → Left (yielding counted number one two)
-  unfolding yielding
-  of_yield number one two =
-      let pending = r.own.inbox.pending in
-      by_test Left (number == 0) _ _ (of_yield_now one (slice_get pending 0))
-      (by_test Left (number == 1) (comes_to (with_process counted (waiting counted.process)) Waits) _
-      (same _ refl refl)
-      (by_test Left (number == 2) _ (comes_to (with_process counted (after_call counted.process)) GoesOn)
-      (of_yield_for one two (slice_get pending (place_of one two pending))) (same _ refl refl)))
+  yields : (number one two : ℕ) → Left (yielding counted number one two)
+  yields number one two =
+      of_yield Left counted number one two (record {
+        none = λ zero is. same _ (flag_inbox one 0 r.own) refl;
+        first = λ upcall zero is. record {
+          remains = subst (λ (inbox : Inbox). IsRemainder r.own.inbox (taken_at 0 inbox))
+              (sym (flag_inbox one 1 r.own)) (taken_first r.own.inbox);
+          pressed = refl;
+        };
+        waits = λ is. same _ refl refl;
+        waits_for = λ asks is. record {
+          remains = record {
+            dropped = refl;
+            given = λ args e. absurd (one_wait one two args e);
+            gone = 0;
+            pending = refl;
+          };
+          pressed = refl;
+        };
+        found = λ upcall asks is. record { remains = taken_of one two r.own.inbox; pressed = refl };
+        goes_on = λ zero asks. same _ refl refl;
+      })
 
   of_swap : (swap : Swap) (o : Option CallRule) → Left (swap_by counted swap o)
   of_swap swap None = record { remains = by_kind (is_buffer swap.kind); pressed = refl }
@@ -408,19 +376,12 @@ module _ (refuse : RefusedByAnyDriver) (settings : Settings) (time : ℕ) (r : R
       (λ new reply. same _ refl refl)
 
   of_restart : (s : Record) → s.own.inbox ≡ r.own.inbox → s.pressed ≡ r.pressed → Keeps r (restart s)
-  unfolding restart
-  of_restart s inbox pressed = by_reading (header_reading s.object)
-    where
-      by_main : (h : Meaning) (m : Option Main) → Keeps r (restarted_main s h m)
-      by_main h None = same s inbox pressed
-      by_main h (Some m) = record {
+  of_restart s inbox pressed =
+      restart_by (Keeps r) s (same s inbox pressed)
+      (λ h m is main. record {
         remains = subst (λ (i : Inbox). IsRemainder r.own.inbox (cleared i)) (sym inbox) (none_remain r.own.inbox);
         pressed = pressed;
-      }
-
-      by_reading : (h : Result Meaning HeaderFault) → Keeps r (restarted_by s h)
-      by_reading (Ok h) = by_main h h.main
-      by_reading (Err fault) = same s inbox pressed
+      })
 
   of_exit : (kind code : ℕ) → Left (exit counted kind code)
   unfolding exit
@@ -473,23 +434,16 @@ module _ (refuse : RefusedByAnyDriver) (settings : Settings) (time : ℕ) (r : R
   of_fault : (s : Record) (denial : Denial) → s.own.inbox ≡ r.own.inbox → s.pressed ≡ r.pressed
       → ByTurn (faulted settings s denial)
   of_fault s denial inbox pressed =
-      nothing_more r _ (by_action (decision settings.policy s.process.restarts))
-    where
-      t : Record
-      t = with_process s (after_fault s.process denial)
-
-      by_action : (action : Action) → Keeps r (settled t action)
-      by_action Stop = record {
+      nothing_more r _ (of_denial (Keeps r) settings s denial (record {
         remains = subst (λ (i : Inbox). IsRemainder r.own.inbox (cleared i)) (sym inbox) (none_remain r.own.inbox);
         pressed = pressed;
-      }
-      by_action Restart = of_restart t inbox pressed
+      }) (of_restart (with_process s (after_fault s.process denial)) inbox pressed))
 
   of_calls : (accesses : List MemoryAccess) → ByTurn (calls settings time counted accesses (call_of regs))
   unfolding by_form
   of_calls accesses =
       of_registers (λ (o : Option CallForm). ByTurn (calls settings time counted accesses o)) regs
-      (λ is. of_served (yield_in regs) (no_command 0 (formed (yield_in regs)) refl is (of_yield (a0 regs) (a1 regs)
+      (λ is. of_served (yield_in regs) (no_command 0 (formed (yield_in regs)) refl is (yields (a0 regs) (a1 regs)
       (a2 regs))))
       (λ kind is. of_served (forms.Swap (swap_in kind regs))
       (no_command (class_of kind) (swapped counted (swap_in kind regs)) (no_swap kind) is
@@ -508,48 +462,26 @@ module _ (refuse : RefusedByAnyDriver) (settings : Settings) (time : ℕ) (r : R
       no_swap ReadWrite = refl
       no_swap Readable = refl
 
-  of_end : (s : Record) (accesses : List MemoryAccess) (end : TurnEnd) → (end ≡ ends.Call → s ≡ counted)
-      → s.own.inbox ≡ r.own.inbox → s.pressed ≡ r.pressed → ByTurn (at_turn_end settings time s accesses end)
-  of_end s accesses ends.Went calls inbox pressed = nothing_more r s (same s inbox pressed)
-  of_end s accesses ends.Call calls_it inbox pressed =
-      subst (λ (x : Record). ByTurn (calls settings time x accesses (call_of x.process.regs))) (sym (calls_it refl))
-      (of_calls accesses)
-  of_end s accesses (ends.Trap denial) calls inbox pressed = of_fault s denial inbox pressed
-
-  of_delivery : (next : Option Delivery) → ByTurn (delivery r next)
-  of_delivery None = nothing_more r r (same r refl refl)
-  of_delivery (Some next) = nothing_more r _ (record { remains = delivered_remain next r.own.inbox; pressed = refl })
-
-  of_state : CallsAreOfEcall → (state : State) → ByTurn (turn_in settings time state r)
-  of_state of_ecall Running =
-      let t = instruction r in
-      of_end (with_effect counted t) t.accesses t.end
-      (λ calls. let is = of_ecall (denied r.own.layout) (byte_at r) regs calls in only_counts r t is.1 is.2) refl refl
-  of_state of_ecall Yielded = of_delivery (due r.own.inbox)
-  of_state of_ecall Faulted = nothing_more r r (same r refl refl)
-  of_state of_ecall (Terminated code) = nothing_more r r (same r refl refl)
-
 -- the turn of a process leaves what remains of what was scheduled, and then schedules what its call does
 pub turn_leaves : RefusedByAnyDriver → CallsAreOfEcall → (settings : Settings) (time : ℕ) (r : Record)
     → Schedules (turn_schedules settings time r) r (turned settings time r).after
 turn_leaves refuse of_ecall settings time r =
-    of_turned
-    (λ t. Schedules (option_and_then (call_schedules (surroundings settings time r) r.own) t.told.call) r t.after)
-    settings time r (of_state refuse settings time r of_ecall Faulted)
-    (of_state refuse settings time r of_ecall r.process.state)
+    of_turn of_ecall settings time r (ByTurn refuse settings time r) (record {
+      nothing = nothing_more r r (same_inbox r r refl refl);
+      went = λ t is. nothing_more r _ (same_inbox r (with_effect (turn_counted r) t) refl refl);
+      faults = λ t denial is. of_fault refuse settings time r (with_effect (turn_counted r) t) denial refl refl;
+      makes = λ accesses form is runs.
+          subst (λ (o : Option CallForm). ByTurn refuse settings time r
+          (calls settings time (turn_counted r) accesses o)) is (of_calls refuse settings time r accesses);
+      delivers = λ next is yielded.
+          nothing_more r _ (record { remains = delivered_remain next r.own.inbox; pressed = refl });
+    })
 
 -- a process that starts again keeps nothing of what was scheduled
 restart_keeps_none : (r : Record) → Keeps r (restart r)
-unfolding restart
-restart_keeps_none r = by_reading (header_reading r.object)
-  where
-    by_main : (h : Meaning) (m : Option Main) → Keeps r (restarted_main r h m)
-    by_main h None = same_inbox r r refl refl
-    by_main h (Some m) = record { remains = none_remain r.own.inbox; pressed = refl }
-
-    by_reading : (h : Result Meaning HeaderFault) → Keeps r (restarted_by r h)
-    by_reading (Ok h) = by_main h h.main
-    by_reading (Err fault) = same_inbox r r refl refl
+restart_keeps_none r =
+    restart_by (Keeps r) r (same_inbox r r refl refl)
+    (λ h m is main. record { remains = none_remain r.own.inbox; pressed = refl })
 
 -- an operator's act leaves what remains of what was scheduled, all or nothing, and schedules nothing
 pub act_leaves : (verb : Verb) (r : Record) → Schedules None r (operated verb r)

@@ -25,8 +25,8 @@ use Rattle.kernel_model.specs.declared.settings.Settings.{Settings}
 use Rattle.kernel_model.specs.Calls.{Served, by_form, failure_of, refused_with, served, taken_by}
 use Rattle.kernel_model.specs.Parts.{calls, object_permits}
 use Rattle.kernel_model.specs.Turn.{at_turn_end, called, surroundings, turn_counted, turn_in, turned, idle}
-use Rattle.kernel_laws.proofs.Causes.{IsCommand, command_class}
-use Rattle.kernel_laws.proofs.Commands.{handled}
+use Rattle.kernel_model.proofs.Classes.{IsCommand, made_as}
+use Rattle.kernel_model.proofs.Commands.{handled}
 use Rattle.kernel_laws.specs.Clock.{TimeComesInByTheAlarm, is_for_alarm}
 
 -- no other driver reads the clock
@@ -70,7 +70,8 @@ module _ (n : ℕ) (around : CommandContext) (r : Record) (none : is_alarms r.pr
   of_form (forms.Yield number a1 a2) is = refl
   of_form (forms.Swap swap) is = refl
   of_form (forms.Command driver number a2 a3) is =
-      of_taken driver number a2 a3 (handler_of driver) refl (command_class r.process.regs driver number a2 a3 is)
+      of_taken driver number a2 a3 (handler_of driver) refl
+      (made_as r.process.regs (forms.Command driver number a2 a3) is).1
   of_form (forms.Memop operation argument) is = refl
   of_form (forms.Exit kind code) is = refl
 

@@ -33,6 +33,7 @@ use Rattle.kernel_laws.specs.Fairness.{worlds}
 use Rattle.kernel_model.proofs.Places.{of_acted, of_stepped, of_world, stepped_else, stepped_ready}
 use Rattle.kernel_model.proofs.Told.{told_length}
 use Rattle.kernel_model.proofs.Runs.{going_is_let, going_is_ready, going_length, next_slot_ready, ready_runs}
+use Rattle.std.proofs.Math.Bool.{and-false}
 
 -- a world with as many records as another, and its pace
 pub record SameBoard (w v : World) : Type 0 where
@@ -170,10 +171,6 @@ nothing_follows : (w : World) → Follow w []
 unfolding FirstIsAt
 nothing_follows w = record { turns = tt; first = tt; each = All-nil (SameBoard w) }
 
-and_false : (b : Bool) → (b && false) ≡ false
-and_false true = refl
-and_false false = refl
-
 -- the worlds before the turns of a run follow from where it begins
 run_follows : (n : ℕ) (w : World) → Follow w (turn_worlds n w)
 unfolding chosen
@@ -183,7 +180,7 @@ run_follows (suc n) w = by_next (next w) refl (λ c. run_follows n (after w c))
     is_no_turn : (o : Option Choice) → next w ≡ o → chooses_turn o ≡ false → makes_turn w ≡ false
     is_no_turn o e none =
         ap (λ (b : Bool). nat_lt w.clock.steps STEP_LIMIT && b) (ap chooses_turn e ∙ none)
-        ∙ and_false (nat_lt w.clock.steps STEP_LIMIT)
+        ∙ and-false (nat_lt w.clock.steps STEP_LIMIT)
 
     with_rest : (b : Bool) (rest : List World) → makes_turn w ≡ b → Follow w (cond b (w ∷ rest) rest)
         → Follow w (cond (makes_turn w) (w ∷ rest) rest)

@@ -7,7 +7,7 @@ use Rattle.std.proofs.Common.{slice_index_or, is_some}
 use Rattle.std.proofs.Common.{Option, None, Some, refl, sym, ap, ap₂, ◌∙◌, arith, eqb-true}
 use Rattle.std.specs.List.{range_with_len}
 use Rattle.std.specs.Option.{ForSome, option_map, option_or}
-use Rattle.std.proofs.lemmas.Bool.{false≢true}
+use Rattle.std.proofs.lemmas.Bool.{false≢true, or_parts}
 use Rattle.std.proofs.lemmas.Bool.Decides.{nat_tests}
 use Rattle.tk_base.specs.declared.limits.TheConstants.{SLOT_COUNT}
 use Rattle.tk_base.specs.declared.process.Choice.TheVariants.{Run, Device, Pass}
@@ -25,7 +25,6 @@ use Rattle.board_devices.specs.Arriving.{first_arrival_time, is_time}
 use Rattle.driver_model.specs.Alarm.{due_for, left_for, nearer}
 use Rattle.driver_model.specs.Commands.{Writes}
 use Rattle.driver_model.specs.Laws.{IsDueWhereNoneAreLeft}
-use Rattle.kernel_model.specs.Record.{Record}
 use Rattle.kernel_model.specs.Turn.{may_turn}
 use Rattle.kernel_model.specs.World.{Work, World, is_let, only_at, only_in, sending_time, work_at}
 use Rattle.kernel_model.specs.Parts.{work_of}
@@ -37,7 +36,7 @@ use Rattle.kernel_model.specs.Run.{is_left, is_left_for, may_go, next, passes_to
 use Rattle.kernel_model.specs.Parts.{work_for}
 use Rattle.kernel_model.proofs.Runs.{going_is_let, going_is_ready, next_slot_ready, ready_goes}
 use Rattle.kernel_laws.specs.Windows.{LanesAreAhead, NextIsOfTheWindow, due_time, lane_order, lanes_in}
-use Rattle.kernel_laws.proofs.OneRun.{no_turn}
+use Rattle.kernel_laws.proofs.OneRun.{no_turn, told_ready}
 
 -- what a list by slot says of a slot
 at_slot : {X : Type 0} (f : ℕ → X) (d : X) (from n i : ℕ) → i < n
@@ -89,13 +88,6 @@ module _ (w : World) (slot : ℕ) (there : slot < SLOT_COUNT) where
       same : (p q : Dev → Bool) (xs : List Dev) → ((x : Dev) → p x ≡ q x) → find p xs ≡ find q xs
       same p q [] each = refl
       same p q (x ∷ xs) each = ap₂ (λ (b : Bool) (o : Option Dev). cond b (Some x) o) (each x) (same p q xs each)
-
--- the flag of a slot
-flag_is : (records : List Record) (slot : ℕ)
-    → slice_index_or (map may_turn records) slot false ≡ can_run (slice_get records slot)
-flag_is [] slot = refl
-flag_is (r ∷ rs) zero = refl
-flag_is (r ∷ rs) (suc slot) = flag_is rs slot
 
 -- of the flags of one slot alone that one is next, where it is set
 turn_same : (flags : List Bool) (slot : ℕ) (present : Option ℕ) (used slice : ℕ) → slot < SLOT_COUNT
@@ -207,10 +199,6 @@ none_is_found p none =
     none-find_range p 0 SLOT_COUNT (λ slot there. let same : 0 + slot ≡ slot = omega arith in ap p same ∙ none slot
     there)
 
-both_none : (a b : Bool) → (a || b) ≡ false → (a ≡ false) × (b ≡ false)
-both_none true b e = absurd (false≢true (sym e))
-both_none false b e = (refl, e)
-
 left_same : (w : World) → is_left w ≡ is_left_in_lanes (lanes_in w)
 unfolding is_left is_left_in_lanes
 left_same w =
@@ -224,7 +212,7 @@ left_same w =
     event = first_arrival_time w.devices.arrivals
 
     flag_there : (slot : ℕ) → slot_is_ready l slot ≡ can_run (slice_get w.records slot)
-    flag_there slot = flag_is w.records slot
+    flag_there slot = told_ready w.records slot
 
     none_of : (slot : ℕ) → slot < SLOT_COUNT → is_left_for w slot ≡ false
         → (is_some event ≡ false) × (is_left_in l slot ≡ false)
@@ -247,7 +235,7 @@ left_same w =
     none_here : (is_some event || is_some (find (is_left_in l) (range_with_len 0 SLOT_COUNT))) ≡ false
         → is_some (find (is_left_for w) (range_with_len 0 SLOT_COUNT)) ≡ false
     none_here none =
-        let both = both_none (is_some event) (is_some (find (is_left_in l) (range_with_len 0 SLOT_COUNT))) none in
+        let both = or_parts (is_some event) (is_some (find (is_left_in l) (range_with_len 0 SLOT_COUNT))) none in
         none_is_found (is_left_for w) (λ i h. left_slot w i h
         ∙ none_of_all (can_run (slice_get w.records i)) (is_some (device_in_window l i)) (is_some event)
         (is_some (alarm_time l i)) (is_some (uart_time l i)) both.0

@@ -1,14 +1,12 @@
 -- That no request is lost: by the rows of the drivers' tables, and by what each device's answer leaves. What a queue
 -- keeps is a value as in `Arming`, so a turn leaves it, sets it by the command that it tells, or a life ended; an
 -- answer leaves it unless it is of the queue's own device. What an accepted command asks for is then there.
-use Rattle.std.proofs.Common.{◌≡◌, ◌≢◌, inl, inr, ℕ, ◌+◌, ◌==◌, Bool, true, false, cond, nat_le, List, [], ◌∷◌}
+use Rattle.std.proofs.Common.{◌≡◌, ◌≢◌, inl, inr, ℕ, ◌+◌, ◌==◌, Bool, true, false, cond, nat_le, List, [], ◌∷◌, Ok}
 use Rattle.std.proofs.Common.{Option, None, Some, IfSome, unwrap_or, slice_index, refl, sym, ap, ap₂, subst, ◌∙◌}
-use Rattle.std.proofs.Common.{arith, eqb-true}
+use Rattle.std.proofs.Common.{arith}
 use Rattle.std.specs.Prelude.{IsSomeAnd}
 use Rattle.std.specs.List.{list_any}
-use Rattle.std.specs.Option.{option_map}
-use Rattle.std.proofs.lemmas.Bool.{false≢true}
-use Rattle.tk_base.specs.declared.call.CallRule.TheVariants.{NoCommand, NoRoom}
+use Rattle.tk_base.specs.declared.call.CallRule.TheVariants.{NoRoom}
 use Rattle.tk_base.specs.declared.process.Verb.{Verb}
 use Rattle.tk_base.specs.declared.process.Verb.TheVariants as verbs
 use Rattle.grant_values.specs.declared.console.WaitingRead.{WaitingRead}
@@ -23,7 +21,7 @@ use Rattle.process_model.specs.Handed.{has_place, own_entering}
 use Rattle.process_model.specs.Own.{Own, own_ended}
 use Rattle.process_model.specs.Served.{kept}
 use Rattle.process_record.specs.Process.{is_alive}
-use Rattle.driver_model.specs.Commands.{Commanded, QueueName, Writes, Reads, Randoms, Stores, by_number}
+use Rattle.driver_model.specs.Commands.{Commanded, QueueName, Writes, Reads, Randoms, Stores, by_number, Waits}
 use Rattle.driver_model.specs.Commands.{is_same, refusing}
 use Rattle.driver_model.specs.Console as console
 use Rattle.driver_model.specs.Console.{console_reads}
@@ -31,8 +29,8 @@ use Rattle.driver_model.specs.Drivers.{CommandContext, CommandHandler, handler_b
 use Rattle.driver_model.specs.Lines.{RequestOf, kind_in}
 use Rattle.driver_model.specs.Parts.{asking_beside}
 use Rattle.driver_model.specs.Random as random
-use Rattle.driver_model.specs.Requests.{asking, request_in}
-use Rattle.driver_model.specs.Steps.{own_after}
+use Rattle.driver_model.specs.Requests.{asking, request_in, with_request}
+use Rattle.driver_model.specs.Steps.{own_after, silently}
 use Rattle.driver_model.specs.Storage as storage
 use Rattle.kernel_model.specs.Record.{Record}
 use Rattle.kernel_model.specs.declared.settings.Settings.{Settings}
@@ -41,18 +39,20 @@ use Rattle.kernel_model.specs.Turn.{WriteDone, apply}
 use Rattle.kernel_model.specs.Laws.{DriversPromise}
 use Rattle.kernel_model.specs.Turn.{is_turn, operated, surroundings, turned}
 use Rattle.kernel_model.specs.World.{now_in}
-use Rattle.kernel_model.proofs.Steps.{IsAnswer}
+use Rattle.kernel_model.proofs.Steps.{IsAnswer, of_told}
 use Rattle.kernel_laws.specs.Arming.{Becomes}
 use Rattle.kernel_laws.specs.Asking.{AreOf, CommandAsks, CommandsAsk, IsAskedBy}
 use Rattle.kernel_laws.specs.Queues.{queue_for}
 use Rattle.kernel_laws.specs.Withdrawing.{RequestsAreLeft, RequestsAreNotLost, RequestsAreSet, SetsRequest}
 use Rattle.kernel_laws.proofs.Accepted.{Accepts, if_called, of_accepted}
 use Rattle.kernel_laws.proofs.Arming.{LeavesOrSets, accepted_sets, no_row, of_turns}
-use Rattle.kernel_laws.proofs.Asking.{asks, beside_asks, begun, entered_asks, entering_asks, none_put}
+use Rattle.kernel_laws.proofs.Asking.{asks, beside_asks, entered_asks, entering_asks, none_put}
 use Rattle.kernel_laws.proofs.Asking.{none_waits, put_asks}
-use Rattle.kernel_laws.proofs.Asking.{read_by_done, read_by_write, same_taker, told, write_by_input}
-use Rattle.kernel_laws.proofs.Beside.{answers_beside, driver_answering, scheduled_keeps}
+use Rattle.kernel_laws.proofs.Asking.{read_by_done, read_by_write, told, write_by_input}
+use Rattle.kernel_model.proofs.Beside.{answers_beside, driver_answering, scheduled_keeps}
 use Rattle.kernel_laws.proofs.Between.{of_each_answer, of_each_turn, of_turns_at}
+use Rattle.kernel_model.proofs.Places.{same_some}
+use Rattle.kernel_model.proofs.Commands.{row, if_either}
 
 -- the numbers of the commands that set the request of each queue
 abbrev numbers_of : QueueName → List ℕ
@@ -61,27 +61,20 @@ numbers_of Reads = 2 ∷ 3 ∷ []
 numbers_of Randoms = 1 ∷ []
 numbers_of Stores = 2 ∷ 3 ∷ []
 
+-- a request that begins to wait, of a driver that is entered
+abbrev begun : Own → (here : QueueName) → RequestOf here → Commanded
+begun own here request = record {
+  answer = Ok Success;
+  step = silently (with_request (kind_in here) (Some request) (own_entering (kind_in here).driver own));
+  acts = Waits (kind_in here).line ∷ [];
+}
+
 -- what a command leaves of the request of a queue
 module _ (queue : QueueName) (driver number x y : ℕ) (own : Own) where
   abbrev Sets : Commanded → Type 0
   Sets c =
       LeavesOrSets (numbers_of queue) number c.answer (asks queue own) (asks queue (own_after c.step))
       (SetsRequest queue 0 (asks queue own) (driver ∷ number ∷ x ∷ y ∷ []) (asks queue (own_after c.step)))
-
-  if_so : (b : Bool) (c d : Commanded) → Sets c → Sets d → Sets (cond b c d)
-  if_so true c d h k = h
-  if_so false c d h k = k
-
-  abbrev chosen : Option (ℕ × Commanded) → Commanded
-  chosen found = unwrap_or (option_map (λ row. row.1) found) (refusing NoCommand own)
-
-  row : (n : ℕ) (c : Commanded) (rest : Option (ℕ × Commanded)) → (number ≡ n → Sets c) → Sets (chosen rest)
-      → Sets (chosen (cond (n == number) (Some (n, c)) rest))
-  row n c rest here later = if_equal (n == number) refl
-    where
-      if_equal : (b : Bool) → (n == number) ≡ b → Sets (chosen (cond b (Some (n, c)) rest))
-      if_equal true e = here (sym (eqb-true n number e))
-      if_equal false e = later
 
   sets_here : (request : RequestOf queue) → IsAskedBy queue request (driver ∷ number ∷ x ∷ y ∷ [])
       → Sets (asking (kind_in queue) request own)
@@ -90,7 +83,7 @@ module _ (queue : QueueName) (driver number x y : ℕ) (own : Own) where
       by_waiting : (waiting : Option (RequestOf queue)) → asks queue own ≡ waiting
           → Sets (asking_beside (kind_in queue) waiting request own)
       by_waiting None none =
-          if_so (has_place (kind_in queue).driver own) (begun queue driver number x y own queue request)
+          if_either Sets (has_place (kind_in queue).driver own) (begun own queue request)
           (refusing NoRoom own)
           (inr (
             (Success, refl),
@@ -111,7 +104,7 @@ module _ (queue : QueueName) (driver number x y : ℕ) (own : Own) where
     where
       by_waiting : (waiting : Option (RequestOf here)) → Sets (asking_beside (kind_in here) waiting request own)
       by_waiting None =
-          if_so (has_place (kind_in here).driver own) (begun queue driver number x y own here request)
+          if_either Sets (has_place (kind_in here).driver own) (begun own here request)
           (refusing NoRoom own)
           (inl (
             beside_asks here queue apart (Some request) (own_entering (kind_in here).driver own)
@@ -122,21 +115,33 @@ module _ (queue : QueueName) (driver number x y : ℕ) (own : Own) where
       by_waiting (Some waiting) = inl (refl, λ among reply e. cc)
 
 module _ (number x y : ℕ) (own : Own) where
-  writes_set : Sets Writes console.console number x y own (by_number (console.commands x) number own)
+  abbrev WritesSet : Commanded → Type 0
+  WritesSet = Sets Writes console.console number x y own
+
+  abbrev ReadsSet : Commanded → Type 0
+  ReadsSet = Sets Reads console.console number x y own
+
+  abbrev RandomsSet : Commanded → Type 0
+  RandomsSet = Sets Randoms random.random number x y own
+
+  abbrev StoresSet : Commanded → Type 0
+  StoresSet = Sets Stores storage.storage number x y own
+
+  writes_set : WritesSet (by_number (console.commands x) number own)
   unfolding console.commands
   writes_set =
-      row Writes console.console number x y own 0 _ _ (λ is. inl (refl, no_row (1 ∷ []) number 0 refl is))
-      (row Writes console.console number x y own 1 _ _
+      row number own WritesSet 0 _ _ (λ is. inl (refl, no_row (1 ∷ []) number 0 refl is))
+      (row number own WritesSet 1 _ _
       (λ is. sets_here Writes console.console number x y own (record { length = x; taken = 0 }) ((refl, is), refl))
-      (row Writes console.console number x y own 2 _ _
-      (λ is. if_so Writes console.console number x y own (x == 0) _ _ (inl (refl, λ among reply e. cc))
+      (row number own WritesSet 2 _ _
+      (λ is. if_either WritesSet (x == 0) _ _ (inl (refl, λ among reply e. cc))
       (sets_other Writes console.console number x y own Reads refl (no_row (1 ∷ []) number 2 refl is)
       (record { length = x })))
-      (row Writes console.console number x y own 3 _ _ (λ is. cancelled is (request_in console_reads own))
+      (row number own WritesSet 3 _ _ (λ is. cancelled is (request_in console_reads own))
       (inl (refl, λ among reply e. cc)))))
     where
       cancelled : number ≡ 3 → (read : Option WaitingRead)
-          → Sets Writes console.console number x y own (console.cancelling read own)
+          → WritesSet (console.cancelling read own)
       cancelled is None = inl (refl, λ among reply e. cc)
       cancelled is (Some read) =
           inl (
@@ -145,21 +150,21 @@ module _ (number x y : ℕ) (own : Own) where
             no_row (1 ∷ []) number 3 refl is,
           )
 
-  reads_set : Sets Reads console.console number x y own (by_number (console.commands x) number own)
+  reads_set : ReadsSet (by_number (console.commands x) number own)
   unfolding console.commands
   reads_set =
-      row Reads console.console number x y own 0 _ _ (λ is. inl (refl, no_row (2 ∷ 3 ∷ []) number 0 refl is))
-      (row Reads console.console number x y own 1 _ _
+      row number own ReadsSet 0 _ _ (λ is. inl (refl, no_row (2 ∷ 3 ∷ []) number 0 refl is))
+      (row number own ReadsSet 1 _ _
       (λ is. sets_other Reads console.console number x y own Writes refl (no_row (2 ∷ 3 ∷ []) number 1 refl is)
       (record { length = x; taken = 0 }))
-      (row Reads console.console number x y own 2 _ _
-      (λ is. if_so Reads console.console number x y own (x == 0) _ _ (inl (refl, λ among reply e. cc))
+      (row number own ReadsSet 2 _ _
+      (λ is. if_either ReadsSet (x == 0) _ _ (inl (refl, λ among reply e. cc))
       (sets_here Reads console.console number x y own (record { length = x }) ((refl, is), refl)))
-      (row Reads console.console number x y own 3 _ _ (λ is. cancelled is (request_in console_reads own))
+      (row number own ReadsSet 3 _ _ (λ is. cancelled is (request_in console_reads own))
       (inl (refl, λ among reply e. cc)))))
     where
       cancelled : number ≡ 3 → (read : Option WaitingRead)
-          → Sets Reads console.console number x y own (console.cancelling read own)
+          → ReadsSet (console.cancelling read own)
       cancelled is None = inl (refl, λ among reply e. cc)
       cancelled is (Some read) =
           inr (
@@ -174,30 +179,30 @@ module _ (number x y : ℕ) (own : Own) where
             ),
           )
 
-  randoms_set : Sets Randoms random.random number x y own (by_number (random.commands x) number own)
+  randoms_set : RandomsSet (by_number (random.commands x) number own)
   unfolding random.commands
   randoms_set =
-      row Randoms random.random number x y own 0 _ _ (λ is. inl (refl, no_row (1 ∷ []) number 0 refl is))
-      (row Randoms random.random number x y own 1 _ _
+      row number own RandomsSet 0 _ _ (λ is. inl (refl, no_row (1 ∷ []) number 0 refl is))
+      (row number own RandomsSet 1 _ _
       (λ is. sets_here Randoms random.random number x y own (record { count = x; written = 0 }) ((refl, is), refl))
       (inl (refl, λ among reply e. cc)))
 
   stores_set : (size : ℕ)
-      → Sets Stores storage.storage number x y own (by_number (storage.commands size x y) number own)
+      → StoresSet (by_number (storage.commands size x y) number own)
   unfolding storage.commands
   stores_set size =
-      row Stores storage.storage number x y own 0 _ _ (λ is. inl (refl, no_row (2 ∷ 3 ∷ []) number 0 refl is))
-      (row Stores storage.storage number x y own 1 _ _ (λ is. inl (refl, no_row (2 ∷ 3 ∷ []) number 1 refl is))
-      (row Stores storage.storage number x y own 2 _ _
+      row number own StoresSet 0 _ _ (λ is. inl (refl, no_row (2 ∷ 3 ∷ []) number 0 refl is))
+      (row number own StoresSet 1 _ _ (λ is. inl (refl, no_row (2 ∷ 3 ∷ []) number 1 refl is))
+      (row number own StoresSet 2 _ _
       (λ is. if_fits (record { kind = Read; offset = x; length = y }) (inl ((refl, is), refl)))
-      (row Stores storage.storage number x y own 3 _ _
+      (row number own StoresSet 3 _ _
       (λ is. if_fits (record { kind = Write; offset = x; length = y }) (inr ((refl, is), refl)))
       (inl (refl, λ among reply e. cc)))))
     where
       if_fits : (request : StorageRequest) → IsAskedBy Stores request (storage.storage ∷ number ∷ x ∷ y ∷ [])
-          → Sets Stores storage.storage number x y own (storage.requesting size request own)
+          → StoresSet (storage.requesting size request own)
       if_fits request asked =
-          if_so Stores storage.storage number x y own (nat_le (request.offset + request.length) size) _ _
+          if_either StoresSet (nat_le (request.offset + request.length) size) _ _
           (sets_here Stores storage.storage number x y own request asked) (inl (refl, λ among reply e. cc))
 
 SetsAt : QueueName → Type 0
@@ -213,16 +218,16 @@ sets_at : (queue : QueueName) → SetsAt queue
 unfolding drivers SetsAt
 sets_at Writes taker is around number x y own =
     subst (λ (t : CommandHandler). Sets Writes console.console number x y own (t around number x y own))
-    (same_taker (handler_by Console) taker is) (writes_set number x y own)
+    (same_some (handler_by Console) taker is) (writes_set number x y own)
 sets_at Reads taker is around number x y own =
     subst (λ (t : CommandHandler). Sets Reads console.console number x y own (t around number x y own))
-    (same_taker (handler_by Console) taker is) (reads_set number x y own)
+    (same_some (handler_by Console) taker is) (reads_set number x y own)
 sets_at Randoms taker is around number x y own =
     subst (λ (t : CommandHandler). Sets Randoms random.random number x y own (t around number x y own))
-    (same_taker (handler_by Random) taker is) (randoms_set number x y own)
+    (same_some (handler_by Random) taker is) (randoms_set number x y own)
 sets_at Stores taker is around number x y own =
     subst (λ (t : CommandHandler). Sets Stores storage.storage number x y own (t around number x y own))
-    (same_taker (handler_by Storage) taker is) (stores_set number x y own around.storage)
+    (same_some (handler_by Storage) taker is) (stores_set number x y own around.storage)
 
 blank : (q : QueueName) (o : Option KeptValue)
     → told q (Some (unwrap_or o (fresh_value (kind_in q).driver))) ≡ told q o
@@ -240,7 +245,7 @@ module _ (settings : Settings) (r : Record) where
       → asks queue (apply settings event r).own ≡ asks queue r.own
   other_left queue event is apart = ap (told queue) (answers_beside settings event r (kind_in queue).driver is apart)
 
-  left : (queue : QueueName) (event : Event) → IsAnswer event → queue_for event ≢ Some queue
+  pub left : (queue : QueueName) (event : Event) → IsAnswer event → queue_for event ≢ Some queue
       → asks queue (apply settings event r).own ≡ asks queue r.own
   unfolding apply
   left queue (Turn time) is none = absurd (cc)
@@ -292,39 +297,32 @@ module _ (settings : Settings) (r : Record) where
 
   pub leaves : (event : Event) → is_turn event ≡ false → RequestsAreLeft event r (apply settings event r)
   unfolding apply
-  leaves (Turn time) no_turn apart queue none = absurd (false≢true (sym no_turn))
-  leaves (Act verb) no_turn apart queue none = act_left verb apart queue
-  leaves (Alarmed now) no_turn apart queue none = left queue (Alarmed now) refl none
-  leaves (Edge button pressed) no_turn apart queue none = left queue (Edge button pressed) refl none
-  leaves Taken no_turn apart queue none = left queue Taken refl none
-  leaves WriteDone no_turn apart queue none = left queue WriteDone refl none
-  leaves (Input bytes) no_turn apart queue none = left queue (Input bytes) refl none
-  leaves (Word word) no_turn apart queue none = left queue (Word word) refl none
-  leaves NoWord no_turn apart queue none = left queue NoWord refl none
-  leaves (Stored moved) no_turn apart queue none = left queue (Stored moved) refl none
+  leaves =
+      of_told (λ event. RequestsAreLeft event r (apply settings event r)) (λ event is apart queue none.
+      left queue event is none) (λ verb apart queue none. act_left verb apart queue)
 
 -- what a turn leaves of the request of a queue
-pub request_becomes : CallsAreOfEcall → (queue : QueueName) (settings : Settings) (time : ℕ) (r : Record)
+pub request_becomes : (queue : QueueName) (settings : Settings) (time : ℕ) (r : Record)
     → let t = turned settings time r in
     Becomes (SetsRequest queue) None (surroundings settings time r).now t.told r t.after (asks queue r.own)
     (asks queue t.after.own)
 unfolding SetsAt
-request_becomes of_ecall queue settings time r =
+request_becomes queue settings time r =
     of_turns (kind_in queue).driver (told queue) (SetsRequest queue) (numbers_of queue) (blank queue) (sets_at queue)
-    settings time r of_ecall
+    settings time r
 
-pub requests_are_not_lost : CallsAreOfEcall → RequestsAreNotLost
-requests_are_not_lost of_ecall = record {
+pub requests_are_not_lost : RequestsAreNotLost
+requests_are_not_lost = record {
   turns = λ w choice.
       of_turns_at (RequestsAreSet (now_in w)) w (λ r. record {
-        each = λ queue. request_becomes of_ecall queue w.settings w.clock.time r;
+        each = λ queue. request_becomes queue w.settings w.clock.time r;
       }) choice;
   answers = of_each_answer RequestsAreLeft (λ settings event r. leaves settings r event);
 }
 
 -- What an accepted command asks for is determined by its arguments, and its number is one that sets the queue's
 -- request.
-is_of : (queue : QueueName) (request : RequestOf queue) (args : List ℕ) → IsAskedBy queue request args
+pub is_of : (queue : QueueName) (request : RequestOf queue) (args : List ℕ) → IsAskedBy queue request args
     → (slice_index args 0 ≡ (kind_in queue).driver)
     × (list_any (λ n. n == slice_index args 1) (numbers_of queue) ≡ true)
 is_of Writes request args asked = (asked.0.0, ap (λ (k : ℕ). list_any (λ n. n == k) (1 ∷ [])) asked.0.1)

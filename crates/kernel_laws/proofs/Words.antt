@@ -13,21 +13,21 @@ use Rattle.tk_base.specs.declared.process.Choice.TheVariants.{Run, Device, Pass}
 use Rattle.tk_base.specs.declared.process.Dev.{Dev}
 use Rattle.script_text.specs.Settings.{ScriptEvent as Arrival}
 use Rattle.driver_model.specs.Answers.{EventsTellSteps}
-use Rattle.driver_model.specs.Commands.{BoardRequest, Waits, Leaves, Lights, QueueName, Writes, Reads, Randoms, Stores}
+use Rattle.driver_model.specs.Commands.{BoardRequest, Randoms}
 use Rattle.driver_model.specs.Console as console
 use Rattle.driver_model.specs.Random as random
 use Rattle.kernel_model.specs.Record.{Record}
 use Rattle.kernel_model.specs.Turn.{WriteDone, Taken, turned}
 use Rattle.kernel_model.specs.Record.{flash_of}
-use Rattle.kernel_model.specs.World.{Answer, Devices, Label, Stepped, World, acted, after, carried_out}
+use Rattle.kernel_model.specs.World.{Answer, Devices, Label, Stepped, World, after, carried_out}
 use Rattle.kernel_model.specs.Parts.{drawn_event}
 use Rattle.kernel_model.specs.World.{device_step_of, done, labels, ran, random_step, routed, stepped}
 use Rattle.kernel_model.specs.World.{DeviceAnswer, answer_label, lane_in}
 use Rattle.kernel_model.specs.Named.{lane_by}
 use Rattle.kernel_model.specs.Parts.{acts_of, alarmed}
-use Rattle.kernel_model.specs.World.{only_for, operating, queue_without, receive_step}
+use Rattle.kernel_model.specs.World.{only_for, operating, receive_step}
 use Rattle.kernel_model.specs.Parts.{served_by}
-use Rattle.kernel_model.specs.World.{storing, telling_edge, transmitting, turn_label, with_queue}
+use Rattle.kernel_model.specs.World.{storing, telling_edge, transmitting, turn_label}
 use Rattle.kernel_model.specs.Named.{words_in}
 use Rattle.kernel_model.specs.Named.{slots_in}
 use Rattle.kernel_model.specs.Laws.{edge_done, edge_labels, one_answered}
@@ -35,25 +35,13 @@ use Rattle.kernel_model.proofs.Told.{edge_answer, of_device, told_labels, with_r
 use Rattle.kernel_model.specs.Choices.{labels_of_all}
 use Rattle.kernel_model.specs.Replay.{after_all}
 use Rattle.kernel_laws.specs.Words.{WordsAreDrawnInOrder, of_lane, drawn_in, word_told, words_told}
-use Rattle.kernel_model.proofs.Places.{of_stepped}
+use Rattle.kernel_model.proofs.Places.{of_stepped, routed_rest, same_some}
 use Rattle.kernel_laws.proofs.Lanes.{lane_joined, one_silent, served_here, tells_none}
 use Rattle.tk_base.specs.declared.process.Dev.TheVariants as dev
 
 -- what a turn asks of the board draws none
-queue_words : (name : QueueName) (change : List ℕ → List ℕ) (d : Devices) → (with_queue name change d).words ≡ d.words
-queue_words Writes change d = refl
-queue_words Reads change d = refl
-queue_words Randoms change d = refl
-queue_words Stores change d = refl
-
-acted_words : (slot : ℕ) (act : BoardRequest) (d : Devices) → (acted slot act d).words ≡ d.words
-acted_words slot (Waits queue) d = queue_words queue (λ slots. slots ++ slot ∷ []) d
-acted_words slot (Leaves queue) d = queue_words queue (queue_without slot) d
-acted_words slot (Lights led switch) d = refl
-
 routed_words : (slot : ℕ) (acts : List BoardRequest) (d : Devices) → (routed slot acts d).words ≡ d.words
-routed_words slot [] d = refl
-routed_words slot (act ∷ acts) d = routed_words slot acts (acted slot act d) ∙ acted_words slot act d
+routed_words slot acts d = ap (λ (x : Devices). x.words) (routed_rest slot acts d)
 
 sent_none : (b : Bool) → drawn_in (cond b WriteDone Taken) ≡ []
 sent_none true = refl
@@ -64,10 +52,7 @@ drawn_is : (words : List ℕ) (drawn : Option ℕ) → IfSome drawn (λ word. sl
     → words ≡ drawn_in (drawn_event drawn) ++ random.words_after drawn words
 drawn_is words None next = refl
 drawn_is [] (Some word) next = cc
-drawn_is (first ∷ words) (Some word) next = ap (λ (w : ℕ). w ∷ words) (the_one first word next)
-  where
-    the_one : (x y : ℕ) → Some x ≡ Some y → x ≡ y
-    the_one x y e = cc
+drawn_is (first ∷ words) (Some word) next = ap (λ (w : ℕ). w ∷ words) (same_some first word next)
 
 -- what stands at a place of a list once it was put there
 put_there : (xs : List (List ℕ)) (i : ℕ) (v : List ℕ) → (length xs ≤ i → v ≡ []) → slice_index_or (slice_set xs i

@@ -205,6 +205,4 @@ pub fn breaks_are_moved()
 /// answers of its own device, and a start in a next life (TRD 104, "Command", "Exit").
 pub fn requests_are_not_lost()
     ensures { RequestsAreNotLost }
-{
-    denials_are_due();
-}
+{}

@@ -2,68 +2,55 @@
 -- any choices. Before a turn I holds of the process, and then J. A new law gives a field of `IsKept` for each primitive
 -- change of a record (registers, a wait, what drivers leave, an end, a start); `over_choices` is the induction on the
 -- choices.
-use Rattle.std.proofs.Common.{◌≡◌, ◌≤◌, ℕ, suc, ◌+◌, ◌%◌, ◌^◌, ◌==◌, Bool, true, false, cond, List, [], ◌∷◌, find}
-use Rattle.std.proofs.Common.{drop, length, slice_get, take, Option, None, Some, IfSome, is_some, Result, Ok, Err, refl}
-use Rattle.std.proofs.Common.{sym, ap, subst, arith, not, ◌&&◌, ◌∙◌}
+use Rattle.std.proofs.Common.{◌≡◌, ◌≤◌, ℕ, suc, ◌+◌, Bool, true, false, List, [], ◌∷◌}
+use Rattle.std.proofs.Common.{drop, length, slice_get, take, Option, None, Some, IfSome, refl}
+use Rattle.std.proofs.Common.{sym, ap, subst, arith}
 use Rattle.std.specs.Prelude.{remove}
 use Rattle.std.proofs.lemmas.List.{length-append, length-drop, length-take}
 use Rattle.tk_base.specs.declared.access.Denial.{Denial}
 use Rattle.tk_base.specs.declared.call.CallRule.{CallRule}
-use Rattle.tk_base.specs.declared.call.CallRule.TheVariants.{Break, Index, NoDriver, NoOperation, Permission}
 use Rattle.tk_base.specs.declared.process.Choice.{Choice}
-use Rattle.tk_base.specs.declared.upcall.Upcall.{Upcall as Scheduled}
 use Rattle.tk_base.specs.Regs.{Registers}
-use Rattle.fault_policy.specs.declared.Action.{Action}
-use Rattle.fault_policy.specs.declared.Action.TheVariants.{Stop, Restart}
-use Rattle.fault_policy.specs.Policy.{decision}
 use Rattle.process_layout.specs.Bounds.{permits_break}
 use Rattle.tk_base.specs.declared.upcall.Wait.TheVariants.{For}
 use Rattle.upcall_queue.specs.declared.inbox.Delivery.{Delivery}
 use Rattle.upcall_queue.specs.declared.inbox.Delivery.TheVariants.{Function, Arguments}
 use Rattle.upcall_queue.specs.declared.inbox.Inbox.{Inbox}
-use Rattle.upcall_queue.specs.Pending.{due, left_by, place_of, taken_at}
+use Rattle.upcall_queue.specs.Pending.{left_by, place_of, taken_at}
 use Rattle.process_model.specs.Own.{Own, kernel_break_of, own_ended as ended_own, with_inbox}
 use Rattle.process_model.specs.Flag.{with_flag}
 use Rattle.driver_model.specs.Steps.{own_after}
-use Rattle.driver_model.specs.Commands.{Commanded}
 use Rattle.driver_model.specs.Drivers.{CommandContext, CommandHandler, handler_of}
 use Rattle.driver_model.specs.Services.{OfEachService}
-use Rattle.rv32_model.specs.declared.turn_end.TurnEnd.{TurnEnd}
 use Rattle.rv32_model.specs.declared.turn_end.TurnEnd.TheVariants as ends
 use Rattle.tk_base.specs.declared.process.Verb.{Verb}
-use Rattle.rv32_model.specs.UserTurn.{MemoryAccess}
+use Rattle.rv32_model.specs.UserTurn.{UserTurn}
 use Rattle.syscall_abi.specs.declared.form.CallForm.{CallForm}
-use Rattle.syscall_abi.specs.declared.form.CallForm.TheVariants as forms
 use Rattle.syscall_abi.specs.declared.form.Swap.{Swap}
 use Rattle.syscall_abi.specs.declared.reply.Reply.{Reply}
-use Rattle.syscall_abi.specs.declared.reply.Reply.TheVariants.{Failure, FailureU32U32, Success, SuccessU32}
-use Rattle.syscall_abi.specs.declared.reply.Reply.TheVariants.{SuccessU32U32}
+use Rattle.syscall_abi.specs.declared.reply.Reply.TheVariants.{Failure}
 use Rattle.tk_base.specs.Call.{error_of}
-use Rattle.tbf_headers.specs.Meaning.{header_reading, region_count}
-use Rattle.syscall_abi.specs.Call.{call_of}
 use Rattle.process_record.specs.declared.process.RecordedRefusal.{RecordedRefusal}
-use Rattle.process_record.specs.declared.process.State.{State}
-use Rattle.process_record.specs.declared.process.State.TheVariants.{Running, Yielded, Faulted, Terminated}
 use Rattle.process_record.specs.Process.{after_call as after_call_of, after_refusal}
 use Rattle.process_record.specs.Parts.{after_exit, after_fault}
 use Rattle.process_record.specs.Process.{after_reply, delivered, waiting}
 use Rattle.process_record.specs.Parts.{past_call}
 use Rattle.kernel_model.specs.Record.{Record, instruction, with_effect, record_with_step}
-use Rattle.kernel_model.specs.Parts.{record_with_own, with_process}
+use Rattle.kernel_model.specs.Parts.{commanded, record_with_own, with_process}
 use Rattle.kernel_model.specs.declared.settings.Settings.{Settings}
-use Rattle.kernel_model.proofs.Memops.{or_refused}
-use Rattle.kernel_model.specs.Calls.{Served, driver_answered, break_moved, by_form, deliver, exit, failure_of}
-use Rattle.kernel_model.specs.Calls.{flag_written, memop, memops, moved_by}
-use Rattle.kernel_model.specs.Parts.{former_pair, object_permits}
-use Rattle.kernel_model.specs.Calls.{refused, refused_with, region_end, replied}
-use Rattle.kernel_model.specs.Parts.{region, regions_named}
+use Rattle.kernel_model.proofs.Calling.{of_commanded, of_served}
+use Rattle.kernel_model.proofs.Turning.{of_denial, of_each_end}
+use Rattle.kernel_model.proofs.Yields.{of_yield}
+use Rattle.kernel_model.specs.Calls.{Served, deliver, failure_of}
+use Rattle.kernel_model.specs.Calls.{flag_written}
+use Rattle.kernel_model.specs.Calls.{refused, refused_with, replied}
 use Rattle.kernel_model.specs.Parts.{own_swapped}
-use Rattle.kernel_model.specs.Calls.{restart, served, swap_by, swap_refusal}
-use Rattle.kernel_model.specs.Calls.{taken_by, yield_for, yield_now, yielding}
+use Rattle.kernel_model.specs.Calls.{restart, served, swap_refusal}
+use Rattle.kernel_model.specs.Calls.{yielding}
 use Rattle.kernel_model.specs.Parts.{with_break_at}
-use Rattle.kernel_model.specs.Turn.{Event, apply, turn_counted, at_turn_end, faulted, has_turn}
-use Rattle.kernel_model.specs.Parts.{calls, delivery}
-use Rattle.kernel_model.specs.Turn.{operated, settled, surroundings, turned, turn_in, idle, may_turn}
+use Rattle.kernel_model.specs.Turn.{Event, apply, turn_counted, faulted}
+use Rattle.kernel_model.specs.Parts.{calls}
+use Rattle.kernel_model.specs.Turn.{operated, surroundings, turned, may_turn}
 use Rattle.kernel_model.specs.World.{World, after}
 use Rattle.kernel_model.specs.Replay.{after_all}
 use Rattle.process_record.specs.Process.{after_end, is_alive}
@@ -138,10 +125,6 @@ module _ (R : Own → Own → Type 0) (commands : OfEachCommand R) (I J : Record
   Q : Served → Type 0
   Q s = J s.after
 
-  by_test : (b : Bool) (s t : Served) → (b ≡ true → Q s) → (b ≡ false → Q t) → Q (cond b s t)
-  by_test true s t p q = p refl
-  by_test false s t p q = q refl
-
   by_refused : (r : Record) → I r → (rule : CallRule) (reply : Reply) → Q (refused_with r rule reply)
   unfolding Q
   by_refused r h rule reply = let p = after_refusal r.process rule reply in
@@ -159,204 +142,83 @@ module _ (R : Own → Own → Type 0) (commands : OfEachCommand R) (I J : Record
   by_past r h = k.done (with_regs r (past_call r.process.regs) r.process.refusal)
       (k.regs r (past_call r.process.regs) r.process.refusal h)
 
-  by_breaks : (r : Record) → I r → (new : Option ℕ) (reply : Reply) → Q (break_moved r new reply)
-  by_breaks r h None reply = by_plain r h Break
-  by_breaks r h (Some new) reply =
-      by_test (permits_break r.own.layout (kernel_break_of r.own) new) _ _
-      (λ may. by_replied (with_break_at r new) (k.moves r new may h) reply)
-      (λ may_not. by_plain r h Break)
-
-  by_regions : (r : Record) → I r → (offset : ℕ × ℕ → ℕ) (region : Option (ℕ × ℕ)) → Q (region_end r offset region)
-  by_regions r h offset None = by_plain r h Index
-  by_regions r h offset (Some region) =
-      by_replied r h (SuccessU32 ((r.process.object.address + offset region) % 2 ^ 32))
-
-  Each : List (ℕ × Served) → Type 0
-  Each [] = Unit {0}
-  Each (row ∷ rows) = Q row.1 × Each rows
-
-  by_rows : (r : Record) → I r → (operation : ℕ) (rows : List (ℕ × Served)) → Each rows
-      → Q (or_refused r (find (λ row. row.0 == operation) rows))
-  unfolding Each
-  by_rows r h operation [] each = by_plain r h NoOperation
-  by_rows r h operation (row ∷ rows) each =
-      here_or_later (row.0 == operation) each.0 (by_rows r h operation rows each.1)
-    where
-      here_or_later : (b : Bool) → Q row.1 → Q (or_refused r (find (λ row. row.0 == operation) rows))
-          → Q (or_refused r (cond b (Some row) (find (λ row. row.0 == operation) rows)))
-      here_or_later true here later = here
-      here_or_later false here later = later
-
-  by_memop : (r : Record) → I r → (operation argument : ℕ) → Q (memop r operation argument)
-  unfolding Each memop memops
-  by_memop r h operation argument =
-      by_rows r h operation (memops r argument) (
-        by_breaks r h (Some argument) Success,
-        (
-          by_breaks r h (moved_by r.own.layout.brk argument) (SuccessU32 r.own.layout.brk),
-          (
-            by_replied r h (SuccessU32 r.own.layout.start),
-            (
-              by_replied r h (SuccessU32 r.own.layout.end),
-              (
-                by_replied r h (SuccessU32 r.process.object.address),
-                (
-                  by_replied r h (SuccessU32 (r.process.object.address + r.process.object.size)),
-                  (
-                    by_replied r h (SuccessU32 (kernel_break_of r.own)),
-                    (
-                      by_replied r h (SuccessU32 (region_count (regions_named (header_reading r.object)))),
-                      (
-                        by_regions r h (λ p. p.0) (region r argument),
-                        (
-                          by_regions r h (λ p. p.0 + p.1) (region r argument),
-                          (by_replied r h Success, (by_replied r h Success, tt)),
-                        ),
-                      ),
-                    ),
-                  ),
-                ),
-              ),
-            ),
-          ),
-        ),
-      )
-
-  by_exit : (r : Record) → is_alive r.process.state ≡ true → I r → (kind code : ℕ) → Q (exit r kind code)
-  unfolding Q exit
-  by_exit r alive h kind code =
-      by_test (kind == 0) _ _ (λ ends. k.exits r code h)
-      (λ goes. by_test (kind == 1) _ _ (λ again. k.again r alive h) (λ none. by_plain r h NoOperation))
-
   by_delivery : (r : Record) (next : Delivery) (change : Inbox → Inbox) → is_alive r.process.state ≡ true
       → Takes r.own.inbox (change r.own.inbox) → I r → J (deliver r next change)
   by_delivery r next change alive takes h =
       k.done _ (k.delivers (record_with_own r (with_inbox change r.own)) next alive (k.inboxes r change takes h))
 
-  by_yield_now : (r : Record) → is_alive r.process.state ≡ true → I r → (at : ℕ) (first : Option Scheduled)
-      → Q (yield_now r at first)
-  unfolding Q
-  by_yield_now r alive h at None = by_past (record_with_own r (with_flag at 0 r.own)) (k.flags r at 0 h)
-  by_yield_now r alive h at (Some upcall) =
-      let s = record_with_own r (with_flag at 1 r.own) in
-      by_delivery (flag_written r at 1) (Function upcall) (taken_at 0) alive (takes_at 0 s.own.inbox)
-      (k.regs s (past_call s.process.regs) s.process.refusal (k.flags r at 1 h))
-
-  by_yield_for : (r : Record) → is_alive r.process.state ≡ true → I r → (driver number : ℕ) (first : Option Scheduled)
-      → Q (yield_for r driver number first)
-  unfolding Q
-  by_yield_for r alive h driver number None =
-      let change : Inbox → Inbox = λ inbox. record inbox { wait = For driver number } in
-      k.done _ (k.waits (record_with_own r (with_inbox change r.own)) alive
-      (k.inboxes r change (record { not_more = omega arith; dropped = refl }) h))
-  by_yield_for r alive h driver number (Some upcall) =
-      let place = place_of driver number r.own.inbox.pending in
-      by_delivery (with_process r (after_call_of r.process)) (Arguments upcall.args) (taken_at place) alive
-      (takes_at place r.own.inbox) (k.regs r (past_call r.process.regs) r.process.refusal h)
-
   by_yield : (r : Record) → is_alive r.process.state ≡ true → I r → (number a1 a2 : ℕ) → Q (yielding r number a1 a2)
-  unfolding Q yielding
+  unfolding Q
   by_yield r alive h number a1 a2 =
-      by_test (number == 0) _ _ (λ now. by_yield_now r alive h a1 (slice_get r.own.inbox.pending 0))
-      (λ later. by_test (number == 1) _ _ (λ waits. k.done _ (k.waits r alive h))
-      (λ other. by_test (number == 2) _ _ (λ one. by_yield_for r alive h a1 a2
-      (slice_get r.own.inbox.pending (place_of a1 a2 r.own.inbox.pending))) (λ on. by_past r h)))
+      of_yield (λ s. J s.after) r number a1 a2 (record {
+        none = λ zero is. by_past (record_with_own r (with_flag a1 0 r.own)) (k.flags r a1 0 h);
+        first = λ upcall zero is.
+            let s = record_with_own r (with_flag a1 1 r.own) in
+            by_delivery (flag_written r a1 1) (Function upcall) (taken_at 0) alive (takes_at 0 s.own.inbox)
+            (k.regs s (past_call s.process.regs) s.process.refusal (k.flags r a1 1 h));
+        waits = λ one. k.done _ (k.waits r alive h);
+        waits_for = λ two is.
+            let change : Inbox → Inbox = λ inbox. record inbox { wait = For a1 a2 } in
+            k.done _ (k.waits (record_with_own r (with_inbox change r.own)) alive
+            (k.inboxes r change (record { not_more = omega arith; dropped = refl }) h));
+        found = λ upcall two is.
+            let place = place_of a1 a2 r.own.inbox.pending in
+            by_delivery (with_process r (after_call_of r.process)) (Arguments upcall.args) (taken_at place) alive
+            (takes_at place r.own.inbox) (k.regs r (past_call r.process.regs) r.process.refusal h);
+        goes_on = λ zero two. by_past r h;
+      })
 
-  by_swap : (r : Record) → I r → (swap : Swap) (o : Option CallRule) → swap_refusal swap r.own ≡ o
-      → Q (swap_by r swap o)
-  by_swap r h swap None is =
-      let former = former_pair swap r.own in
-      by_replied (record_with_own r (own_swapped swap r.own)) (k.hands r swap is h)
-      (SuccessU32U32 former.0 former.1)
-  by_swap r h swap (Some rule) is =
-      by_refused r h rule (FailureU32U32 (error_of rule) swap.pair.0 swap.pair.1)
-
-  by_answer : (r : Record) (c : Commanded) → I (record_with_step r c.step) → (answer : Result Reply CallRule)
-      → J (driver_answered (record_with_step r c.step) answer).after
+  by_command : (around : CommandContext) (r : Record) → I r → (driver number a2 a3 : ℕ) (taker : CommandHandler)
+      → handler_of driver ≡ Some taker → Q (commanded r (taker around number a2 a3 r.own))
   unfolding Q
-  by_answer r c h (Ok reply) = by_replied (record_with_step r c.step) h reply
-  by_answer r c h (Err rule) = by_plain (record_with_step r c.step) h rule
-
-  by_command : (around : CommandContext) (r : Record) → I r → (driver number a2 a3 : ℕ) (o : Option CommandHandler)
-      → handler_of driver ≡ o → Q (taken_by around number a2 a3 r o)
-  unfolding Q
-  by_command around r h driver number a2 a3 None is = by_plain r h NoDriver
-  by_command around r h driver number a2 a3 (Some taker) is =
+  by_command around r h driver number a2 a3 taker is =
       let c = taker around number a2 a3 r.own in
-      by_answer r c (k.serves r (own_after c.step) r.storage r.pressed
-      (commands driver taker is around number a2 a3 r.own) h) c.answer
-
-  of_form : (around : CommandContext) (r : Record) → is_alive r.process.state ≡ true → I r → (form : CallForm)
-      → Q (by_form around r form)
-  unfolding by_form
-  of_form around r alive h (forms.Yield number a1 a2) = by_yield r alive h number a1 a2
-  of_form around r alive h (forms.Swap swap) = by_swap r h swap _ refl
-  of_form around r alive h (forms.Command driver number a2 a3) =
-      by_command around r h driver number a2 a3 (handler_of driver) refl
-  of_form around r alive h (forms.Memop operation argument) = by_memop r h operation argument
-  of_form around r alive h (forms.Exit kind code) = by_exit r alive h kind code
+      let served = k.serves r (own_after c.step) r.storage r.pressed
+      (commands driver taker is around number a2 a3 r.own) h in
+      of_commanded (λ s. J s.after) r c (λ reply answers. by_replied (record_with_step r c.step) served reply)
+      (λ rule answers. by_plain (record_with_step r c.step) served rule)
 
   after_call : (strict : Bool) (around : CommandContext) (r : Record) → is_alive r.process.state ≡ true → I r
       → (call : CallForm) → J (served strict around r call).after
-  unfolding Q served
+  unfolding Q
   after_call strict around r alive h call =
-      by_test (object_permits strict r.object call) _ _ (λ may. of_form around r alive h call)
-      (λ may_not. by_refused r h Permission (failure_of call Permission))
+      of_served (λ s. J s.after) around r strict call (record {
+        refused = λ rule. by_refused r h rule (failure_of call rule);
+        same = λ reply. by_replied r h reply;
+        moved = λ new reply may. by_replied (with_break_at r new) (k.moves r new may h) reply;
+        swapped = λ swap reply may.
+            by_replied (record_with_own r (own_swapped swap r.own)) (k.hands r swap may h) reply;
+        yields = λ number a1 a2 same. by_yield r alive h number a1 a2;
+        commands = λ driver number a2 a3 taker same is. by_command around r h driver number a2 a3 taker is;
+        ends = λ kind code same. k.exits r code h;
+        again = λ kind code same. k.again r alive h;
+      })
 
   after_denial : (settings : Settings) (r : Record) → is_alive r.process.state ≡ true → I r → (denial : Denial)
       → J (faulted settings r denial).after
-  after_denial settings r alive h denial = by_action (decision settings.policy r.process.restarts)
-    where
-      by_action : (action : Action) → J (settled (with_process r (after_fault r.process denial)) action)
-      by_action Stop = k.faults r denial h
-      by_action Restart = k.faults_again r denial alive h
-
-  after_calls : (settings : Settings) (time : ℕ) (r : Record) → is_alive r.process.state ≡ true → I r
-      → (accesses : List MemoryAccess) (call : Option CallForm) → J (calls settings time r accesses call).after
-  after_calls settings time r alive h accesses (Some call) =
-      after_call settings.strict (surroundings settings time r) r alive h call
-  after_calls settings time r alive h accesses None = after_denial settings r alive h _
-
-  at_end : (settings : Settings) (time : ℕ) (r : Record) → is_alive r.process.state ≡ true → I r
-      → (accesses : List MemoryAccess) (end : TurnEnd) → J (at_turn_end settings time r accesses end).after
-  at_end settings time r alive h accesses ends.Went = k.done r h
-  at_end settings time r alive h accesses ends.Call =
-      after_calls settings time r alive h accesses (call_of r.process.regs)
-  at_end settings time r alive h accesses (ends.Trap denial) = after_denial settings r alive h denial
+  after_denial settings r alive h denial =
+      of_denial J settings r denial (k.faults r denial h) (k.faults_again r denial alive h)
 
   -- after a turn: where it had none, as it was; else by what stands once the turn was counted, and its instruction has
   -- had its effect
   pub after_own_turn : (settings : Settings) (time : ℕ) (r : Record)
       → (may_turn r ≡ false → J r) → I (turn_counted r)
       → I (with_effect (turn_counted r) (instruction r)) → J (turned settings time r).after
-  unfolding turned
-  after_own_turn settings time r none waited went = by_held r.process.held refl
+  after_own_turn settings time r none waited went =
+      of_each_end settings time r (λ t. J t.after) (record {
+        nothing = none;
+        went = λ t is. k.done _ (has_gone t is);
+        faults = λ t denial is runs.
+            after_denial settings (with_effect (turn_counted r) t) (ap is_alive runs) (has_gone t is) denial;
+        makes = λ t form is calls runs made.
+            let s = with_effect (turn_counted r) t in
+            after_call settings.strict (surroundings settings time s) s (ap is_alive runs) (has_gone t is) form;
+        delivers = λ next is yielded.
+            by_delivery (turn_counted r) next (left_by next) (ap is_alive yielded) (takes_next next r.own.inbox) waited;
+      })
     where
-      no_turn : (held : Bool) → (not held && false) ≡ false
-      no_turn true = refl
-      no_turn false = refl
-
-      by_due : (next : Option Delivery) → r.process.state ≡ Yielded → (is_some next ≡ false → J r)
-          → J (delivery r next).after
-      by_due None is none = none refl
-      by_due (Some next) is none =
-          by_delivery (turn_counted r) next (left_by next) (ap is_alive is) (takes_next next r.own.inbox) waited
-
-      by_state : (state : State) → r.process.state ≡ state → (has_turn state (due r.own.inbox) ≡ false → J r)
-          → J (turn_in settings time state r).after
-      by_state Running is none =
-          at_end settings time (with_effect (turn_counted r) (instruction r)) (ap is_alive is) went
-          (instruction r).accesses (instruction r).end
-      by_state Yielded is none = by_due (due r.own.inbox) is none
-      by_state Faulted is none = none refl
-      by_state (Terminated code) is none = none refl
-
-      by_held : (held : Bool) → r.process.held ≡ held
-          → J (cond held (idle r) (turn_in settings time r.process.state r)).after
-      by_held true is = none (ap (λ (h : Bool). not h && has_turn r.process.state (due r.own.inbox)) is)
-      by_held false is =
-          by_state r.process.state refl
-          (λ over. none (ap (λ (t : Bool). not r.process.held && t) over ∙ no_turn r.process.held))
+      has_gone : (t : UserTurn) → t ≡ instruction r → I (with_effect (turn_counted r) t)
+      has_gone t is = subst (λ (u : UserTurn). I (with_effect (turn_counted r) u)) (sym is) went
 
 module _ (R : Own → Own → Type 0) (services : OfEachService R) (I J : Record → Type 0) (k : IsKept R I J) where
   -- after a turn

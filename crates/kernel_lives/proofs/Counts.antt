@@ -1,14 +1,14 @@
 -- Time, steps and turns add up, by induction on the choices. One choice adds one step, and either a turn of one
 -- process, no time, or ticks (`OneMore`): a turn that is ready counts, by the walk of `Changes`, and answers and acts
 -- count nothing. That a ready device finds whom it serves needs that who waits is there, which each step keeps.
-use Rattle.std.proofs.Common.{◌≡◌, ◌<◌, ℕ, zero, suc, ◌+◌, ◌==◌, Bool, true, false, cond, not, ◌&&◌, nat_lt, List, []}
+use Rattle.std.proofs.Common.{◌≡◌, ◌<◌, ℕ, zero, suc, ◌+◌, ◌==◌, Bool, true, false, cond, not, nat_lt, List, []}
 use Rattle.std.proofs.Common.{◌∷◌}
 use Rattle.std.proofs.Common.{◌++◌, length, slice_get, slice_set, Option, None, Some, is_some, refl, sym, ap}
 use Rattle.std.proofs.Common.{subst, ◌∙◌, arith, ap₂, map}
-use Rattle.std.specs.Prelude.{All, unwrap_or}
+use Rattle.std.specs.Prelude.{All}
 use Rattle.tk_base.specs.declared.process.Verb.{Verb}
 use Rattle.std.specs.Option.{option_map}
-use Rattle.std.proofs.lemmas.Bool.{false≢true}
+use Rattle.std.proofs.lemmas.Bool.{false≢true, and_parts}
 use Rattle.std.proofs.lemmas.List.{length-map}
 use Rattle.std.proofs.lemmas.Option.{slice_get_within}
 use Rattle.std.proofs.lemmas.List.Elements.{All-nil, All-cons, All-append, All-filter, All-head}
@@ -18,8 +18,7 @@ use Rattle.tk_base.specs.declared.process.Choice.TheVariants.{Run, Device, Pass}
 use Rattle.tk_base.specs.declared.process.Dev.{Dev}
 use Rattle.tk_base.specs.declared.process.Dev.TheVariants as dev
 use Rattle.board_devices.specs.Arriving.{is_time}
-use Rattle.script_text.specs.Settings.{ScriptEvent as Arrival, EventKind}
-use Rattle.script_text.specs.Settings as script
+use Rattle.script_text.specs.Settings.{ScriptEvent as Arrival}
 use Rattle.board_devices.specs.Arriving.{differs}
 use Rattle.process_model.specs.Own.{Own}
 use Rattle.driver_model.specs.Alarm.{due_for}
@@ -35,9 +34,8 @@ use Rattle.kernel_model.specs.Parts.{edge_known}
 use Rattle.kernel_model.specs.Laws.{edge_heard, queue_after_answer}
 use Rattle.kernel_model.specs.World.{DeviceAnswer, DeviceStep, Devices, Stepped, World, acted, after}
 use Rattle.kernel_model.specs.Parts.{alarmed}
-use Rattle.kernel_model.specs.World.{answering, coming_in, operating}
-use Rattle.kernel_model.specs.Parts.{acting_on, acts_of, slot_of_name}
-use Rattle.kernel_model.specs.World.{telling_nobody}
+use Rattle.kernel_model.specs.World.{answering}
+use Rattle.kernel_model.specs.Parts.{acts_of}
 use Rattle.kernel_model.specs.World.{arrived, can_act, carried_out, device_step_of, done, is_ready}
 use Rattle.kernel_model.specs.Named.{can_run}
 use Rattle.kernel_model.specs.World.{may_be_made, now_in, owns_in, queue_without}
@@ -50,10 +48,11 @@ use Rattle.kernel_model.specs.Choices.{are_ready}
 use Rattle.kernel_model.specs.Replay.{after_all}
 use Rattle.kernel_lives.specs.Counts.{AddsUp, CountsAddUp, WaitingAreThere, ticks_passed, turns_made, turns_of_all}
 use Rattle.kernel_lives.proofs.Changes.{IsKept, after_turn}
-use Rattle.kernel_lives.proofs.Lives.{restart_by}
+use Rattle.kernel_model.proofs.Restarts.{restart_by}
 use Rattle.kernel_model.proofs.Steps.{IsAnswer, answer_changes, of_answers, of_operated}
 use Rattle.kernel_laws.proofs.Turns.{step_same}
 use Rattle.kernel_model.proofs.Places.{queue_with, stepped_ready}
+use Rattle.kernel_model.proofs.Told.{of_coming}
 
 -- a turn counts, where it can be had
 abbrev Any : Own → Own → Type 0
@@ -196,36 +195,19 @@ module _ (law : DueSlotIsThere) (w : World) (h : AreThere (length w.records) w.d
   first_made make (slot ∷ rest) all waits each =
       made_there make slot (All-head (λ s. s < length w.records) slot rest all) each
 
-  both : (a b : Bool) → (a && b) ≡ true → a ≡ true
-  both true b e = refl
-  both false b e = absurd (false≢true e)
-
   arrival_made : (arrivals : List Arrival) → is_time w.clock.time arrivals ≡ true
       → IsMade (length w.records) (arrived w.records w.devices arrivals)
   unfolding IsMade
   arrival_made [] e = false≢true e
-  arrival_made (a ∷ rest) e = by_kind a.kind
-    where
-      d : Devices
-      d = record w.devices { arrivals = rest }
-
-      by_there : (verb : Verb) (slot : ℕ) (o : Option Record) → slice_get w.records slot ≡ o
-          → AreThere (length w.records) (unwrap_or
-          (option_map (λ (r : Record). answering slot (operating verb d slot r)) o) (telling_nobody d)).devices
-      by_there verb slot None e = h
-      by_there verb slot (Some r) e =
-          routed_there (length w.records) slot (acts_of verb r) d (slice_get_within w.records slot r e) h
-
-      by_slot : (verb : Verb) (o : Option ℕ) → AreThere (length w.records) (acting_on verb w.records d o).devices
-      by_slot verb None = h
-      by_slot verb (Some slot) = by_there verb slot (slice_get w.records slot) refl
-
-      by_kind : (kind : EventKind)
-          → AreThere (length w.records) (coming_in kind w.records (record w.devices { arrivals = rest })).devices
-      by_kind (script.Input bytes) = h
-      by_kind (script.Press button) = h
-      by_kind (script.Release button) = h
-      by_kind (script.Act verb name) = by_slot verb (slot_of_name name w.records)
+  arrival_made (a ∷ rest) e =
+      of_coming (λ deed. AreThere (length w.records) deed.devices) w (record w.devices { arrivals = rest }) (record {
+        bytes = λ bytes. h;
+        edges = λ button pressed. h;
+        nobody = h;
+        acts = λ verb slot r is.
+            routed_there (length w.records) slot (acts_of verb r) (record w.devices { arrivals = rest })
+            (slice_get_within w.records slot r is) h;
+      }) a.kind
 
   alarm_made : (due : Option ℕ) → ((slot : ℕ) → due ≡ Some slot → slot < length w.records) → is_some due ≡ true
       → IsMade (length w.records) (serving w.records (λ slot r. alarmed w.settings w.clock.time w.devices) due)
@@ -259,10 +241,11 @@ module _ (law : DueSlotIsThere) (w : World) (h : AreThere (length w.records) w.d
       alarm_made (due_for (only_in w) (now_in w) (owns_in w))
       (λ slot due. omega (arith, law (only_in w) (now_in w) slot (owns_in w) due, length-map w.records (λ r. r.own))) e
   deed_made dev.Uart e =
-      first_made (transmitting (lane_in w) w.clock.time w.devices) (served Writes) (served_there Writes) (both _ _ e)
+      first_made (transmitting (lane_in w) w.clock.time w.devices) (served Writes) (served_there Writes)
+      (and_parts _ _ e).0
       (λ slot r. left_there Writes slot _)
   deed_made dev.Receive e =
-      first_made (receive_step (lane_in w) w.devices) (served Reads) (served_there Reads) (both _ _ e)
+      first_made (receive_step (lane_in w) w.devices) (served Reads) (served_there Reads) (and_parts _ _ e).0
       (λ slot r. left_there Reads slot _)
   deed_made dev.Random e =
       first_made (random_step (lane_in w) w.devices) (served Randoms) (served_there Randoms) e
@@ -349,11 +332,6 @@ ready_more : (w : World) (c : Choice) (turns ticks : ℕ) → is_ready w c ≡ t
 ready_more w c turns ticks ready one =
     subst (λ (s : Stepped). OneMore w turns ticks s.after) (sym (stepped_ready w c ready)) one
 
-both_true : (a b : Bool) → (a && b) ≡ true → (a ≡ true) × (b ≡ true)
-both_true true true e = (refl, refl)
-both_true true false e = absurd (false≢true e)
-both_true false b e = absurd (false≢true e)
-
 there_after : (w : World) (c : Choice) → AreThere (length w.records) (after w c).devices → WaitingAreThere (after w c)
 there_after w c h = subst (λ (n : ℕ). AreThere n (after w c).devices) (sym (step_same w c).records) h
 
@@ -373,19 +351,19 @@ pub counts_add_up : DueSlotIsThere → CountsAddUp
 unfolding may_be_made
 counts_add_up law w [] h ready = record { time = omega arith; steps = omega arith; turns = omega arith; waiting = h }
 counts_add_up law w (Run slot ∷ choices) h ready =
-    let rest = both_true (is_ready w (Run slot)) (are_ready (after w (Run slot)) choices) ready in
+    let rest = and_parts (is_ready w (Run slot)) (are_ready (after w (Run slot)) choices) ready in
     let one = ready_more w (Run slot) 1 0 rest.0
-    (run_more w slot h (both_true (nat_lt w.clock.steps STEP_LIMIT) _ rest.0).1) in
+    (run_more w slot h (and_parts (nat_lt w.clock.steps STEP_LIMIT) _ rest.0).1) in
     adds_on w (Run slot) choices 1 0 (omega arith) (omega arith) one
     (counts_add_up law (after w (Run slot)) choices (there_after w (Run slot) one.waiting) rest.1)
 counts_add_up law w (Device device ∷ choices) h ready =
-    let rest = both_true (is_ready w (Device device)) (are_ready (after w (Device device)) choices) ready in
+    let rest = and_parts (is_ready w (Device device)) (are_ready (after w (Device device)) choices) ready in
     let one = ready_more w (Device device) 0 0 rest.0
-    (device_more law w device h (both_true (nat_lt w.clock.steps STEP_LIMIT) _ rest.0).1) in
+    (device_more law w device h (and_parts (nat_lt w.clock.steps STEP_LIMIT) _ rest.0).1) in
     adds_on w (Device device) choices 0 0 (omega arith) (omega arith) one
     (counts_add_up law (after w (Device device)) choices (there_after w (Device device) one.waiting) rest.1)
 counts_add_up law w (Pass ticks ∷ choices) h ready =
-    let rest = both_true (is_ready w (Pass ticks)) (are_ready (after w (Pass ticks)) choices) ready in
+    let rest = and_parts (is_ready w (Pass ticks)) (are_ready (after w (Pass ticks)) choices) ready in
     let one = ready_more w (Pass ticks) 0 ticks rest.0 (pass_more w ticks h) in
     adds_on w (Pass ticks) choices 0 ticks (omega arith) (omega arith) one
     (counts_add_up law (after w (Pass ticks)) choices (there_after w (Pass ticks) one.waiting) rest.1)

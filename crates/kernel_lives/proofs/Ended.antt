@@ -14,7 +14,7 @@ use Rattle.kernel_model.specs.Lives.{HoldsThroughout}
 use Rattle.kernel_model.specs.Parts.{with_process}
 use Rattle.kernel_model.specs.Turn.{operated}
 use Rattle.kernel_lives.proofs.Changes.{IsKept, after_answer, after_turn, over_choices}
-use Rattle.kernel_lives.proofs.Lives.{restart_by}
+use Rattle.kernel_model.proofs.Restarts.{restart_by}
 use Rattle.kernel_lives.specs.Ended.{IsFreeOnceEnded}
 
 -- a start leaves it running

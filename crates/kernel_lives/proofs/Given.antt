@@ -14,8 +14,6 @@ use Rattle.std.proofs.lemmas.List.Elements.{All-nil, All-cons}
 use Rattle.std.proofs.lemmas.Option.{slice_get-map}
 use Rattle.tk_base.specs.Bytes.{over}
 use Rattle.tk_base.specs.declared.kinds.PairKind.TheVariants.{ReadWrite}
-use Rattle.tk_base.specs.declared.process.Choice.{Choice}
-use Rattle.tk_base.specs.declared.process.Choice.TheVariants.{Run, Device, Pass}
 use Rattle.tk_base.specs.declared.process.Dev.{Dev}
 use Rattle.grant_values.specs.declared.alarm.Armed.{Armed}
 use Rattle.grant_values.specs.declared.console.WaitingRead.{WaitingRead}
@@ -42,21 +40,21 @@ use Rattle.kernel_model.specs.declared.settings.Settings.{Settings}
 use Rattle.kernel_model.specs.Laws.{edge_done, edge_heard, one_answered}
 use Rattle.kernel_model.specs.Parts.{alarmed, drawn_event, written_over}
 use Rattle.kernel_model.specs.Turn.{Alarmed, Input, NoWord, Stored, Taken, WriteDone, apply}
-use Rattle.kernel_model.specs.Turn.{turned}
 use Rattle.kernel_model.specs.Wholes.{HasWholeOwn}
-use Rattle.kernel_model.specs.World.{Answer, DeviceAnswer, Stepped, World, after_turn_of, answer_label}
-use Rattle.kernel_model.specs.World.{carried_out, device_step_of, done, lane_in, operating, ran, random_step}
-use Rattle.kernel_model.specs.World.{receive_step, storing, telling_edge, transmitting, turn_label}
-use Rattle.kernel_model.proofs.Places.{of_stepped, set_own}
+use Rattle.kernel_model.specs.World.{Answer, DeviceAnswer, Stepped, World, answer_label}
+use Rattle.kernel_model.specs.World.{device_step_of, done, lane_in, operating, random_step}
+use Rattle.kernel_model.specs.World.{receive_step, storing, telling_edge, transmitting}
+use Rattle.kernel_model.proofs.Places.{set_own}
 use Rattle.kernel_model.proofs.Told.{edge_answer, of_device, told_labels, with_rest}
 use Rattle.kernel_laws.specs.Between.{OfAnswerIn}
 use Rattle.kernel_laws.proofs.Asking.{asks, none_put, none_waits, put_asks, told, waits, waits_kept}
-use Rattle.kernel_laws.proofs.Values.{kept_put}
+use Rattle.kernel_model.proofs.Values.{kept_put}
 use Rattle.kernel_lives.specs.Given.{AlarmIsGiven, AnswersAreGiven, InputIsGiven, IsGiven, NoWordIsGiven, StorageIsDone}
 use Rattle.kernel_lives.specs.Given.{WordIsGiven, WriteIsDone, due_to}
 use Rattle.kernel_lives.proofs.OwnBuffers.{read_write_lies}
 use Rattle.kernel_lives.proofs.Shown.{clock_shown}
 use Rattle.kernel_lives.proofs.StoredBytes.{over_read}
+use Rattle.kernel_model.proofs.Labels.{labels_by_device}
 
 take_read : (xs : List ℕ) (n k : ℕ) → k < n → k < length xs → slice_index (take n xs) k ≡ slice_index xs k
 take_read xs n k less within = grind (arith, places)
@@ -370,20 +368,7 @@ module _ (w : World) where
     stores = λ slot r first is. one slot r (storing (lane_in w) w.devices slot r) is (stored_given w.settings r _);
   }) device
 
-  of_ran : (slot : ℕ) (o : Option Record) → Gives (ran w slot o)
-  of_ran slot None = All-nil (OfAnswerIn IsGiven w w)
-  of_ran slot (Some r) =
-      let t = turned w.settings w.clock.time r in
-      All-cons (OfAnswerIn IsGiven w (after_turn_of w slot t)) (turn_label slot w.clock.time t.told) []
-      (λ no_turn. absurd (false≢true (sym no_turn)))
-      (All-nil (OfAnswerIn IsGiven w (after_turn_of w slot t)))
-
-  of_choice : (choice : Choice) → Gives (carried_out w choice)
-  unfolding carried_out
-  of_choice (Run slot) = of_ran slot (slice_get w.records slot)
-  of_choice (Device device) = of_devices device
-  of_choice (Pass ticks) = All-nil (OfAnswerIn IsGiven w (carried_out w (Pass ticks)).after)
-
 pub answers_are_given : AnswersAreGiven
-answers_are_given w choice =
-    of_stepped (Gives w) w choice (All-nil (OfAnswerIn IsGiven w w)) (λ ready. of_choice w choice)
+answers_are_given w =
+    labels_by_device (λ s. OfAnswerIn IsGiven w s.after) w
+    (λ slot r is may no_turn. absurd (false≢true (sym no_turn))) (of_devices w)

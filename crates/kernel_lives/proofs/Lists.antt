@@ -5,7 +5,7 @@
 use Rattle.std.proofs.Common.{◌≡◌, ◌≢◌, ℕ, ◌+◌, ◌==◌, Bool, true, false, cond, not, ◌&&◌, List, [], ◌∷◌, ◌++◌}
 use Rattle.std.proofs.Common.{slice_get, slice_set, Option, None, Some, IfSome, refl, sym, ap, subst, ◌∙◌}
 use Rattle.std.proofs.Common.{eqb-true, eq-eqb}
-use Rattle.std.proofs.lemmas.Bool.{false≢true}
+use Rattle.std.proofs.lemmas.Bool.{false≢true, and_parts}
 use Rattle.std.specs.Option.{option_map}
 use Rattle.std.proofs.lemmas.Option.{slice_get-map, slice_get_within}
 use Rattle.tk_base.specs.declared.process.Choice.{Choice}
@@ -161,10 +161,6 @@ routed_other here slot other (act ∷ acts) d apart =
     routed_other here slot other acts (acted slot act d) apart ∙ acted_other here slot other act d apart
 
 -- where it begins to wait only where it does not wait already, it stands there once where it waits
-both : (a b : Bool) → (a && b) ≡ true → (a ≡ true) × (b ≡ true)
-both true b e = (refl, e)
-both false b e = absurd (false≢true e)
-
 once_by : (here : QueueName) (waits : Bool) (act : BoardRequest) → not (begins here act && waits) ≡ true
     → times_by here act (once_if waits) ≡ once_if (waits_by here act waits)
 once_by here waits (Waits line) = by_same (is_same line here) waits
@@ -184,7 +180,7 @@ once_after : (here : QueueName) (waits : Bool) (acts : List BoardRequest) → wa
     → times_after here (once_if waits) acts ≡ once_if (waits_after here waits acts)
 once_after here waits [] e = refl
 once_after here waits (act ∷ acts) e =
-    let tests = both (not (begins here act && waits)) (waits_once here (waits_by here act waits) acts) e in
+    let tests = and_parts (not (begins here act && waits)) (waits_once here (waits_by here act waits) acts) e in
     ap (λ (n : ℕ). times_after here n acts) (once_by here waits act tests.0)
     ∙ once_after here (waits_by here act waits) acts tests.1
 

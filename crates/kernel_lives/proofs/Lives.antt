@@ -1,9 +1,9 @@
 -- When a process lives, and what stays of it: each is a predicate on a record that the walk of `Changes` keeps
 -- (`IsKept`, and `IsActed` for an operator's acts), so of any choices (`stays`). So it lives as it runs, an ended one
 -- is left alone, its block, object and order of memory stay, and no more upcalls wait than the limit.
-use Rattle.std.proofs.Common.{◌≡◌, ◌≢◌, ◌≤◌, ℕ, ◌+◌, ◌-◌, Bool, true, false, cond, not, ◌&&◌, nat_le, List, []}
-use Rattle.std.proofs.Common.{◌∷◌, filter, length, slice_get, slice_set, unwrap_or, option_map, Option}
-use Rattle.std.proofs.Common.{None, Some, IfSome, Result, Ok, Err, refl, sym, ap, subst, ◌∙◌, arith}
+use Rattle.std.proofs.Common.{◌≡◌, ◌≢◌, ◌≤◌, ℕ, ◌+◌, Bool, true, false, cond, not, ◌&&◌, nat_le, List, []}
+use Rattle.std.proofs.Common.{◌∷◌, filter, length, slice_get, unwrap_or, option_map, Option}
+use Rattle.std.proofs.Common.{None, Some, IfSome, refl, sym, ap, subst, ◌∙◌, arith}
 use Rattle.std.specs.Prelude.{All}
 use Rattle.std.proofs.lemmas.List.Elements.{All-head, All-tail}
 use Rattle.std.proofs.lemmas.Bool.{false≢true, leb-true}
@@ -13,9 +13,8 @@ use Rattle.tk_base.specs.declared.process.Choice.{Choice}
 use Rattle.tk_base.specs.Bits.{bit_of, has_bit, with_bit}
 use Rattle.tk_base.specs.declared.upcall.Upcall.{Upcall as Scheduled}
 use Rattle.tk_base.specs.Regs.{Registers}
-use Rattle.tbf_headers.specs.declared.fault.HeaderFault.{HeaderFault}
 use Rattle.tbf_headers.specs.declared.program.Main.{Main}
-use Rattle.tbf_headers.specs.Meaning.{Meaning, header_reading}
+use Rattle.tbf_headers.specs.Meaning.{header_reading}
 use Rattle.tk_base.specs.declared.kinds.PairKind.{PairKind}
 use Rattle.tk_base.specs.Kinds.{is_buffer}
 use Rattle.grant_model.specs.Grants.{Grant}
@@ -23,8 +22,7 @@ use Rattle.process_layout.specs.LayoutView.{first_break}
 use Rattle.process_layout.specs.Bounds.{Bounds, permits_break}
 use Rattle.upcall_queue.specs.Pending.{is_of, without_key}
 use Rattle.process_model.specs.Own.{Own, kernel_break_of, own_ended as ended_own}
-use Rattle.process_model.specs.Flag.{with_flag}
-use Rattle.process_model.specs.Handed.{lies_in_ram, still_pending}
+use Rattle.process_model.specs.Handed.{still_pending}
 use Rattle.driver_model.specs.Parts.{fired_if}
 use Rattle.driver_model.specs.Alarm as alarm
 use Rattle.driver_model.specs.Buttons as buttons
@@ -44,7 +42,7 @@ use Rattle.process_record.specs.declared.process.State.TheVariants.{Running, Yie
 use Rattle.kernel_model.specs.Record.{Record, record_with_step}
 use Rattle.kernel_model.specs.declared.settings.Settings.{Settings}
 use Rattle.kernel_model.specs.Calls.{restart, restarted_with}
-use Rattle.kernel_model.specs.Parts.{restarted_by, restarted_main, own_swapped}
+use Rattle.kernel_model.specs.Parts.{own_swapped}
 use Rattle.kernel_model.specs.Turn.{Act, Event, Turn, Alarmed, Edge, Taken, WriteDone, Input, Word, NoWord, Stored}
 use Rattle.kernel_model.specs.Turn.{apply, is_turn, operated, turned, turn_in}
 use Rattle.kernel_model.specs.Record.{flash_of}
@@ -59,36 +57,13 @@ use Rattle.tk_base.specs.declared.process.Verb.TheVariants as verbs
 use Rattle.process_record.specs.Process.{after_end, is_alive}
 use Rattle.process_record.specs.Parts.{with_held}
 use Rattle.kernel_lives.proofs.Changes.{IsActed, IsKept, after_act, after_answer, after_turn, over_choices}
-use Rattle.kernel_model.proofs.Restarts.{restarts}
+use Rattle.kernel_model.proofs.Restarts.{restart_by, restarts}
+use Rattle.kernel_model.proofs.Yields.{flag_rest}
 use Rattle.kernel_model.proofs.Handed.{is_handed}
 use Rattle.kernel_laws.proofs.Turns.{step_same}
 use Rattle.kernel_model.proofs.Replays.{record_is_replay}
 use Rattle.kernel_model.proofs.Steps.{IsAnswer, of_told}
 use Rattle.kernel_model.proofs.Places.{of_turned}
-
--- a restart, by whether the object is that of an application
-pub restart_by : (P : Record → Type 0) (r : Record) → P r
-    → ((h : Meaning) (m : Main) → header_reading r.object ≡ Ok h → h.main ≡ Some m → P (restarted_with r h m))
-    → P (restart r)
-unfolding restart
-restart_by P r same each = by_reading (header_reading r.object) refl
-  where
-    by_main : (h : Meaning) (o : Option Main) → header_reading r.object ≡ Ok h → h.main ≡ o → P (restarted_main r h o)
-    by_main h None is main = same
-    by_main h (Some m) is main = each h m is main
-
-    by_reading : (h : Result Meaning HeaderFault) → header_reading r.object ≡ h → P (restarted_by r h)
-    by_reading (Ok h) is = by_main h h.main is refl
-    by_reading (Err fault) is = same
-
--- a flag that is written changes bytes alone
-pub flag_rest : (at byte : ℕ) (own : Own) → with_flag at byte own ≡ record own { ram = (with_flag at byte own).ram }
-flag_rest at byte own = by_test (lies_in_ram own.layout at 1)
-  where
-    by_test : (b : Bool) → let o = cond b (record own { ram = slice_set own.ram (at - own.layout.start) byte }) own in
-        o ≡ record own { ram = o.ram }
-    by_test true = refl
-    by_test false = refl
 
 -- what is kept by all turns and all answers stays
 module _ (R : Own → Own → Type 0) (services : OfEachService R) (I : Record → Type 0) (k : IsKept R I I)
@@ -206,9 +181,6 @@ over_answer settings (Stored moved) r over is =
     (unanswered None r.own) in record (record_with_step r a.step) { storage = written_over r.storage a.moved })
     (none_waits storages r.own over)
 over_answer settings (Act verb) r over is = absurd (cc)
-
-pub same_some : {X : Type 0} (x y : X) → Some x ≡ Some y → x ≡ y
-same_some x y e = cc
 
 -- whatever happens to an ended process that is not held, but for an operator's act that starts it again
 ended_event : (settings : Settings) (event : Event) (r : Record) → is_alive r.process.state ≡ false

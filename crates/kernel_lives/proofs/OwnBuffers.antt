@@ -16,7 +16,7 @@ use Rattle.kernel_model.specs.Record.{Record}
 use Rattle.kernel_model.specs.Wholes.{HasWholeOwn}
 use Rattle.kernel_lives.specs.OwnBuffers.{IsInOwnFlash, IsInOwnRam, WholeOwnsHoldTheirBuffers}
 
-in_interval : (low high at size : ℕ) → lies_within low high at size ≡ true → (low ≤ at) × (at + size ≤ high)
+pub in_interval : (low high at size : ℕ) → lies_within low high at size ≡ true → (low ≤ at) × (at + size ≤ high)
 in_interval low high at size is = grind (arith, nat_tests)
 
 -- a buffer that has bytes, where it may be kept

@@ -9,7 +9,6 @@ use Rattle.std.specs.Prelude.{All}
 use Rattle.std.proofs.lemmas.List.{get_or-drop, get_or-take, length-take}
 use Rattle.std.proofs.lemmas.List.Elements.{All-nil, All-cons}
 use Rattle.tk_base.specs.declared.process.Choice.{Choice}
-use Rattle.tk_base.specs.declared.process.Choice.TheVariants.{Run, Device, Pass}
 use Rattle.tk_base.specs.declared.process.Dev.{Dev}
 use Rattle.grant_values.specs.declared.console.WaitingWrite.{WaitingWrite}
 use Rattle.driver_model.specs.Console as console
@@ -19,15 +18,15 @@ use Rattle.kernel_model.specs.Record.{Record}
 use Rattle.tk_base.specs.declared.process.Verb.{Verb}
 use Rattle.kernel_model.specs.Turn.{Act, Event, Taken, WriteDone, turned}
 use Rattle.kernel_model.specs.Record.{flash_of}
-use Rattle.kernel_model.specs.World.{Label, Stepped, World, answer_label, carried_out, device_step_of, done, labels}
-use Rattle.kernel_model.specs.World.{Answer, lane_in, listed, ran, telling_edge, transmitting, turn_label}
+use Rattle.kernel_model.specs.World.{Label, Stepped, World, answer_label, device_step_of, done, labels}
+use Rattle.kernel_model.specs.World.{Answer, lane_in, listed, telling_edge, transmitting, turn_label}
 use Rattle.kernel_model.specs.Laws.{edge_labels, one_answered}
 use Rattle.kernel_model.proofs.Told.{edge_answer, of_device, told_labels}
 use Rattle.kernel_model.specs.Replay.{after_all}
 use Rattle.kernel_model.specs.Prints.{AreOfItsBuffer, IsPrintedBy, PrintsAreOfBuffers, PrintsItsBuffer}
 use Rattle.kernel_model.specs.Parts.{buffer_bytes}
 use Rattle.kernel_model.specs.Parts.{console_buffer}
-use Rattle.kernel_model.proofs.Places.{of_stepped}
+use Rattle.kernel_model.proofs.Labels.{labels_by_device}
 
 -- the bytes that come next are those of the buffer
 next_of : (write : WaitingWrite) (r : Record) (k : ℕ) → k < length (console.next_bytes (flash_of r) write r.own)
@@ -135,21 +134,11 @@ module _ (w : World) where
         stores = λ slot r first is. silently slot _;
       }) device
 
-  choice_prints : (choice : Choice) → All (PrintsItsBuffer w) (carried_out w choice).labels
-  unfolding carried_out
-  choice_prints (Run slot) = by_record (slice_get w.records slot)
-    where
-      by_record : (o : Option Record) → All (PrintsItsBuffer w) (ran w slot o).labels
-      by_record None = All-nil (PrintsItsBuffer w)
-      by_record (Some r) =
-          silent (turn_label slot w.clock.time (turned w.settings w.clock.time r).told) refl
-  choice_prints (Device device) = deed_tells device
-  choice_prints (Pass ticks) = All-nil (PrintsItsBuffer w)
-
   step_prints : (choice : Choice) → All (PrintsItsBuffer w) (labels w choice)
-  step_prints choice =
-      of_stepped (λ (s : Stepped). All (PrintsItsBuffer w) s.labels) w choice (All-nil (PrintsItsBuffer w))
-      (λ ready. choice_prints choice)
+  step_prints =
+      labels_by_device (λ s. PrintsItsBuffer w) w
+      (λ slot r is may. prints_none (turn_label slot w.clock.time (turned w.settings w.clock.time r).told) refl)
+      deed_tells
 
 pub prints_are_of_buffers : PrintsAreOfBuffers
 prints_are_of_buffers w choices choice = step_prints (after_all w choices) choice

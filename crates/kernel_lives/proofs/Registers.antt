@@ -1,27 +1,20 @@
 -- That a process has 32 registers throughout: no instruction, call, delivery or start makes them more or fewer. Each
 -- writes words into the registers that there are (`words_many`), or a start makes 32. A walk of its own, by the form of
 -- the instruction and of the call (`of_served`), since the walk of `Changes` leaves registers open.
-use Rattle.std.proofs.Common.{◌≡◌, ℕ, ◌%◌, ◌==◌, false, cond, List, [], ◌∷◌, length, Option, None, Some}
-use Rattle.std.proofs.Common.{Result, Ok, Err, replicate, slice_get, refl, sym, subst, ◌∙◌, ◌-◌}
+use Rattle.std.proofs.Common.{ap, ◌≡◌, ℕ, ◌%◌, ◌==◌, cond, [], ◌∷◌, length, Option, None, Some}
+use Rattle.std.proofs.Common.{Result, Ok, Err, replicate, refl, sym, subst, ◌∙◌, ◌-◌}
 use Rattle.tk_base.specs.Regs.{Registers, with_register}
 use Rattle.tk_base.specs.declared.access.Denial.{Denial}
 use Rattle.tk_base.specs.declared.access.Rule.{Rule}
 use Rattle.tk_base.specs.declared.access.Width.{Width}
 use Rattle.tk_base.specs.declared.access.Access.TheVariants.{Load, Store}
-use Rattle.tk_base.specs.declared.call.CallRule.{CallRule}
-use Rattle.tk_base.specs.declared.upcall.Upcall.{Upcall as Scheduled}
-use Rattle.fault_policy.specs.declared.Action.{Action}
-use Rattle.fault_policy.specs.declared.Action.TheVariants.{Stop, Restart}
-use Rattle.fault_policy.specs.Policy.{decision}
 use Rattle.rv32_model.specs.Laws.{Denies}
-use Rattle.rv32_model.specs.UserTurn.{MemoryAccess, after_load, after_store, effect, executed, fetched, instr_of}
+use Rattle.rv32_model.specs.UserTurn.{UserTurn, after_load, after_store, effect, executed, fetched, instr_of}
 use Rattle.rv32_model.specs.UserTurn.{on_word, user_turn}
 use Rattle.rv32_model.specs.declared.instr.Instr.{Instr}
 use Rattle.rv32_model.specs.declared.instr.Instr.TheVariants as instrs
 use Rattle.rv32_model.specs.declared.instr.LoadKind.{LoadKind}
-use Rattle.rv32_model.specs.declared.turn_end.TurnEnd.{TurnEnd}
 use Rattle.rv32_model.specs.declared.turn_end.TurnEnd.TheVariants as ends
-use Rattle.syscall_abi.specs.Call.{call_of}
 use Rattle.syscall_abi.specs.Reply.{reply_words, with_words}
 use Rattle.syscall_abi.specs.declared.form.CallForm.{CallForm}
 use Rattle.syscall_abi.specs.declared.reply.Reply.{Reply}
@@ -31,30 +24,27 @@ use Rattle.tbf_headers.specs.Addresses.{after_protected, entry_of}
 use Rattle.tbf_headers.specs.Meaning.{Meaning}
 use Rattle.tbf_headers.specs.declared.program.Main.{Main}
 use Rattle.process_layout.specs.LayoutView.{first_break}
-use Rattle.upcall_queue.specs.Pending.{due, place_of}
 use Rattle.upcall_queue.specs.declared.inbox.Delivery.{Delivery}
 use Rattle.upcall_queue.specs.declared.inbox.Delivery.TheVariants.{Function, Arguments}
 use Rattle.process_model.specs.Permission.{denied}
-use Rattle.process_record.specs.Process.{after_call, delivery_regs, start_regs, waiting}
-use Rattle.process_record.specs.declared.outcome.Outcome.TheVariants.{GoesOn, Waits}
-use Rattle.process_record.specs.declared.process.State.{State}
-use Rattle.process_record.specs.declared.process.State.TheVariants.{Faulted, Running, Terminated, Yielded}
-use Rattle.kernel_model.specs.Calls.{Served, comes_to, driver_answered, failure_of, restart, served, yield_for}
-use Rattle.kernel_model.specs.Calls.{yield_now, yielding}
+use Rattle.process_record.specs.Process.{after_call, delivery_regs, start_regs}
+use Rattle.kernel_model.specs.Calls.{Served, failure_of, restart, served}
+use Rattle.kernel_model.specs.Calls.{yielding}
 use Rattle.kernel_model.specs.Lives.{HoldsThroughout}
-use Rattle.kernel_model.specs.Parts.{calls, delivery, with_process}
+use Rattle.process_record.specs.Parts.{after_fault}
+use Rattle.kernel_model.specs.Parts.{calls, with_process}
 use Rattle.kernel_model.specs.Record.{Record, byte_at, instruction, with_effect}
 use Rattle.kernel_model.specs.declared.settings.Settings.{Settings}
-use Rattle.kernel_model.specs.Turn.{at_turn_end, faulted, settled, surroundings, turn_counted}
-use Rattle.kernel_model.specs.Turn.{turn_in, turned}
-use Rattle.kernel_model.proofs.Memops.{by_test}
-use Rattle.kernel_model.proofs.Places.{of_turned}
+use Rattle.kernel_model.specs.Turn.{faulted, surroundings, turn_counted}
+use Rattle.kernel_model.specs.Turn.{turned}
 use Rattle.kernel_model.proofs.Steps.{answer_changes, of_operated}
-use Rattle.kernel_laws.proofs.Calling.{of_served}
+use Rattle.kernel_model.proofs.Calling.{of_commanded, of_served}
+use Rattle.kernel_model.proofs.Turning.{of_denial, of_each_end}
+use Rattle.kernel_model.proofs.Yields.{of_yield}
 use Rattle.kernel_laws.proofs.Registers.{as_many, words_many}
 use Rattle.kernel_lives.specs.Registers.{HasRegisters}
 use Rattle.kernel_lives.proofs.Changes.{over_choices}
-use Rattle.kernel_lives.proofs.Lives.{restart_by}
+use Rattle.kernel_model.proofs.Restarts.{restart_by}
 
 -- An instruction leaves as many.
 module _ (denies : Denies) (bytes : ℕ → ℕ) (regs : Registers) where
@@ -119,14 +109,8 @@ started_many r h = restart_by HasRegisters r h (λ header m read main.
 
 module _ (settings : Settings) (time : ℕ) where
   faulted_many : (s : Record) (denial : Denial) → HasRegisters s → HasRegisters (faulted settings s denial).after
-  faulted_many s denial h = by_action (decision settings.policy s.process.restarts)
-    where
-      fault : Record
-      fault = record s { process = record s.process { state = Faulted; held = false; denial = Some denial } }
-
-      by_action : (action : Action) → HasRegisters (settled fault action)
-      by_action Stop = h
-      by_action Restart = started_many fault h
+  faulted_many s denial h =
+      of_denial HasRegisters settings s denial h (started_many (with_process s (after_fault s.process denial)) h)
 
   -- a call
   module _ (r : Record) (h : HasRegisters r) where
@@ -136,71 +120,45 @@ module _ (settings : Settings) (time : ℕ) where
     replied_many : (reply : Reply) → length (with_words 10 (reply_words reply) r.process.regs).x ≡ 32
     replied_many reply = words_many 10 (reply_words reply) r.process.regs ∙ h
 
-    by_now : (at : ℕ) (first : Option Scheduled) → Many (yield_now r at first)
-    by_now at None = h
-    by_now at (Some upcall) = delivery_many (Function upcall) (after_call r.process).regs ∙ h
-
-    by_for : (driver number : ℕ) (first : Option Scheduled) → Many (yield_for r driver number first)
-    by_for driver number None = h
-    by_for driver number (Some upcall) = delivery_many (Arguments upcall.args) (after_call r.process).regs ∙ h
-
     by_yield : (number x y : ℕ) → Many (yielding r number x y)
-    unfolding yielding
     by_yield number x y =
-        by_test Many (number == 0) _ _ (by_now x (slice_get r.own.inbox.pending 0))
-        (by_test Many (number == 1) (comes_to (with_process r (waiting r.process)) Waits) _ h
-        (by_test Many (number == 2) _ (comes_to (with_process r (after_call r.process)) GoesOn)
-        (by_for x y (slice_get r.own.inbox.pending (place_of x y r.own.inbox.pending))) h))
-
-    by_answer : (s : Record) → s.process.regs ≡ r.process.regs → (answer : Result Reply CallRule)
-        → Many (driver_answered s answer)
-    by_answer s same (Ok reply) =
-        subst (λ (regs : Registers). length (with_words 10 (reply_words reply) regs).x ≡ 32) (sym same)
-        (replied_many reply)
-    by_answer s same (Err rule) =
-        subst (λ (regs : Registers). length (with_words 10 (reply_words (Failure (error_of rule))) regs).x ≡ 32)
-        (sym same)
-        (replied_many (Failure (error_of rule)))
+        of_yield Many r number x y (record {
+          none = λ zero is. h;
+          first = λ upcall zero is. delivery_many (Function upcall) (after_call r.process).regs ∙ h;
+          waits = λ one. h;
+          waits_for = λ two is. h;
+          found = λ upcall two is. delivery_many (Arguments upcall.args) (after_call r.process).regs ∙ h;
+          goes_on = λ zero two. h;
+        })
 
     served_many : (form : CallForm) → Many (served settings.strict (surroundings settings time r) r form)
     served_many form =
         of_served Many (surroundings settings time r) r settings.strict form (record {
           refused = λ rule. replied_many (failure_of form rule);
           same = λ reply. replied_many reply;
-          moved = λ new reply. replied_many reply;
-          swapped = λ swap reply. replied_many reply;
+          moved = λ new reply may. replied_many reply;
+          swapped = λ swap reply may. replied_many reply;
           yields = λ number x y same. by_yield number x y;
-          commands = λ driver number x y taker same there. by_answer _ refl _;
+          commands = λ driver number x y taker same there.
+              of_commanded Many r (taker (surroundings settings time r) number x y r.own)
+              (λ reply is. replied_many reply) (λ rule is. replied_many (Failure (error_of rule)));
           ends = λ kind code same. h;
           again = λ kind code same. started_many r h;
         })
 
-  calls_many : (s : Record) (accesses : List MemoryAccess) (call : Option CallForm) → HasRegisters s
-      → HasRegisters (calls settings time s accesses call).after
-  calls_many s accesses None h = faulted_many s _ h
-  calls_many s accesses (Some form) h = served_many s h form
-
-  ends_many : (s : Record) (accesses : List MemoryAccess) (end : TurnEnd) → HasRegisters s
-      → HasRegisters (at_turn_end settings time s accesses end).after
-  ends_many s accesses ends.Went h = h
-  ends_many s accesses ends.Call h = calls_many s accesses (call_of s.process.regs) h
-  ends_many s accesses (ends.Trap denial) h = faulted_many s denial h
-
   turned_many : (r : Record) → HasRegisters r → HasRegisters (turned settings time r).after
-  turned_many r h = of_turned (λ t. HasRegisters t.after) settings time r h (by_state r.process.state)
+  turned_many r h =
+      of_each_end settings time r (λ t. HasRegisters t.after) (record {
+        nothing = λ none. h;
+        went = many;
+        faults = λ t denial is runs. faulted_many (with_effect (turn_counted r) t) denial (many t is);
+        makes = λ t form is calls runs made. served_many (with_effect (turn_counted r) t) (many t is) form;
+        delivers = λ next is yielded. delivery_many next r.process.regs ∙ h;
+      })
     where
-      by_due : (next : Option Delivery) → HasRegisters (delivery r next).after
-      by_due None = h
-      by_due (Some next) = delivery_many next r.process.regs ∙ h
-
-      by_state : (state : State) → HasRegisters (turn_in settings time state r).after
-      by_state Running =
-          let t = instruction r in
-          ends_many (with_effect (turn_counted r) t) t.accesses t.end
-          (turn_many (denied r.own.layout) (byte_at r) r.process.regs ∙ h)
-      by_state Yielded = by_due (due r.own.inbox)
-      by_state Faulted = h
-      by_state (Terminated code) = h
+      many : (t : UserTurn) → t ≡ instruction r → length t.regs.x ≡ 32
+      many t is =
+          ap (λ (u : UserTurn). length u.regs.x) is ∙ turn_many (denied r.own.layout) (byte_at r) r.process.regs ∙ h
 
 pub registers_stay : HoldsThroughout HasRegisters
 registers_stay =

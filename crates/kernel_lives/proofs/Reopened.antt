@@ -19,9 +19,11 @@ use Rattle.kernel_model.specs.World.{World, after}
 use Rattle.kernel_model.specs.Replay.{after_all}
 use Rattle.kernel_model.specs.Lives.{IsAsAtFirst, IsAtFirst, LiesAs, RestartsAsOpened}
 use Rattle.kernel_lives.proofs.Changes.{IsKept, after_act, after_answer, after_turn}
-use Rattle.kernel_lives.proofs.Lives.{lies_kept, lies_on, places_stay, restart_by, same_some}
+use Rattle.kernel_lives.proofs.Lives.{lies_kept, lies_on, places_stay}
+use Rattle.kernel_model.proofs.Restarts.{restart_by}
 use Rattle.upcall_queue.specs.Pending.{cleared}
 use Rattle.kernel_model.proofs.Steps.{of_step}
+use Rattle.kernel_model.proofs.Places.{same_some}
 
 -- what a start makes of a process that lies where another does, is what it makes of that, but for the counts, the
 -- storage and the buttons that it knows to be pressed

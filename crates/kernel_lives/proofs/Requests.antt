@@ -10,7 +10,7 @@ use Rattle.std.specs.Option.{option_map}
 use Rattle.std.proofs.lemmas.Bool.{false≢true}
 use Rattle.std.proofs.lemmas.List.Elements.{All-head, All-tail}
 use Rattle.process_model.specs.Own.{Own}
-use Rattle.driver_model.specs.Commands.{QueueName, Writes, Reads, Randoms, Stores, is_same}
+use Rattle.driver_model.specs.Commands.{QueueName, is_same}
 use Rattle.driver_model.specs.Keeping.{DriversKeep}
 use Rattle.driver_model.specs.Laws.{StaysInPlace}
 use Rattle.driver_model.specs.Lines.{has_waiting}
@@ -24,30 +24,12 @@ use Rattle.kernel_model.specs.World.{Label, World, after, labels, may_serve, onl
 use Rattle.kernel_model.proofs.Steps.{of_answer, of_step}
 use Rattle.kernel_laws.specs.Queues.{FirstAreServed, IsOfFirst, queue_for}
 use Rattle.kernel_lives.proofs.Lists.{act_keeps}
-use Rattle.kernel_lives.proofs.Lives.{over_turn, same_some}
+use Rattle.kernel_lives.proofs.Lives.{over_turn}
 use Rattle.kernel_lives.specs.Lists.{ListsAreOfRequests, ListsStay, once_if, times_in}
 use Rattle.kernel_lives.specs.Requests.{HasRequestsOfItsLife, RequestsAddUp}
 use Rattle.kernel_lives.specs.Requests.{RequestsEndWithTheirLife}
 use Rattle.kernel_lives.specs.Requests.{answers_for, asks_in}
-
--- two names of queues that are the same are one
-same_name : (a b : QueueName) → is_same a b ≡ true → a ≡ b
-same_name Writes Writes e = refl
-same_name Writes Reads e = absurd (false≢true e)
-same_name Writes Randoms e = absurd (false≢true e)
-same_name Writes Stores e = absurd (false≢true e)
-same_name Reads Writes e = absurd (false≢true e)
-same_name Reads Reads e = refl
-same_name Reads Randoms e = absurd (false≢true e)
-same_name Reads Stores e = absurd (false≢true e)
-same_name Randoms Writes e = absurd (false≢true e)
-same_name Randoms Reads e = absurd (false≢true e)
-same_name Randoms Randoms e = refl
-same_name Randoms Stores e = absurd (false≢true e)
-same_name Stores Writes e = absurd (false≢true e)
-same_name Stores Reads e = absurd (false≢true e)
-same_name Stores Randoms e = absurd (false≢true e)
-same_name Stores Stores e = refl
+use Rattle.kernel_model.proofs.Places.{same_name, same_some}
 
 -- the first of some slots is among them
 pub stands : (slot x : ℕ) (xs : List ℕ) → x ≡ slot → 1 ≤ times_in slot (x ∷ xs)

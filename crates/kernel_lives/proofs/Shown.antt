@@ -33,11 +33,11 @@ use Rattle.kernel_model.specs.Wholes.{HasWholeOwn}
 use Rattle.kernel_model.specs.World.{now_in}
 use Rattle.kernel_laws.specs.Arming.{IsAccepted}
 use Rattle.kernel_laws.proofs.Accepted.{Accepts, HasCome, accepted_yield, comes_of, if_called, of_accepted, yields}
-use Rattle.kernel_laws.proofs.Asking.{same_taker}
 use Rattle.kernel_laws.proofs.Between.{of_each_turn, of_turns_at}
 use Rattle.kernel_lives.specs.Given.{ClockIsShown, ClocksAreShown, FlagTells, FlagsTell, HasFlag}
 use Rattle.kernel_lives.proofs.OwnBuffers.{writable_lies}
 use Rattle.kernel_lives.proofs.StoredBytes.{over_read}
+use Rattle.kernel_model.proofs.Places.{same_some}
 
 -- bytes that are written over others change their own places alone
 over_beside : (xs ys : List ℕ) (p k : ℕ) → k < length xs → (k < p) ⊎ (p + length ys ≤ k)
@@ -102,7 +102,7 @@ shows_so : (around : CommandContext) (own o : Own) (acts : List BoardRequest) (c
 unfolding drivers alarm.commands
 shows_so around own o acts call takes zero two =
     takes.own
-    ∙ ap (λ (t : CommandHandler). own_after (comes_of around own t call).step) (sym (same_taker (handler_by Alarm)
+    ∙ ap (λ (t : CommandHandler). own_after (comes_of around own t call).step) (sym (same_some (handler_by Alarm)
     takes.taker (subst (λ (d : ℕ). handler_of d ≡ Some takes.taker) zero takes.there)))
     ∙ ap (λ (n : ℕ). own_after (by_number (alarm.commands around.now (slice_index call.args 2)
     (slice_index call.args 3)) n own).step) two

@@ -1,8 +1,8 @@
 -- That storage is memory: a turn leaves it, a served write is written over it, and all else leaves it. Each part of a
 -- turn has the record's storage as it was, so an event writes what it says (`writes_at`), and a history all of that,
 -- one after another, by induction. What a read gives is then read back from the buffer.
-use Rattle.std.proofs.Common.{◌≡◌, ◌≤◌, ◌<◌, ◌⊎◌, inl, inr, ℕ, ◌+◌, ◌-◌, ◌==◌, Bool, true, false, cond, min, List, []}
-use Rattle.std.proofs.Common.{◌∷◌, ◌++◌, length, take, drop, map, slice_get, Option, None, Some, Result, Ok, Err}
+use Rattle.std.proofs.Common.{◌≡◌, ◌≤◌, ◌<◌, ◌⊎◌, inl, inr, ℕ, ◌+◌, ◌-◌, Bool, true, false, cond, min, List, []}
+use Rattle.std.proofs.Common.{◌∷◌, ◌++◌, length, take, drop, map, Option, None, Some}
 use Rattle.std.proofs.Common.{unwrap_or, refl, sym, ap, subst, ◌∙◌, arith, slice_index, slice_range}
 use Rattle.std.specs.Prelude.{IfSome}
 use Rattle.std.specs.Option.{option_map}
@@ -11,55 +11,40 @@ use Rattle.std.proofs.lemmas.List.FromFn.{length-map-range_with_len}
 use Rattle.std.proofs.lemmas.Bool.{cases_lt}
 use Rattle.std.specs.List.{range_with_len}
 use Rattle.tk_base.specs.Bytes.{over}
-use Rattle.tk_base.specs.declared.access.Denial.{Denial}
-use Rattle.tk_base.specs.declared.call.CallRule.{CallRule}
 use Rattle.tk_base.specs.declared.kinds.PairKind.TheVariants.{ReadOnly}
 use Rattle.tk_base.specs.declared.process.Verb.{Verb}
 use Rattle.tk_base.specs.declared.process.Verb.TheVariants as verbs
-use Rattle.tk_base.specs.declared.upcall.Upcall.{Upcall as Scheduled}
 use Rattle.grant_values.specs.declared.storage.StorageKind.{StorageKind}
 use Rattle.grant_values.specs.declared.storage.StorageKind.TheVariants.{Read, Write}
 use Rattle.grant_values.specs.declared.storage.StorageRequest.{StorageRequest}
-use Rattle.rv32_model.specs.declared.turn_end.TurnEnd.{TurnEnd}
 use Rattle.rv32_model.specs.declared.turn_end.TurnEnd.TheVariants as ends
-use Rattle.rv32_model.specs.UserTurn.{MemoryAccess}
-use Rattle.fault_policy.specs.declared.Action.{Action}
 use Rattle.fault_policy.specs.declared.Action.TheVariants.{Stop, Restart}
-use Rattle.fault_policy.specs.Policy.{decision}
-use Rattle.upcall_queue.specs.declared.inbox.Delivery.{Delivery}
-use Rattle.upcall_queue.specs.Pending.{due, place_of}
 use Rattle.syscall_abi.specs.declared.form.CallForm.{CallForm}
-use Rattle.syscall_abi.specs.declared.form.CallForm.TheVariants as forms
-use Rattle.syscall_abi.specs.declared.form.Swap.{Swap}
-use Rattle.syscall_abi.specs.declared.reply.Reply.{Reply}
-use Rattle.syscall_abi.specs.Call.{call_of}
 use Rattle.process_model.specs.Changes.{own_byte}
 use Rattle.process_model.specs.Served.{fitting, bytes_at, ram_at}
 use Rattle.process_model.specs.Own.{Own}
 use Rattle.process_model.specs.Handed.{held, lies_in_ram}
-use Rattle.process_record.specs.declared.process.State.{State}
-use Rattle.process_record.specs.declared.process.State.TheVariants.{Running, Yielded, Faulted, Terminated}
 use Rattle.process_record.specs.Parts.{after_fault}
 use Rattle.board_devices.specs.Storage.{overwritten}
 use Rattle.driver_model.specs.Bytes.{stored_buffer}
 use Rattle.driver_model.specs.Requests.{keeping_request, unanswered, waiting_in}
-use Rattle.driver_model.specs.Steps.{own_after, DriverStep}
+use Rattle.driver_model.specs.Steps.{own_after}
 use Rattle.driver_model.specs.Storage as storage
-use Rattle.driver_model.specs.Drivers.{CommandContext, CommandHandler, handler_of}
-use Rattle.kernel_model.specs.Record.{Record, flash_of, instruction, record_with_step, with_effect}
+use Rattle.driver_model.specs.Drivers.{CommandContext}
+use Rattle.kernel_model.specs.Record.{Record, flash_of, with_effect}
 use Rattle.kernel_model.specs.declared.settings.Settings.{Settings}
-use Rattle.kernel_model.specs.Calls.{Served, by_form, driver_answered, exit, memop, restart, served, swap_by}
-use Rattle.kernel_model.specs.Calls.{swap_refusal, taken_by, yield_for, yield_now, yielding}
-use Rattle.kernel_model.specs.Parts.{calls, delivery, object_permits, unknown_call, with_process, written_over}
+use Rattle.kernel_model.specs.Calls.{restart, served}
+use Rattle.kernel_model.specs.Parts.{calls, with_process, written_over}
 use Rattle.kernel_model.specs.Turn.{Act, Event, Turn, Alarmed, Edge, Taken, WriteDone, Input, Word, NoWord, Stored}
-use Rattle.kernel_model.specs.Turn.{apply, at_turn_end, faulted, operated, settled, surroundings, turn_counted}
-use Rattle.kernel_model.specs.Turn.{turn_in, turned}
+use Rattle.kernel_model.specs.Turn.{apply, operated, surroundings, turn_counted}
+use Rattle.kernel_model.specs.Turn.{turned}
 use Rattle.kernel_model.specs.Replay.{history, replay}
-use Rattle.kernel_model.proofs.Memops.{by_test, memop_gives}
 use Rattle.kernel_model.proofs.Replays.{record_is_replay}
-use Rattle.kernel_model.proofs.Places.{of_turned}
 use Rattle.kernel_lives.proofs.OwnBuffers.{read_write_lies}
-use Rattle.kernel_lives.proofs.Lives.{restart_by}
+use Rattle.kernel_model.proofs.Calling.{of_commanded, of_served}
+use Rattle.kernel_model.proofs.Restarts.{restart_by}
+use Rattle.kernel_model.proofs.Turning.{of_denial, of_each_end}
+use Rattle.kernel_model.proofs.Yields.{kept_by_yield}
 use Rattle.kernel_lives.specs.StoredBytes.{ReadsGiveStorage, StorageIsMemory, all_written, write_by, writes_at}
 use Rattle.kernel_lives.specs.StoredBytes.{writes_in}
 
@@ -68,98 +53,38 @@ restarted : (r : Record) → (restart r).storage ≡ r.storage
 restarted r = restart_by (λ (s : Record). s.storage ≡ r.storage) r refl (λ h m read main. refl)
 
 -- nor does a call
-module _ (around : CommandContext) (r : Record) where
-  abbrev Leaves : Served → Type 0
-  Leaves s = s.after.storage ≡ r.storage
-
-  of_yield_now : (at : ℕ) (first : Option Scheduled) → Leaves (yield_now r at first)
-  of_yield_now at None = refl
-  of_yield_now at (Some upcall) = refl
-
-  of_yield_for : (driver number : ℕ) (first : Option Scheduled) → Leaves (yield_for r driver number first)
-  of_yield_for driver number None = refl
-  of_yield_for driver number (Some upcall) = refl
-
-  of_yield : (number a1 a2 : ℕ) → Leaves (yielding r number a1 a2)
-  unfolding yielding
-  of_yield number a1 a2 =
-      let pending = r.own.inbox.pending in
-      by_test Leaves (number == 0) _ _ (of_yield_now a1 (slice_get pending 0))
-      (by_test Leaves (number == 1) _ _ refl
-      (by_test Leaves (number == 2) _ _ (of_yield_for a1 a2 (slice_get pending (place_of a1 a2 pending))) refl))
-
-  of_swap : (swap : Swap) (o : Option CallRule) → Leaves (swap_by r swap o)
-  of_swap swap None = refl
-  of_swap swap (Some rule) = refl
-
-  of_answer : (step : DriverStep) (answer : Result Reply CallRule)
-      → Leaves (driver_answered (record_with_step r step) answer)
-  of_answer step (Ok reply) = refl
-  of_answer step (Err rule) = refl
-
-  of_taken : (number a2 a3 : ℕ) (o : Option CommandHandler) → Leaves (taken_by around number a2 a3 r o)
-  of_taken number a2 a3 None = refl
-  of_taken number a2 a3 (Some taker) = let c = taker around number a2 a3 r.own in of_answer c.step c.answer
-
-  of_memop : (operation argument : ℕ) → Leaves (memop r operation argument)
-  of_memop operation argument =
-      memop_gives Leaves r operation argument (λ rule. refl) (λ reply. refl) (λ new reply. refl)
-
-  of_exit : (kind code : ℕ) → Leaves (exit r kind code)
-  unfolding exit
-  of_exit kind code =
-      by_test Leaves (kind == 0) _ _ refl (by_test Leaves (kind == 1) _ _ (restarted r) refl)
-
-  of_form : (form : CallForm) → Leaves (by_form around r form)
-  unfolding by_form
-  of_form (forms.Yield number a1 a2) = of_yield number a1 a2
-  of_form (forms.Swap swap) = of_swap swap (swap_refusal swap r.own)
-  of_form (forms.Command driver number a2 a3) = of_taken number a2 a3 (handler_of driver)
-  of_form (forms.Memop operation argument) = of_memop operation argument
-  of_form (forms.Exit kind code) = of_exit kind code
-
-  of_served : (strict : Bool) (call : CallForm) → Leaves (served strict around r call)
-  unfolding served
-  of_served strict call =
-      by_test Leaves (object_permits strict r.object call) _ _ (of_form call) refl
+call_leaves : (around : CommandContext) (r : Record) (strict : Bool) (call : CallForm)
+    → (served strict around r call).after.storage ≡ r.storage
+call_leaves around r strict call =
+    of_served (λ s. s.after.storage ≡ r.storage) around r strict call (record {
+      refused = λ rule. refl;
+      same = λ reply. refl;
+      moved = λ new reply may. refl;
+      swapped = λ swap reply may. refl;
+      yields = λ number a1 a2 same. (kept_by_yield r number a1 a2).storage;
+      commands = λ driver number a2 a3 taker same there.
+          of_commanded (λ s. s.after.storage ≡ r.storage) r (taker around number a2 a3 r.own) (λ reply is. refl)
+          (λ rule is. refl);
+      ends = λ kind code same. refl;
+      again = λ kind code same. restarted r;
+    })
 
 -- nor a turn
-module _ (settings : Settings) (time : ℕ) where
-  of_fault : (r : Record) (denial : Denial) → (faulted settings r denial).after.storage ≡ r.storage
-  of_fault r denial = by_action (decision settings.policy r.process.restarts)
-    where
-      fault : Record
-      fault = with_process r (after_fault r.process denial)
-
-      by_action : (action : Action) → (settled fault action).storage ≡ r.storage
-      by_action Stop = refl
-      by_action Restart = restarted fault
-
-  of_calls : (r : Record) (accesses : List MemoryAccess) (call : Option CallForm)
-      → (calls settings time r accesses call).after.storage ≡ r.storage
-  of_calls r accesses None = of_fault r (unknown_call r.process)
-  of_calls r accesses (Some call) = of_served (surroundings settings time r) r settings.strict call
-
-  of_end : (r : Record) (accesses : List MemoryAccess) (end : TurnEnd)
-      → (at_turn_end settings time r accesses end).after.storage ≡ r.storage
-  of_end r accesses ends.Went = refl
-  of_end r accesses ends.Call = of_calls r accesses (call_of r.process.regs)
-  of_end r accesses (ends.Trap denial) = of_fault r denial
-
-  of_delivery : (r : Record) (next : Option Delivery) → (delivery r next).after.storage ≡ r.storage
-  of_delivery r None = refl
-  of_delivery r (Some next) = refl
-
-  of_state : (state : State) (r : Record) → (turn_in settings time state r).after.storage ≡ r.storage
-  of_state Running r =
-      let t = instruction r in of_end (with_effect (turn_counted r) t) t.accesses t.end
-  of_state Yielded r = of_delivery r (due r.own.inbox)
-  of_state Faulted r = refl
-  of_state (Terminated code) r = refl
-
-  pub turn_leaves_storage : (r : Record) → (turned settings time r).after.storage ≡ r.storage
-  turn_leaves_storage r =
-      of_turned (λ t. t.after.storage ≡ r.storage) settings time r refl (of_state r.process.state r)
+pub turn_leaves_storage : (settings : Settings) (time : ℕ) (r : Record)
+    → (turned settings time r).after.storage ≡ r.storage
+turn_leaves_storage settings time r =
+    of_each_end settings time r (λ t. t.after.storage ≡ r.storage) (record {
+      nothing = λ none. refl;
+      went = λ t is. refl;
+      faults = λ t denial is runs.
+          let s = with_effect (turn_counted r) t in
+          of_denial (λ x. x.storage ≡ r.storage) settings s denial refl
+          (restarted (with_process s (after_fault s.process denial)));
+      makes = λ t form is calls runs made.
+          let s = with_effect (turn_counted r) t in
+          call_leaves (surroundings settings time s) s settings.strict form;
+      delivers = λ next is yielded. refl;
+    })
 
 -- a buffer gives no more bytes than it has
 buffer_size : (flash : ℕ → ℕ) (own : Own) (buffer : ℕ × ℕ) → length (bytes_at flash own buffer) ≤ buffer.1

@@ -1,7 +1,7 @@
 -- That what is a process's own stays whole, by the one walk over what may happen to it (`IsKept`), with the order of
 -- its memory beside it: a change of bytes leaves as many, and each buffer lies below the mark still. Drivers keep it by
 -- their law (`DriversKeepSettled`). With it the causes of a step's changes become those of any choices.
-use Rattle.std.proofs.Common.{◌≡◌, ℕ, ◌+◌, ◌-◌, Bool, true, false, cond, List, [], ◌∷◌, length}
+use Rattle.std.proofs.Common.{ap, ◌≡◌, ℕ, ◌+◌, ◌-◌, Bool, true, false, cond, List, [], ◌∷◌, length}
 use Rattle.std.proofs.Common.{slice_set, Option, None, Some, IfSome, refl, sym, subst, ◌∙◌, arith}
 use Rattle.std.proofs.lemmas.List.{length-replicate, length-set}
 use Rattle.tk_base.specs.Bus.{byte_of, put}
@@ -29,7 +29,8 @@ use Rattle.kernel_model.specs.Wholes.{ChoicesHaveCauses, HasWholeOwn, OwnsStayWh
 use Rattle.kernel_lives.proofs.Changes.{IsKept, after_act, after_answer, after_turn, over_choices}
 use Rattle.kernel_lives.proofs.Lives.{KeepsBoth, keep_both, order_acted, order_again, order_kept, order_moved}
 use Rattle.kernel_lives.proofs.Lives.{order_on, order_same}
-use Rattle.kernel_lives.proofs.Lives.{restart_by}
+use Rattle.kernel_model.proofs.Restarts.{restart_by}
+use Rattle.kernel_model.proofs.Yields.{flag_rest}
 use Rattle.kernel_model.proofs.Handed.{is_handed}
 
 -- a value that is put leaves as many bytes
@@ -59,12 +60,8 @@ flag_size at byte own = by_test (lies_in_ram own.layout at 1)
 
 flag_keeps : (at byte : ℕ) (own : Own)
     → ((with_flag at byte own).layout ≡ own.layout) × ((with_flag at byte own).grants ≡ own.grants)
-flag_keeps at byte own = by_test (lies_in_ram own.layout at 1)
-  where
-    by_test : (b : Bool) → let o = cond b (record own { ram = slice_set own.ram (at - own.layout.start) byte }) own in
-        (o.layout ≡ own.layout) × (o.grants ≡ own.grants)
-    by_test true = (refl, refl)
-    by_test false = (refl, refl)
+flag_keeps at byte own =
+    let f = flag_rest at byte own in (ap (λ (o : Own). o.layout) f, ap (λ (o : Own). o.grants) f)
 
 -- other bytes, as many; the same layout and grants
 settled_on : (own o : Own) → o.layout ≡ own.layout → o.grants ≡ own.grants → length o.ram ≡ length own.ram

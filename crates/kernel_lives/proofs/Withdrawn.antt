@@ -15,7 +15,6 @@ use Rattle.tk_base.specs.declared.process.Choice.{Choice}
 use Rattle.tk_base.specs.declared.process.Choice.TheVariants.{Run, Device, Pass}
 use Rattle.tk_base.specs.declared.process.Dev.{Dev}
 use Rattle.tk_base.specs.declared.process.Verb.TheVariants as verbs
-use Rattle.rv32_model.specs.Laws.{CallsAreOfEcall}
 use Rattle.process_record.specs.declared.emit.CallMade.{CallMade}
 use Rattle.driver_model.specs.Answers.{LinesFollowAnswers}
 use Rattle.driver_model.specs.Commands.{QueueName, Reads, order_of}
@@ -34,7 +33,7 @@ use Rattle.kernel_model.specs.World.{carried_out}
 use Rattle.kernel_model.specs.World.{device_step_of, done, labels, lane_in, operating, ran, random_step}
 use Rattle.kernel_model.specs.World.{receive_step, storing}
 use Rattle.kernel_model.specs.World.{transmitting, turn_label, unmade}
-use Rattle.kernel_model.proofs.Places.{of_stepped, set_own, slice_get-set_other}
+use Rattle.kernel_model.proofs.Places.{of_stepped, set_own, slice_get-set_other, same_some}
 use Rattle.kernel_model.proofs.Told.{of_device, with_arrived, with_rest}
 use Rattle.kernel_laws.specs.Arming.{Becomes, SetsBy}
 use Rattle.kernel_laws.specs.Queues.{queue_for}
@@ -44,7 +43,6 @@ use Rattle.kernel_laws.proofs.Withdrawing.{leaves, request_becomes}
 use Rattle.kernel_lives.specs.Lists.{asks_at}
 use Rattle.kernel_lives.specs.Requests.{CancelsRead, EndsLife, IsWithdrawnBy, RequestsAreWithdrawn, answers_for}
 use Rattle.kernel_lives.specs.Requests.{asks_in}
-use Rattle.kernel_lives.proofs.Lives.{same_some}
 
 -- A request that waited is kept still, and waits no more: its process lives no more.
 module _ (queue : QueueName) where
@@ -78,10 +76,10 @@ module _ (queue : QueueName) where
   abbrev Withdraws : TurnTrace → Record → Record → Type 0
   Withdraws told r s = ((queue ≡ Reads) × IsSomeAnd told.call CancelsRead) ⊎ EndsLife r s
 
-  turn_ends : CallsAreOfEcall → (settings : Settings) (time : ℕ) (r : Record)
+  turn_ends : (settings : Settings) (time : ℕ) (r : Record)
       → let t = turned settings time r in
       has_waiting queue r.own ≡ true → has_waiting queue t.after.own ≡ false → Withdraws t.told r t.after
-  turn_ends of_ecall settings time r waits ends = by_change (request_becomes of_ecall queue settings time r)
+  turn_ends settings time r waits ends = by_change (request_becomes queue settings time r)
     where
       t : Turned
       t = turned settings time r
@@ -119,7 +117,7 @@ module _ (queue : QueueName) where
       by_change (inr (inr again)) = inr (inr again.0)
 
 -- So it is in a step of a process whose request waits.
-module _ (of_ecall : CallsAreOfEcall) (follow : LinesFollowAnswers) (w : World) (queue : QueueName) (slot : ℕ)
+module _ (follow : LinesFollowAnswers) (w : World) (queue : QueueName) (slot : ℕ)
     (r : Record) (is : slice_get w.records slot ≡ Some r) (waits : has_waiting queue r.own ≡ true) where
   abbrev Withdrawn : Stepped → Type 0
   Withdrawn s =
@@ -220,7 +218,7 @@ module _ (of_ecall : CallsAreOfEcall) (follow : LinesFollowAnswers) (w : World) 
   of_ran at (Some q) there =
       let t = turned w.settings w.clock.time q in
       changes (after_turn_of w at t) at q t.after (turn_label at w.clock.time t.told) refl there refl
-      (λ waited ends untold. turn_ends queue of_ecall w.settings w.clock.time q waited ends)
+      (λ waited ends untold. turn_ends queue w.settings w.clock.time q waited ends)
 
   of_choice : (choice : Choice) → Withdrawn (carried_out w choice)
   unfolding carried_out
@@ -228,11 +226,11 @@ module _ (of_ecall : CallsAreOfEcall) (follow : LinesFollowAnswers) (w : World) 
   of_choice (Device device) = of_deed device
   of_choice (Pass ticks) = kept (carried_out w (Pass ticks)) r is waits
 
-pub requests_are_withdrawn : CallsAreOfEcall → LinesFollowAnswers → RequestsAreWithdrawn
-requests_are_withdrawn of_ecall follow w choice queue slot r s is there withdraws =
-    of_stepped (Withdrawn of_ecall follow w queue slot r is waits) w choice
-    (kept of_ecall follow w queue slot r is waits (unmade w) r is waits)
-    (λ ready. of_choice of_ecall follow w queue slot r is waits choice) s there ends tests.2
+pub requests_are_withdrawn : LinesFollowAnswers → RequestsAreWithdrawn
+requests_are_withdrawn follow w choice queue slot r s is there withdraws =
+    of_stepped (Withdrawn follow w queue slot r is waits) w choice
+    (kept follow w queue slot r is waits (unmade w) r is waits)
+    (λ ready. of_choice follow w queue slot r is waits choice) s there ends tests.2
   where
     parts : (a b c : Bool) → (a && (not b && not c)) ≡ true → (a ≡ true) × (b ≡ false) × (c ≡ false)
     parts true false false e = (refl, refl, refl)

@@ -34,13 +34,14 @@ use Rattle.kernel_model.specs.Turn.{apply, turned}
 use Rattle.kernel_model.specs.World.{World, after}
 use Rattle.kernel_model.proofs.Replays.{kept_settings, record_is_replay}
 use Rattle.kernel_model.proofs.Steps.{IsAnswer, of_step}
-use Rattle.kernel_laws.proofs.Beside.{answers_beside, driver_answering, scheduled_keeps}
-use Rattle.kernel_laws.proofs.Values.{kept_put}
+use Rattle.kernel_model.proofs.Beside.{answers_beside, driver_answering, scheduled_keeps}
+use Rattle.kernel_model.proofs.Values.{kept_put}
 use Rattle.kernel_lives.specs.StoredBytes.{AsksWithin, GaveStorage, ReadsInRunsGiveStorage, RequestsStayWithin}
 use Rattle.kernel_lives.specs.StoredBytes.{all_written, write_by, writes_at}
 use Rattle.kernel_lives.proofs.Lists.{act_keeps}
-use Rattle.kernel_lives.proofs.Lives.{over_turn, same_some}
+use Rattle.kernel_lives.proofs.Lives.{over_turn}
 use Rattle.kernel_lives.proofs.StoredBytes.{acted, one_writes, reads_give_storage, turn_leaves_storage}
+use Rattle.kernel_model.proofs.Places.{same_some}
 
 -- the storage request in a value that is kept
 abbrev request_told : Option KeptValue → Option StorageRequest

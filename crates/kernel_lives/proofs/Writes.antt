@@ -9,7 +9,6 @@ use Rattle.std.specs.List.{flat_map, list_any, range_with_len}
 use Rattle.std.specs.Option.{option_and_then, option_map}
 use Rattle.std.specs.Prelude.{All}
 use Rattle.std.proofs.lemmas.Bool.{false≢true}
-use Rattle.std.proofs.lemmas.Bool.Decides.{nat_tests}
 use Rattle.std.proofs.lemmas.List.{append-nil, drop-drop, length-append, length-drop, length-take}
 use Rattle.std.proofs.lemmas.Grind.{flat_map-append}
 use Rattle.std.proofs.lemmas.List.FromFn.{length-map-range_with_len}
@@ -22,14 +21,12 @@ use Rattle.tk_base.specs.declared.process.Dev.{Dev}
 use Rattle.grant_values.specs.declared.console.WaitingWrite.{WaitingWrite}
 use Rattle.grant_values.specs.Values.{KeptValue}
 use Rattle.board_devices.specs.Arriving.{differs}
-use Rattle.process_layout.specs.Interval.{lies_within}
 use Rattle.process_model.specs.Handed.{held, lies_in_ram}
 use Rattle.process_model.specs.Own.{Own}
 use Rattle.process_model.specs.Served.{kept, own_scheduled, ram_at}
 use Rattle.driver_model.specs.Console as console
 use Rattle.driver_model.specs.Console.{console_writes}
 use Rattle.driver_model.specs.Keeping.{DriversKeep}
-use Rattle.driver_model.specs.Lines.{OnlyDriversMoveLines}
 use Rattle.driver_model.specs.Requests.{RequestAnswered, request_in, unanswered, waiting_in, with_request}
 use Rattle.driver_model.specs.Steps.{own_after, silently}
 use Rattle.script_text.specs.Settings.{ScriptEvent as Arrival}
@@ -47,12 +44,14 @@ use Rattle.kernel_model.specs.World.{Answer, DeviceAnswer, Label, Stepped, World
 use Rattle.kernel_model.specs.World.{device_step_of, done, labels, lane_in, operating, ran, random_step, receive_step}
 use Rattle.kernel_model.specs.World.{storing, telling_edge, transmitting, turn_label}
 use Rattle.kernel_model.proofs.Replays.{record_is_replay}
-use Rattle.kernel_model.proofs.Places.{of_stepped, slice_get-set_other, slice_get-set_same}
+use Rattle.kernel_model.proofs.Places.{of_stepped, slice_get-set_other, slice_get-set_same, same_some}
 use Rattle.kernel_model.proofs.Told.{edge_answer, of_device, told_labels, with_rest}
 use Rattle.kernel_lives.specs.Writes.{BufferStays, StillWaits, WritesCompleteTruly}
 use Rattle.kernel_lives.specs.Writes.{completes, is_done, write_bytes, write_in, written_by, written_in}
 use Rattle.kernel_lives.proofs.Writing.{GoesOn, act_goes, answer_goes, goes_same, put_told, turn_goes}
-use Rattle.kernel_lives.proofs.Lives.{same_some}
+use Rattle.std.proofs.Math.Bool.{and-false}
+use Rattle.kernel_model.proofs.Steps.{or_false}
+use Rattle.kernel_lives.proofs.OwnBuffers.{in_interval}
 
 -- the write of a process that waits
 abbrev write_at : Record → Option WaitingWrite
@@ -118,9 +117,6 @@ ram_length ram start at size low high =
     let front = length-take (at - start + size - (at - start)) (drop (at - start) ram) in
     let rest = length-drop (at - start) ram in
     omega (arith, front, rest, low, high)
-
-in_interval : (low high at size : ℕ) → lies_within low high at size ≡ true → (low ≤ at) × (at + size ≤ high)
-in_interval low high at size is = grind (arith, nat_tests)
 
 bytes_length : (r : Record) → HasWholeOwn r
     → length (write_bytes r) ≡ (held ReadOnly console.console 1 r.own).1
@@ -248,14 +244,6 @@ module _ (settings : Settings) (r : Record) (whole : HasWholeOwn r) where
           (option_map (console.taking r.own) o) (silently r.own))) is)) (stays r)
       by_waiting (Some write) is = by_portion write is (console.portion write r.own == 0) refl
 
-or_false : (b : Bool) → (b || false) ≡ b
-or_false true = refl
-or_false false = refl
-
-and_false : (b : Bool) → (b && false) ≡ false
-and_false true = refl
-and_false false = refl
-
 no_act : (completed : Bool) → not (is_act (cond completed WriteDone Taken)) ≡ true
 no_act true = refl
 no_act false = refl
@@ -274,7 +262,7 @@ nothing_written slot (label ∷ ls) each =
     )
 
 -- each step of a world
-module _ (keep : DriversKeep) (alone : OnlyDriversMoveLines) (w : World) (slot : ℕ) (r : Record)
+module _ (keep : DriversKeep) (w : World) (slot : ℕ) (r : Record)
     (is : slice_get w.records slot ≡ Some r) (whole : HasWholeOwn r) where
   abbrev Written : Stepped → Type 0
   Written s =
@@ -346,7 +334,7 @@ module _ (keep : DriversKeep) (alone : OnlyDriversMoveLines) (w : World) (slot :
       (λ at n q a here there tells.
       let same = edge_answer button pressed (slice_get w.records n) a tells in
       subst (λ (x : Answer). (written_in slot (answer_label n x) ≡ []) × (completes slot (answer_label n x) ≡ false))
-      (sym same) (nothing (n == slot) [], and_false (n == slot)))) in
+      (sym same) (nothing (n == slot) [], and-false (n == slot)))) in
       subst (λ (printed : List ℕ). IfSome (slice_get (map (edge_heard button pressed) w.records) slot)
       (Steps r printed (list_any (completes slot) (edge_labels button pressed w)))) (sym none.0)
       (subst (λ (told : Bool). IfSome (slice_get (map (edge_heard button pressed) w.records) slot) (Steps r [] told))
@@ -369,7 +357,7 @@ module _ (keep : DriversKeep) (alone : OnlyDriversMoveLines) (w : World) (slot :
         nobody = λ rest. idle;
         acts = λ verb rest at q there.
             answered at q (operating verb (with_rest w.devices rest) at q) there
-            (quietly r (operated verb r) (act_goes keep alone verb r));
+            (quietly r (operated verb r) (act_goes verb r));
         alarms = λ at q first there.
             answered at q (alarmed w.settings w.clock.time w.devices) there
             (quietly r _ (answer_goes keep w.settings (Alarmed _) r refl refl));
@@ -413,7 +401,7 @@ module _ (keep : DriversKeep) (alone : OnlyDriversMoveLines) (w : World) (slot :
           put_at at q (turned w.settings w.clock.time q).after
           (turn_label at w.clock.time (turned w.settings w.clock.time q).told) there refl
           (λ here one. subst (λ (x : Record). Steps r [] false (turned w.settings w.clock.time x).after) (sym one)
-          (quietly r (turned w.settings w.clock.time r).after (turn_goes keep alone w.settings w.clock.time r)))
+          (quietly r (turned w.settings w.clock.time r).after (turn_goes keep w.settings w.clock.time r)))
   choice_written (Device device) = deed_written device
   choice_written (Pass ticks) = idle
 
@@ -454,7 +442,7 @@ record Waited (v : World) (choices : List Choice) (slot : ℕ) (write : WaitingW
       → written_by slot v choices ≡ take (length (written_by slot v choices)) (drop write.taken bytes)
   fits : write.taken ≤ write.length → write.taken + length (written_by slot v choices) ≤ write.length
 
-module _ (keep : DriversKeep) (alone : OnlyDriversMoveLines) (stay : HoldsThroughout HasWholeOwn) where
+module _ (keep : DriversKeep) (stay : HoldsThroughout HasWholeOwn) where
   whole_in : (v : World) (slot : ℕ) (r :
       Record) → AllHaveWholeOwns v → slice_get v.records slot ≡ Some r → HasWholeOwn r
   whole_in v slot r all is = subst (λ (o : Option Record). IfSome o HasWholeOwn) is (all slot)
@@ -476,7 +464,7 @@ module _ (keep : DriversKeep) (alone : OnlyDriversMoveLines) (stay : HoldsThroug
       let printed = flat_map (written_in slot) (labels v choice) in
       let steps = subst (λ (o : Option Record). IfSome o
       (Steps here.0 printed (list_any (completes slot) (labels v choice)))) later.1
-      (step_written keep alone v slot here.0 here.1.0 (whole_in v slot here.0 all here.1.0) choice) in
+      (step_written keep v slot here.0 here.1.0 (whole_in v slot here.0 all here.1.0) choice) in
       let prints = subst (λ (o : Option WaitingWrite). IfSome o (PrintsNext here.0 printed)) here.1.1 steps.prints in
       let advances = subst (λ (o : Option WaitingWrite). Advances o printed (write_at later.0)) here.1.1 steps.advances
       in
@@ -545,7 +533,7 @@ module _ (keep : DriversKeep) (alone : OnlyDriversMoveLines) (stay : HoldsThroug
           let printed = flat_map (written_in slot) (labels w begin) in
           let steps = subst (λ (o : Option Record). IfSome o
           (Steps r printed (list_any (completes slot) (labels w begin)))) later.1.0
-          (step_written keep alone w slot r there (whole_in w slot r all there) begin) in
+          (step_written keep w slot r there (whole_in w slot r all there) begin) in
           let nothing : write_at r ≡ None = sym (ap (option_and_then write_at) there) ∙ none in
           let advances = subst (λ (o : Option WaitingWrite). Advances o printed (write_at later.0)) nothing
           steps.advances in
@@ -567,7 +555,7 @@ module _ (keep : DriversKeep) (alone : OnlyDriversMoveLines) (stay : HoldsThroug
             let steps = subst (λ (o : Option Record). IfSome o
             (Steps r (flat_map (written_in slot) (labels u choice)) (list_any (completes slot) (labels u
             choice)))) later
-            (step_written keep alone u slot r there
+            (step_written keep u slot r there
             (subst (λ (o : Option Record). IfSome o HasWholeOwn) there
             (stay w (begin ∷ choices) slot (all slot))) choice) in
             let ends = subst (λ (o : Option WaitingWrite). IfSome o (Completes r s)) waits_there (steps.ends told) in

@@ -19,9 +19,8 @@ ghost use Rattle.kernel_model.specs.Prints.{PrintsAreOfBuffers, PrintsCouldBeLoa
 ghost use Rattle.kernel_model.specs.Wholes.{ChoicesHaveCauses, HasWholeOwn, OwnsStayWhole};
 
 use driver_model::{
-    a_driver_that_refuses_changes_nothing, a_due_slot_is_there, drivers_ask_for_their_own,
-    drivers_keep_buffers_below_the_mark, drivers_keep_places_and_order, events_tell_steps,
-    lines_follow_answers, only_drivers_move_lines,
+    a_due_slot_is_there, drivers_keep_buffers_below_the_mark, drivers_keep_places_and_order,
+    events_tell_steps, lines_follow_answers,
 };
 use kernel_laws::{queues_are_first_come_first_served, steps_have_causes, turns_keep_lines};
 use kernel_model::drivers_promise;
@@ -160,15 +159,12 @@ pub fn requests_complete_once()
     ensures life { RequestsEndWithTheirLife }
     ensures begin { RequestsBeginByCommands }
 {
-    a_driver_that_refuses_changes_nothing();
-    drivers_ask_for_their_own();
     events_tell_steps();
     lines_follow_answers();
     queues_are_first_come_first_served();
     lists_are_of_requests();
     drivers_keep_places_and_order();
     turns_keep_lines();
-    denials_are_due();
 }
 
 /// Writes to the console complete truly: where what is the processes' own was whole, a write that
@@ -182,7 +178,6 @@ pub fn writes_complete_truly()
     ensures { WritesCompleteTruly }
 {
     drivers_keep_places_and_order();
-    only_drivers_move_lines();
     owns_stay_whole();
 }
 

@@ -2,24 +2,23 @@
 -- of the process and the end of its instruction: a turn lists its instruction's accesses, or none, and a denial is the
 -- instruction's or that of a call of an unknown class. So the laws of instructions become laws of labels
 -- (`step_labels`).
-use Rattle.std.proofs.Common.{◌≡◌, inl, inr, sym, ap, ◌∙◌, arith, ℕ, zero, suc, ◌<◌, ◌==◌, List, [], find}
-use Rattle.std.proofs.Common.{slice_get, Option, None, Some, refl}
+use Rattle.std.proofs.Common.{◌≡◌, inl, inr, subst, sym, ap, ◌∙◌, arith, ℕ, zero, suc, ◌<◌, ◌==◌, List, [], find}
+use Rattle.std.proofs.Common.{Option, None, Some, refl}
 use Rattle.std.specs.Prelude.{All, IfSome}
 use Rattle.std.specs.Option.{option_map}
-use Rattle.std.proofs.lemmas.List.Elements.{All-nil, All-cons}
+use Rattle.std.proofs.lemmas.List.Elements.{All-nil}
 use Rattle.tk_base.specs.declared.access.Access.TheVariants.{Fetch}
 use Rattle.tk_base.specs.declared.access.Denial.{Denial}
 use Rattle.tk_base.specs.declared.access.Rule.TheVariants.{UnknownClass}
 use Rattle.tk_base.specs.Regs.{Registers}
 use Rattle.tk_base.specs.declared.process.Choice.{Choice}
-use Rattle.tk_base.specs.declared.process.Choice.TheVariants.{Run, Device, Pass}
 use Rattle.upcall_queue.specs.declared.inbox.Delivery.{Delivery}
 use Rattle.upcall_queue.specs.Pending.{due}
 use Rattle.rv32_model.specs.declared.turn_end.TurnEnd.{TurnEnd}
 use Rattle.rv32_model.specs.declared.turn_end.TurnEnd.TheVariants as ends
 use Rattle.rv32_model.specs.declared.instr.Instr.TheVariants.{Ecall}
 use Rattle.rv32_model.specs.Laws.{AccessesArePermitted, CallsAreOfEcall, DataIsAligned, DenialsAreDue, IsInstrAt}
-use Rattle.rv32_model.specs.UserTurn.{MemoryAccess, denied_at}
+use Rattle.rv32_model.specs.UserTurn.{MemoryAccess, UserTurn, denied_at}
 use Rattle.syscall_abi.specs.declared.form.CallForm.{CallForm}
 use Rattle.syscall_abi.specs.Call.{call_of, class, class_table}
 use Rattle.process_model.specs.Permission.{denied}
@@ -29,37 +28,29 @@ use Rattle.kernel_model.specs.Record.{Record, byte_at, instruction, with_effect}
 use Rattle.kernel_model.specs.declared.settings.Settings.{Settings}
 use Rattle.kernel_model.specs.Turn.{TurnTrace, turn_counted, at_turn_end, turn_in, turned, untraced}
 use Rattle.kernel_model.specs.Parts.{calls, delivery}
-use Rattle.kernel_model.specs.World.{Stepped, World, carried_out, labels, ran}
+use Rattle.kernel_model.specs.World.{World, labels}
 use Rattle.kernel_model.specs.Accesses.{EachAccessIsPermitted, EachDenialIsDue, DenialIsDue, IsPermitted, OfTurn}
 use Rattle.kernel_model.specs.Accesses.{StepsAreGuarded}
 use Rattle.kernel_model.specs.Replay.{after_all}
-use Rattle.kernel_model.proofs.Labels.{device_labels}
-use Rattle.kernel_model.proofs.Places.{of_stepped, of_turned}
+use Rattle.kernel_model.proofs.Labels.{of_labels}
+use Rattle.kernel_model.proofs.Places.{of_turned}
+use Rattle.kernel_model.proofs.Turning.{of_each_end}
 
 -- a turn lists the accesses of its instruction, or none
 module _ (P : MemoryAccess → Type 0) where
-  by_call : (settings : Settings) (time : ℕ) (r : Record) (accesses : List MemoryAccess) (call : Option CallForm)
-      → All P accesses → All P (calls settings time r accesses call).told.accesses
-  by_call settings time r accesses None each = All-nil P
-  by_call settings time r accesses (Some call) each = each
-
-  by_end : (settings : Settings) (time : ℕ) (r : Record) (accesses : List MemoryAccess) (end : TurnEnd) → All P accesses
-      → All P (at_turn_end settings time r accesses end).told.accesses
-  by_end settings time r accesses ends.Went each = each
-  by_end settings time r accesses ends.Call each = by_call settings time r accesses (call_of r.process.regs) each
-  by_end settings time r accesses (ends.Trap denial) each = All-nil P
-
-  by_delivery : (r : Record) (next : Option Delivery) → All P (delivery r next).told.accesses
-  by_delivery r None = All-nil P
-  by_delivery r (Some next) = All-nil P
-
-  by_state : (settings : Settings) (time : ℕ) (state : State) (r : Record) → All P (instruction r).accesses
-      → All P (turn_in settings time state r).told.accesses
-  by_state settings time Running r each = let t = instruction r in
-      by_end settings time (with_effect (turn_counted r) t) t.accesses t.end each
-  by_state settings time Yielded r each = by_delivery r (due r.own.inbox)
-  by_state settings time Faulted r each = All-nil P
-  by_state settings time (Terminated code) r each = All-nil P
+  turn_lists : (settings : Settings) (time : ℕ) (r : Record) → All P (instruction r).accesses
+      → All P (turned settings time r).told.accesses
+  turn_lists settings time r each =
+      of_each_end settings time r (λ t. All P t.told.accesses) (record {
+        nothing = λ none. All-nil P;
+        went = lists;
+        faults = λ t denial is runs. All-nil P;
+        makes = λ t form is calls runs made. lists t is;
+        delivers = λ next is yielded. All-nil P;
+      })
+    where
+      lists : (t : UserTurn) → t ≡ instruction r → All P t.accesses
+      lists t is = subst (λ (u : UserTurn). All P u.accesses) (sym is) each
 
 -- those of an instruction are permitted
 instruction_permitted : AccessesArePermitted → DataIsAligned → (r : Record)
@@ -72,8 +63,7 @@ instruction_permitted permitted aligned r k t within = record {
 turn_permitted : AccessesArePermitted → DataIsAligned → (settings : Settings) (time : ℕ) (r : Record)
     → All (IsPermitted r.own) (turned settings time r).told.accesses
 turn_permitted permitted aligned settings time r =
-    of_turned (λ t. All (IsPermitted r.own) t.told.accesses) settings time r (All-nil (IsPermitted r.own))
-    (by_state (IsPermitted r.own) settings time r.process.state r (instruction_permitted permitted aligned r))
+    turn_lists (IsPermitted r.own) settings time r (instruction_permitted permitted aligned r)
 
 -- a class for which there is no call is above 7
 above_all : (regs : Registers) (n : ℕ)
@@ -139,21 +129,10 @@ module _ (law : DenialsAreDue) (of_ecall : CallsAreOfEcall) (settings : Settings
 -- what holds of each turn holds of each label
 module _ (P : Record → TurnTrace → Type 0) (w : World)
     (none : (r : Record) → P r untraced) (each : (r : Record) → P r (turned w.settings w.clock.time r).told) where
-  ran_labels : (slot : ℕ) (o : Option Record) → slice_get w.records slot ≡ o → All (OfTurn P w) (ran w slot o).labels
-  ran_labels slot None is = All-nil (OfTurn P w)
-  ran_labels slot (Some r) is = All-cons (OfTurn P w) _ [] (r, is, each r) (All-nil (OfTurn P w))
-
-  choice_labels : (choice : Choice) → All (OfTurn P w) (carried_out w choice).labels
-  unfolding carried_out
-  choice_labels (Run slot) = ran_labels slot (slice_get w.records slot) refl
-  choice_labels (Device device) =
-      device_labels (OfTurn P w) w (λ slot r a there is. (r, there, none r)) device
-  choice_labels (Pass ticks) = All-nil (OfTurn P w)
-
   pub step_labels : (choice : Choice) → All (OfTurn P w) (labels w choice)
-  step_labels choice =
-      of_stepped (λ (s : Stepped). All (OfTurn P w) s.labels) w choice (All-nil (OfTurn P w))
-      (λ ready. choice_labels choice)
+  step_labels =
+      of_labels (λ s. OfTurn P w) w (λ slot r is may. (r, is, each r))
+      (λ deed slot r a is told no_turn. (r, is, none r))
 
 pub each_access_is_permitted : AccessesArePermitted → DataIsAligned → EachAccessIsPermitted
 each_access_is_permitted permitted aligned w choices choice =

@@ -8,27 +8,20 @@ use Rattle.tk_base.specs.declared.kinds.PairKind.{PairKind}
 use Rattle.tk_base.specs.declared.kinds.PairKind.TheVariants.{Upcall, ReadOnly, ReadWrite, Readable}
 use Rattle.tk_base.specs.Regs.{Registers}
 use Rattle.tbf_headers.specs.Permissions.{allows, lists}
-use Rattle.rv32_model.specs.declared.turn_end.TurnEnd.{TurnEnd}
-use Rattle.rv32_model.specs.declared.turn_end.TurnEnd.TheVariants as ends
-use Rattle.rv32_model.specs.UserTurn.{MemoryAccess}
-use Rattle.upcall_queue.specs.declared.inbox.Delivery.{Delivery}
-use Rattle.upcall_queue.specs.Pending.{due}
 use Rattle.syscall_abi.specs.declared.form.CallForm.{CallForm}
 use Rattle.syscall_abi.specs.declared.form.CallForm.TheVariants as forms
 use Rattle.syscall_abi.specs.Call.{a0, a1, a2, a3, call_of, class}
 use Rattle.syscall_filter.specs.Permission.{permitted}
 use Rattle.process_record.specs.declared.emit.CallMade.{CallMade}
 use Rattle.process_record.specs.declared.outcome.Outcome.{Outcome}
-use Rattle.process_record.specs.declared.process.State.{State}
-use Rattle.process_record.specs.declared.process.State.TheVariants.{Running, Yielded, Faulted, Terminated}
 use Rattle.driver_model.specs.Drivers.{CommandContext}
-use Rattle.kernel_model.proofs.Places.{of_turned}
-use Rattle.kernel_model.specs.Record.{Record, instruction, with_effect}
+use Rattle.kernel_model.proofs.Turning.{of_each_end}
+use Rattle.kernel_model.specs.Record.{Record, with_effect}
 use Rattle.kernel_model.specs.declared.settings.Settings.{Settings}
 use Rattle.kernel_model.specs.Calls.{by_form, failure_of, refused_with, served}
 use Rattle.kernel_model.specs.Histories.{class_of}
-use Rattle.kernel_model.specs.Parts.{calls, delivery, object_permits}
-use Rattle.kernel_model.specs.Turn.{at_turn_end, made, rule_shown, surroundings, turn_counted, turn_in, turned}
+use Rattle.kernel_model.specs.Parts.{calls, object_permits}
+use Rattle.kernel_model.specs.Turn.{made, rule_shown, surroundings, turn_counted, turned}
 use Rattle.kernel_model.proofs.Accesses.{step_labels}
 use Rattle.kernel_model.proofs.Classes.{of_registers, swap_in}
 use Rattle.kernel_model.specs.Filter.{IsFiltered, StepsAreFiltered, is_allowed, names_driver, permissions_of}
@@ -83,41 +76,27 @@ not_refused strict around r call e = by_test (object_permits strict r.object cal
     by_test true e = refl
     by_test false e = absurd (cc)
 
-module _ (settings : Settings) (time : ℕ) where
-  of_calls : (r : Record) (accesses : List MemoryAccess) (call : Option CallForm) → call_of r.process.regs ≡ call
-      → IsFiltered settings r (calls settings time r accesses call).told
-  of_calls r accesses None is shown e names rule = absurd (cc)
-  of_calls r accesses (Some call) is shown e names rule =
-      let s = served settings.strict (surroundings settings time r) r call in
-      let same : made r.process.regs s.outcome ≡ shown = cc in
-      let may = not_refused settings.strict (surroundings settings time r) r call
-      (ap (λ (m : CallMade). m.rule) same ∙ rule) in
-      let names_it = ap (λ (m : CallMade). names_driver m.class) same ∙ names in
-      let allowed =
-      subst (λ (o : Option CallForm). Follows settings.strict (permissions_of r) r.process.regs s.outcome o) is
-      (follows settings.strict (permissions_of r) r.process.regs s.outcome) may names_it in
-      ap (is_allowed settings.strict (permissions_of r)) (sym same) ∙ allowed
-
-  of_end : (r : Record) (accesses : List MemoryAccess) (end : TurnEnd)
-      → IsFiltered settings r (at_turn_end settings time r accesses end).told
-  of_end r accesses ends.Went shown e names rule = absurd (cc)
-  of_end r accesses ends.Call shown e names rule =
-      of_calls r accesses (call_of r.process.regs) refl shown e names rule
-  of_end r accesses (ends.Trap denial) shown e names rule = absurd (cc)
-
-  of_delivery : (r : Record) (next : Option Delivery) → IsFiltered settings r (delivery r next).told
-  of_delivery r next shown e names rule = absurd (cc)
-
-  of_state : (state : State) (r : Record) → IsFiltered settings r (turn_in settings time state r).told
-  of_state Running r = let t = instruction r in of_end (with_effect (turn_counted r) t) t.accesses t.end
-  of_state Yielded r = of_delivery r (due r.own.inbox)
-  of_state Faulted r = λ shown e names rule. absurd (cc)
-  of_state (Terminated code) r = λ shown e names rule. absurd (cc)
-
-  of_turn : (r : Record) → IsFiltered settings r (turned settings time r).told
-  of_turn r =
-      of_turned (λ t. IsFiltered settings r t.told) settings time r (of_state Faulted r) (of_state r.process.state r)
+turn_filtered : (settings : Settings) (time : ℕ) (r : Record) → IsFiltered settings r (turned settings time r).told
+turn_filtered settings time r =
+    of_each_end settings time r (λ t. IsFiltered settings r t.told) (record {
+      nothing = λ none shown e names rule. absurd (cc);
+      went = λ t is shown e names rule. absurd (cc);
+      faults = λ t denial is runs shown e names rule. absurd (cc);
+      makes = λ t call same_turn calls runs is shown e names rule.
+          let x = with_effect (turn_counted r) t in
+          let s = served settings.strict (surroundings settings time x) x call in
+          let same : made t.regs s.outcome ≡ shown = cc in
+          let may = not_refused settings.strict (surroundings settings time x) x call
+          (ap (λ (m : CallMade). m.rule) same ∙ rule) in
+          let names_it = ap (λ (m : CallMade). names_driver m.class) same ∙ names in
+          let allowed =
+          subst (λ (o : Option CallForm). Follows settings.strict (permissions_of r) t.regs s.outcome o) is
+          (follows settings.strict (permissions_of r) t.regs s.outcome) may names_it in
+          ap (is_allowed settings.strict (permissions_of r)) (sym same) ∙ allowed;
+      delivers = λ next is yielded shown e names rule. absurd (cc);
+    })
 
 pub steps_are_filtered : StepsAreFiltered
 steps_are_filtered w choice =
-    step_labels (IsFiltered w.settings) w (λ r shown e names rule. absurd (cc)) (of_turn w.settings w.clock.time) choice
+    step_labels (IsFiltered w.settings) w (λ r shown e names rule. absurd (cc)) (turn_filtered w.settings w.clock.time)
+    choice

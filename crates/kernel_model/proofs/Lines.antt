@@ -12,7 +12,8 @@ use Rattle.driver_model.specs.Steps.{own_after}
 use Rattle.driver_model.specs.Commands.{Commanded, QueueName, Writes, Reads, Randoms, Stores, leaving_all}
 use Rattle.driver_model.specs.Drivers.{CommandContext}
 use Rattle.driver_model.specs.Laws.{StaysInPlace}
-use Rattle.driver_model.specs.Lines.{FollowsCommand, IsWithin, OnlyDriversMoveLines, has_waiting, kind_in, waits_after}
+use Rattle.driver_model.specs.Lines.{FollowsCommand, IsWithin, OnlyDriversMoveLines, has_waiting, kind_in}
+use Rattle.driver_model.specs.Lines.{waits_after}
 use Rattle.driver_model.specs.Requests.{request_in}
 use Rattle.driver_model.specs.Storage.{storages}
 use Rattle.kernel_model.specs.Record.{Record}
@@ -28,6 +29,9 @@ pub record SameKept (own o : Own) : Type 0 where
   pub life : o.life ≡ own.life
   pub dropped : o.inbox.dropped ≡ own.inbox.dropped
 
+pub all_same : (own : Own) → SameKept own own
+all_same own = record { grants = refl; lives = refl; life = refl; dropped = refl }
+
 same_waiting : (queue : QueueName) (own o : Own) → SameKept own o → has_waiting queue o ≡ has_waiting queue own
 same_waiting queue own o s =
     ap₂ (λ (gs : List Grant) (b : Bool). is_some (cond b
@@ -35,7 +39,7 @@ same_waiting queue own o s =
     s.grants s.lives
 
 -- a process that leaves all queues waits in none
-left_all : (queue : QueueName) (waits : Bool) → waits_after queue waits leaving_all ≡ false
+pub left_all : (queue : QueueName) (waits : Bool) → waits_after queue waits leaving_all ≡ false
 left_all Writes waits = refl
 left_all Reads waits = refl
 left_all Randoms waits = refl

@@ -1,7 +1,7 @@
 -- What holds of every answer that memop may give, whatever the operation: it is refused, or replied to with the break
 -- as it is or moved.
-use Rattle.std.proofs.Common.{ℕ, ◌+◌, ◌==◌, Bool, true, false, cond, List, [], ◌∷◌, find, Option, None, Some}
-use Rattle.std.proofs.Common.{option_map, unwrap_or}
+use Rattle.std.proofs.Common.{◌≡◌, ℕ, ◌+◌, ◌==◌, Bool, true, false, cond, List, [], ◌∷◌, find, Option, None, Some}
+use Rattle.std.proofs.Common.{option_map, refl, unwrap_or}
 use Rattle.tk_base.specs.declared.call.CallRule.{CallRule}
 use Rattle.tk_base.specs.declared.call.CallRule.TheVariants.{Break, Index, NoOperation}
 use Rattle.process_layout.specs.Bounds.{permits_break}
@@ -14,10 +14,14 @@ use Rattle.kernel_model.specs.Parts.{region}
 use Rattle.kernel_model.specs.Calls.{region_end, replied}
 use Rattle.kernel_model.specs.Parts.{with_break_at}
 
--- of both ways of a test
+-- of both ways of a test, whatever it tells and by what it tells
 pub by_test : (P : Served → Type 0) (b : Bool) (x y : Served) → P x → P y → P (cond b x y)
 by_test P true x y p q = p
 by_test P false x y p q = q
+
+pub by_case : (P : Served → Type 0) (b : Bool) (x y : Served) → (b ≡ true → P x) → (b ≡ false → P y) → P (cond b x y)
+by_case P true x y p q = p refl
+by_case P false x y p q = q refl
 
 Each : (Served → Type 0) → List (ℕ × Served) → Type 0
 Each P [] = Unit {0}
@@ -39,11 +43,14 @@ found P r p (row ∷ rows) none each = here_or_later (p row) each.0 (found P r p
     here_or_later true here later = here
     here_or_later false here later = later
 
-pub memop_gives : (P : Served → Type 0) (r : Record) (operation argument : ℕ) → ((rule : CallRule) → P (refused r rule))
-    → ((reply : Reply) → P (replied r reply)) → ((new : ℕ) (reply : Reply) → P (replied (with_break_at r new) reply))
+-- a break is moved where that is permitted
+pub memop_permits : (P : Served → Type 0) (r : Record) (operation argument : ℕ)
+    → ((rule : CallRule) → P (refused r rule)) → ((reply : Reply) → P (replied r reply))
+    → ((new : ℕ) (reply : Reply) → permits_break r.own.layout (kernel_break_of r.own) new ≡ true
+    → P (replied (with_break_at r new) reply))
     → P (memop r operation argument)
 unfolding Each memop memops
-memop_gives P r operation argument refuses replies moved =
+memop_permits P r operation argument refuses replies moved =
     found P r (λ row. row.0 == operation) (memops r argument) (refuses NoOperation) (
       breaks (Some argument) Success,
       (
@@ -76,8 +83,14 @@ memop_gives P r operation argument refuses replies moved =
     breaks : (new : Option ℕ) (reply : Reply) → P (break_moved r new reply)
     breaks None reply = refuses Break
     breaks (Some new) reply =
-        by_test P (permits_break r.own.layout (kernel_break_of r.own) new) _ _ (moved new reply) (refuses Break)
+        by_case P (permits_break r.own.layout (kernel_break_of r.own) new) _ _ (moved new reply) (λ no. refuses Break)
 
     regions : (offset : ℕ × ℕ → ℕ) (region : Option (ℕ × ℕ)) → P (region_end r offset region)
     regions offset None = refuses Index
     regions offset (Some region) = replies _
+
+pub memop_gives : (P : Served → Type 0) (r : Record) (operation argument : ℕ) → ((rule : CallRule) → P (refused r rule))
+    → ((reply : Reply) → P (replied r reply)) → ((new : ℕ) (reply : Reply) → P (replied (with_break_at r new) reply))
+    → P (memop r operation argument)
+memop_gives P r operation argument refuses replies moved =
+    memop_permits P r operation argument refuses replies (λ new reply may. moved new reply)

@@ -2,7 +2,8 @@
 -- (`ran-own`, `ran-other`). Here stand the first case splits of every walk: a step is made or not (`of_stepped`), a
 -- turn is had or not (`of_turned`), and a world after a step is that of a turn, of a deed or of a pass (`of_world`).
 use Rattle.std.proofs.Common.{◌≡◌, ◌≢◌, ℕ, zero, suc, ◌<◌, Bool, true, false, cond, List, [], ◌∷◌}
-use Rattle.std.proofs.Common.{length, slice_get, slice_set, Option, None, Some, refl, ap, ◌∙◌, ◌&&◌, not, nat_lt}
+use Rattle.std.proofs.Common.{length, slice_get, slice_set, Option, None, Some, refl, sym, ap, is_some, ◌∙◌, ◌++◌, ◌&&◌}
+use Rattle.std.proofs.Common.{not, nat_lt}
 use Rattle.std.specs.Option.{option_map}
 use Rattle.std.proofs.lemmas.Bool.{false≢true, and_parts}
 use Rattle.std.proofs.lemmas.Option.{slice_get_within, slice_get-get_or}
@@ -13,10 +14,11 @@ use Rattle.kernel_model.specs.Turn.{Turn, Turned, apply, has_turn, idle, may_tur
 use Rattle.kernel_model.specs.World.{DeviceStep, Stepped, World, after, after_deed, after_turn_of, carried_out}
 use Rattle.kernel_model.specs.World.{device_step_of, done, is_ready, may_be_made, ran, stepped}
 use Rattle.kernel_model.specs.Parts.{passed}
-use Rattle.kernel_model.specs.World.{Devices, unmade, with_queue}
+use Rattle.kernel_model.specs.World.{Devices, acted, queue_without, routed, unmade, with_queue}
 use Rattle.kernel_model.specs.Named.{can_run, slots_in}
 use Rattle.upcall_queue.specs.Pending.{due}
-use Rattle.driver_model.specs.Commands.{QueueName, Writes, Reads, Randoms, Stores, is_same}
+use Rattle.driver_model.specs.Commands.{BoardRequest, Leaves, Lights, QueueName, Waits, Writes, Reads, Randoms, Stores}
+use Rattle.driver_model.specs.Commands.{is_same}
 use Rattle.tk_base.specs.declared.limits.TheConstants.{STEP_LIMIT}
 use Rattle.tk_base.specs.declared.process.Choice.{Choice}
 use Rattle.tk_base.specs.declared.process.Choice.TheVariants.{Run, Device, Pass}
@@ -91,6 +93,57 @@ queue_with Stores Writes change d = refl
 queue_with Stores Reads change d = refl
 queue_with Stores Randoms change d = refl
 queue_with Stores Stores change d = refl
+
+-- two names of queues that are the same are one
+pub same_name : (a b : QueueName) → is_same a b ≡ true → a ≡ b
+same_name Writes Writes e = refl
+same_name Writes Reads e = absurd (false≢true e)
+same_name Writes Randoms e = absurd (false≢true e)
+same_name Writes Stores e = absurd (false≢true e)
+same_name Reads Writes e = absurd (false≢true e)
+same_name Reads Reads e = refl
+same_name Reads Randoms e = absurd (false≢true e)
+same_name Reads Stores e = absurd (false≢true e)
+same_name Randoms Writes e = absurd (false≢true e)
+same_name Randoms Reads e = absurd (false≢true e)
+same_name Randoms Randoms e = refl
+same_name Randoms Stores e = absurd (false≢true e)
+same_name Stores Writes e = absurd (false≢true e)
+same_name Stores Reads e = absurd (false≢true e)
+same_name Stores Randoms e = absurd (false≢true e)
+same_name Stores Stores e = refl
+
+-- what is asked of the board changes queues and LEDs alone
+pub routed_rest : (slot : ℕ) (acts : List BoardRequest) (d : Devices)
+    → let v = routed slot acts d in v ≡ record d { waiting = v.waiting; leds = v.leds }
+routed_rest slot [] d = refl
+routed_rest slot (act ∷ acts) d =
+    let v = routed slot acts (acted slot act d) in
+    routed_rest slot acts (acted slot act d)
+    ∙ ap (λ (x : Devices). record x { waiting = v.waiting; leds = v.leds }) (by_act act)
+  where
+    by_queue : (name : QueueName) (change : List ℕ → List ℕ)
+        → let v = with_queue name change d in v ≡ record d { waiting = v.waiting; leds = v.leds }
+    by_queue Writes change = refl
+    by_queue Reads change = refl
+    by_queue Randoms change = refl
+    by_queue Stores change = refl
+
+    by_act : (act : BoardRequest) → let v = acted slot act d in v ≡ record d { waiting = v.waiting; leds = v.leds }
+    by_act (Waits queue) = by_queue queue (λ slots. slots ++ slot ∷ [])
+    by_act (Leaves queue) = by_queue queue (queue_without slot)
+    by_act (Lights led switch) = refl
+
+-- what is there is one
+pub same_some : {X : Type 0} (x y : X) → Some x ≡ Some y → x ≡ y
+same_some x y e = cc
+
+pub same_there : {X : Type 0} (o : Option X) (x y : X) → o ≡ Some x → o ≡ Some y → x ≡ y
+same_there o x y e f = same_some x y (sym e ∙ f)
+
+pub none_there : {X : Type 0} (o : Option X) → is_some o ≡ false → o ≡ None
+none_there None e = refl
+none_there (Some x) e = absurd (false≢true (sym e))
 
 pub slice_get-set_same : {X : Type 0} (xs : List X) (i : ℕ) (y : X) → i < length xs
     → slice_get (slice_set xs i y) i ≡ Some y

@@ -2,7 +2,7 @@
 -- turn changes the record of its slot alone, and a device's step each record by what it tells that slot; labels of
 -- other slots count nothing.
 use Rattle.std.proofs.Common.{◌≡◌, ◌≢◌, ℕ, zero, suc, ◌==◌, Bool, true, false, cond, List, [], ◌∷◌, ◌++◌}
-use Rattle.std.proofs.Common.{slice_get, Option, None, Some, refl, sym, ap, subst, ◌∙◌, arith, eq-eqb, eqb-true}
+use Rattle.std.proofs.Common.{slice_get, Option, None, Some, refl, sym, ap, subst, ◌∙◌, arith, eq-eqb}
 use Rattle.std.specs.List.{flat_map}
 use Rattle.std.specs.Option.{option_and_then, option_map}
 use Rattle.std.proofs.lemmas.Bool.Decides.{nat_tests}
@@ -11,8 +11,8 @@ use Rattle.tk_base.specs.declared.process.Choice.TheVariants.{Run, Device, Pass}
 use Rattle.kernel_model.specs.Record.{Record}
 use Rattle.kernel_model.specs.declared.settings.Settings.{Settings}
 use Rattle.kernel_model.specs.Turn.{Event, Turn, apply}
-use Rattle.kernel_model.specs.World.{Answer, DeviceStep, Label, Stepped, World, after, carried_out, device_step_of}
-use Rattle.kernel_model.specs.World.{done, labels_told, ran, stepped}
+use Rattle.kernel_model.specs.World.{Answer, DeviceStep, Stepped, World, after, carried_out, device_step_of}
+use Rattle.kernel_model.specs.World.{done, ran, stepped}
 use Rattle.kernel_model.specs.Parts.{happens, labels_of}
 use Rattle.kernel_model.specs.Run.{next, round, stays, runs_on}
 use Rattle.kernel_model.specs.Parts.{on_choice}
@@ -20,7 +20,7 @@ use Rattle.kernel_model.specs.Replay.{after_all, chosen, events, history, replay
 use Rattle.kernel_model.specs.Parts.{happened}
 use Rattle.kernel_model.specs.Replay.{RoundFollowsChoices, SameHistorySameRecord}
 use Rattle.kernel_model.proofs.Places.{of_stepped, of_world, ran-other, ran-own}
-use Rattle.kernel_model.proofs.Told.{labels_at, told_at, told_there}
+use Rattle.kernel_model.proofs.Told.{heard_at, told_at}
 
 -- no step changes the settings
 pub kept_settings : (w : World) (choice : Choice) → (after w choice).settings ≡ w.settings
@@ -75,21 +75,9 @@ deed_replayed : (w : World) (slot : ℕ) (o : Option DeviceStep) → replayed w 
 deed_replayed w slot None = mapped_none w.settings (slice_get w.records slot)
 deed_replayed w slot (Some deed) =
     told_at w.settings deed.told w.records slot ∙ by_record (slice_get w.records slot)
-    ∙ ap (λ (h : List Event). option_map (replay w.settings h) (slice_get w.records slot)) (sym heard)
+    ∙ ap (λ (h : List Event). option_map (replay w.settings h) (slice_get w.records slot))
+    (sym (heard_at deed.told w.records slot))
   where
-    others : (label : Label) (h : List Event) → label.slot ≢ slot → happened slot label ++ h ≡ h
-    others label h apart = by_slot (label.slot == slot) refl
-      where
-        by_slot : (b : Bool) → (label.slot == slot) ≡ b → cond b (label.event ∷ []) [] ++ h ≡ h
-        by_slot true e = absurd (apart (eqb-true label.slot slot e))
-        by_slot false e = refl
-
-    heard : flat_map (happened slot) (labels_told deed.told 0 w.records)
-        ≡ flat_map (happened slot) (labels_of slot (told_there deed.told w.records slot slot))
-    heard =
-        labels_at (flat_map (happened slot)) (λ label h. happened slot label ++ h) (λ label ls. refl) slot others
-        deed.told w.records
-
     by_answer : (o : Option Answer) (r : Record)
         → Some (happens w.settings o r) ≡ Some (replay w.settings (flat_map (happened slot) (labels_of slot o)) r)
     by_answer None r = refl

@@ -1,4 +1,5 @@
--- A process whose object is that of an application starts again as its header says.
+-- What a process is that starts again, whatever its header says (`restart_by`): as it was, or started as its header
+-- means. One whose object is that of an application starts as its header says.
 use Rattle.std.proofs.Common.{◌≡◌, true, Option, None, Some, is_some, [], refl, Result, Ok, Err}
 use Rattle.tbf_headers.specs.declared.fault.HeaderFault.{HeaderFault}
 use Rattle.tbf_headers.specs.declared.program.Main.{Main}
@@ -8,6 +9,21 @@ use Rattle.kernel_model.specs.Calls.{restart, restarted_with}
 use Rattle.kernel_model.specs.Parts.{restarted_by, restarted_main}
 use Rattle.kernel_model.specs.Laws.{CanStartAgain}
 use Rattle.tbf_headers.specs.Meaning.{main_by}
+
+-- by what its header says
+pub restart_by : (P : Record → Type 0) (r : Record) → P r
+    → ((h : Meaning) (m : Main) → header_reading r.object ≡ Ok h → h.main ≡ Some m → P (restarted_with r h m))
+    → P (restart r)
+unfolding restart
+restart_by P r same each = by_reading (header_reading r.object) refl
+  where
+    by_main : (h : Meaning) (o : Option Main) → header_reading r.object ≡ Ok h → h.main ≡ o → P (restarted_main r h o)
+    by_main h None is main = same
+    by_main h (Some m) is main = each h m is main
+
+    by_reading : (h : Result Meaning HeaderFault) → header_reading r.object ≡ h → P (restarted_by r h)
+    by_reading (Ok h) is = by_main h h.main is refl
+    by_reading (Err fault) is = same
 
 -- what holds of it at each header and start holds of it
 pub restarts : (P : Record → Type 0) (r : Record) → CanStartAgain r

@@ -4,7 +4,6 @@
 use Rattle.std.proofs.Common.{◌≡◌, ◌≢◌, ℕ, ◌==◌, ◌&&◌, ◌||◌, Bool, true, false, cond, List, [], ◌∷◌, ◌++◌, slice_get}
 use Rattle.std.proofs.Common.{Option, None, Some, IfSome, refl, sym, ap, subst, ◌∙◌, eqb-true, eq-eqb}
 use Rattle.std.specs.List.{flat_map, list_any}
-use Rattle.std.specs.Prelude.{unwrap_or}
 use Rattle.std.specs.Option.{option_and_then, option_map}
 use Rattle.std.proofs.lemmas.Bool.{false≢true}
 use Rattle.tk_base.specs.declared.process.Choice.{Choice}
@@ -16,8 +15,7 @@ use Rattle.process_record.specs.Operator.{ends_by}
 use Rattle.process_record.specs.Process.{after_end, is_alive}
 use Rattle.process_record.specs.Parts.{with_held}
 use Rattle.tk_base.specs.declared.process.Dev.TheVariants as dev
-use Rattle.script_text.specs.Settings.{ScriptEvent as Arrival, EventKind}
-use Rattle.script_text.specs.Settings as script
+use Rattle.script_text.specs.Settings.{ScriptEvent as Arrival}
 use Rattle.process_model.specs.Own.{Own, own_ended}
 use Rattle.driver_model.specs.Services.{OfEachService}
 use Rattle.kernel_model.specs.declared.settings.Settings.{Settings}
@@ -27,20 +25,20 @@ use Rattle.kernel_model.specs.Turn.{TurnTrace, Turned, apply, is_act, is_turn, o
 use Rattle.kernel_model.specs.Calls.{restart}
 use Rattle.kernel_model.specs.World.{Answer, DeviceAnswer, DeviceStep, Devices, Label, Stepped, World, after}
 use Rattle.kernel_model.specs.Parts.{alarmed}
-use Rattle.kernel_model.specs.World.{answering, arrived, carried_out, coming_in, device_step_of, done}
+use Rattle.kernel_model.specs.World.{answering, arrived, carried_out, device_step_of, done}
 use Rattle.kernel_model.specs.Parts.{drawn_event}
 use Rattle.kernel_model.specs.World.{labels, lane_in, labels_told, ran, random_step, receive_step}
 use Rattle.kernel_model.specs.Parts.{served_by}
 use Rattle.kernel_model.specs.Parts.{happens, labels_of}
-use Rattle.kernel_model.specs.World.{operating, serving, storing, telling_edge}
-use Rattle.kernel_model.specs.Parts.{acting_on, slot_of_name}
-use Rattle.kernel_model.specs.World.{telling_nobody, transmitting, unmade}
+use Rattle.kernel_model.specs.World.{operating, serving, storing}
+use Rattle.kernel_model.specs.World.{transmitting, unmade}
 use Rattle.kernel_model.specs.Histories.{is_end, is_ended_in, turns_in}
 use Rattle.kernel_model.specs.Parts.{happened}
 use Rattle.kernel_model.specs.Named.{can_run}
 use Rattle.kernel_model.proofs.Places.{free_where_may, may_where_ready, of_stepped, ran-other, ran-own}
 use Rattle.kernel_model.specs.Laws.{edge_done, one_answered, quiet}
-use Rattle.kernel_model.proofs.Told.{edge_answer, labels_at, of_device, told_at, told_there, with_arrived, with_rest}
+use Rattle.kernel_model.proofs.Told.{edge_answer, heard_at, labels_at, of_coming, of_device, told_at, told_there}
+use Rattle.kernel_model.proofs.Told.{with_arrived, with_rest}
 
 -- an event that a device tells: no turn, and no operator's act
 abbrev pub IsAnswer : Event → Type 0
@@ -202,29 +200,14 @@ serving_answers w answer each (Some slot) = by_record (slice_get w.records slot)
 arrived_answers : (w : World) (arrivals : List Arrival)
     → IfSome (arrived w.records w.devices arrivals) (λ deed. TellsNoTurn deed.told)
 arrived_answers w [] = tt
-arrived_answers w (arrival ∷ rest) = by_kind arrival.kind
-  where
-    by_edge : (button : ℕ) (pressed : Bool) → TellsNoTurn (telling_edge button pressed w.records w.devices).told
-    by_edge button pressed slot a told =
-        ap (λ (x : Answer). is_turn x.event) (edge_answer button pressed (slice_get w.records slot) a told)
-
-    by_there : (verb : Verb) (slot : ℕ) (o : Option Record)
-        → TellsNoTurn (unwrap_or
-        (option_map (λ (r : Record). answering slot (operating verb (with_rest w.devices rest) slot r)) o)
-        (telling_nobody (with_rest w.devices rest))).told
-    by_there verb slot None = λ slot a told. absurd (cc)
-    by_there verb slot (Some r) = one_no_turn slot (operating verb (with_rest w.devices rest) slot r) refl
-
-    by_slot : (verb : Verb) (o : Option ℕ)
-        → TellsNoTurn (acting_on verb w.records (with_rest w.devices rest) o).told
-    by_slot verb None = λ slot a told. absurd (cc)
-    by_slot verb (Some slot) = by_there verb slot (slice_get w.records slot)
-
-    by_kind : (kind : EventKind) → TellsNoTurn (coming_in kind w.records (with_rest w.devices rest)).told
-    by_kind (script.Input bytes) = λ slot a told. absurd (cc)
-    by_kind (script.Press button) = by_edge button true
-    by_kind (script.Release button) = by_edge button false
-    by_kind (script.Act verb name) = by_slot verb (slot_of_name name w.records)
+arrived_answers w (arrival ∷ rest) =
+    of_coming (λ deed. TellsNoTurn deed.told) w (with_rest w.devices rest) (record {
+      bytes = λ bytes slot a told. absurd (cc);
+      edges = λ button pressed slot a told.
+          ap (λ (x : Answer). is_turn x.event) (edge_answer button pressed (slice_get w.records slot) a told);
+      nobody = λ slot a told. absurd (cc);
+      acts = λ verb slot r is. one_no_turn slot (operating verb (with_rest w.devices rest) slot r) refl;
+    }) arrival.kind
 
 -- so it is with all that devices tell
 pub device_answers : (w : World) (device : Dev)
@@ -288,7 +271,7 @@ pub record OfEachStep (w : World) (slot : ℕ) (P : Bool → List TurnTrace → 
   pub act : (r : Record) → slice_get w.records slot ≡ Some r → (verb : Verb)
       → P (ends_by verb r.process) [] (Some (operated verb r))
 
-or_false : (b : Bool) → (b || false) ≡ b
+pub or_false : (b : Bool) → (b || false) ≡ b
 or_false true = refl
 or_false false = refl
 
@@ -299,7 +282,7 @@ pub ended_told : (w : World) (slot : ℕ) (deed : DeviceStep) (r : Record) (a :
     → list_any (is_end (slice_get w.records slot)) (flat_map (happened slot) (done w (Some deed)).labels)
     ≡ is_end (Some r) a.event
 ended_told w slot deed r a is tells =
-    ap ended heard
+    ap ended (heard_at deed.told w.records slot)
     ∙ ap (λ (o : Option Record). ended (flat_map (happened slot)
     (labels_of slot (option_and_then (λ (x : Record). deed.told slot) o)))) is
     ∙ ap (λ (t : Option Answer). ended (flat_map (happened slot) (labels_of slot t))) tells
@@ -308,19 +291,6 @@ ended_told w slot deed r a is tells =
   where
     ended : List Event → Bool
     ended es = list_any (is_end (slice_get w.records slot)) es
-
-    others : (label : Label) (h : List Event) → label.slot ≢ slot → happened slot label ++ h ≡ h
-    others label h apart = by_slot (label.slot == slot) refl
-      where
-        by_slot : (b : Bool) → (label.slot == slot) ≡ b → cond b (label.event ∷ []) [] ++ h ≡ h
-        by_slot true e = absurd (apart (eqb-true label.slot slot e))
-        by_slot false e = refl
-
-    heard : flat_map (happened slot) (labels_told deed.told 0 w.records)
-        ≡ flat_map (happened slot) (labels_of slot (told_there deed.told w.records slot slot))
-    heard =
-        labels_at (flat_map (happened slot)) (λ label h. happened slot label ++ h) (λ label ls. refl) slot others
-        deed.told w.records
 
 module _ (w : World) (slot : ℕ) (P : Bool → List TurnTrace → Option Record → Type 0) (each : OfEachStep w slot P) where
   -- whether one of the events of the slot's process ended a life of it
@@ -391,17 +361,8 @@ module _ (w : World) (slot : ℕ) (P : Bool → List TurnTrace → Option Record
           labels_at (flat_map (turns_in slot)) (λ label tolds. turns_in slot label ++ tolds) (λ label ls. refl) slot
           others deed.told w.records
 
-      others_heard : (label : Label) (h : List Event) → label.slot ≢ slot → happened slot label ++ h ≡ h
-      others_heard label h apart = by_slot (label.slot == slot) refl
-        where
-          by_slot : (b : Bool) → (label.slot == slot) ≡ b → cond b (label.event ∷ []) [] ++ h ≡ h
-          by_slot true e = absurd (apart (eqb-true label.slot slot e))
-          by_slot false e = refl
-
       heard : flat_map (happened slot) ls ≡ flat_map (happened slot) mine
-      heard =
-          labels_at (flat_map (happened slot)) (λ label h. happened slot label ++ h) (λ label ls. refl) slot
-          others_heard deed.told w.records
+      heard = heard_at deed.told w.records slot
 
       by_there : (o : Option Record)
           → flat_map (turns_in slot) (labels_of slot (option_and_then (λ (r : Record). deed.told slot) o)) ≡ []

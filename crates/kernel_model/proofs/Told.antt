@@ -7,7 +7,7 @@ use Rattle.std.proofs.Common.{length, map, slice_get, slice_set, Option, None, S
 use Rattle.std.proofs.Common.{◌||◌, not, arith, eq-eqb, eqb-true}
 use Rattle.std.specs.Prelude.{All}
 use Rattle.std.specs.Option.{option_and_then, option_map}
-use Rattle.std.specs.Prelude.{unwrap_or}
+use Rattle.std.specs.Prelude.{flat_map, unwrap_or}
 use Rattle.std.proofs.lemmas.List.{append-nil}
 use Rattle.std.proofs.lemmas.List.Elements.{All-nil, All-cons, All-head, All-tail}
 use Rattle.tk_base.specs.declared.process.Verb.{Verb}
@@ -21,16 +21,16 @@ use Rattle.process_record.specs.declared.emit.Emit.{Emit}
 use Rattle.process_record.specs.Emit.{nothing}
 use Rattle.kernel_model.specs.Record.{Record}
 use Rattle.kernel_model.specs.declared.settings.Settings.{Settings}
-use Rattle.kernel_model.specs.Turn.{Edge, apply, is_act, is_turn}
+use Rattle.kernel_model.specs.Turn.{Edge, Event, apply, is_act, is_turn}
 use Rattle.kernel_model.specs.Parts.{edge_known}
 use Rattle.kernel_model.specs.Shown.{shown_by}
 use Rattle.kernel_model.specs.Laws.{ComesTo, DevicesAnswerOne, IsSilent, edge_done, edge_heard, edge_labels}
 use Rattle.kernel_model.specs.Laws.{one_answered, quiet}
-use Rattle.kernel_model.specs.World.{Answer, DeviceAnswer, Devices, Label, Stepped, World, answer_label}
+use Rattle.kernel_model.specs.World.{Answer, DeviceAnswer, DeviceStep, Devices, Label, Stepped, World, answer_label}
 use Rattle.kernel_model.specs.Parts.{alarmed}
 use Rattle.kernel_model.specs.World.{answering, arrived, coming_in, device_step_of, done, edge_told}
 use Rattle.kernel_model.specs.Parts.{acting_on, happens}
-use Rattle.kernel_model.specs.Parts.{labels_of}
+use Rattle.kernel_model.specs.Parts.{happened, labels_of}
 use Rattle.kernel_model.specs.World.{labels_told, lane_in, random_step, receive_step, records_told, serving, storing}
 use Rattle.kernel_model.specs.Parts.{served_by}
 use Rattle.kernel_model.specs.World.{operating, telling_edge, telling_nobody, transmitting, unmade}
@@ -165,6 +165,20 @@ module _ {Y : Type 0} (read : List Label → Y) (add : Label → Y → Y)
       → read (labels_told told 0 rs) ≡ read (labels_of at (told_there told rs at at))
   labels_at told rs = read_from told 0 at rs (omega arith)
 
+-- so what happened to the process in a slot, of all that is told, is what it is told
+pub heard_at : (told : ℕ → Option Answer) (rs : List Record) (slot : ℕ)
+    → flat_map (happened slot) (labels_told told 0 rs)
+    ≡ flat_map (happened slot) (labels_of slot (told_there told rs slot slot))
+heard_at told rs slot =
+    labels_at (flat_map (happened slot)) (λ label h. happened slot label ++ h) (λ label ls. refl) slot others told rs
+  where
+    others : (label : Label) (h : List Event) → label.slot ≢ slot → happened slot label ++ h ≡ h
+    others label h apart = by_slot (label.slot == slot) refl
+      where
+        by_slot : (b : Bool) → (label.slot == slot) ≡ b → cond b (label.event ∷ []) [] ++ h ≡ h
+        by_slot true e = absurd (apart (eqb-true label.slot slot e))
+        by_slot false e = refl
+
 -- the devices once bytes came in
 abbrev pub with_arrived : Devices → List ℕ → List Arrival → Devices
 with_arrived d bytes rest = record d { lines = map (with_input bytes) d.lines; arrivals = rest }
@@ -286,6 +300,34 @@ pub record OfEachDevice (w : World) (P : Stepped → Type 0) : Type 0 where
   pub stores : (slot : ℕ) (r : Record) → served_by w dev.Store ≡ Some slot → slice_get w.records slot ≡ Some r
       → P (one_answered w slot r (storing (lane_in w) w.devices slot r))
 
+-- what holds of the deed of each thing that may come in holds of that of any: of bytes, of an edge, and of an act, on
+-- nobody or on a process that is there
+pub record OfEachComing (P : DeviceStep → Type 0) (w : World) (d : Devices) : Type 0 where
+  pub bytes : (bytes : List ℕ) → P (coming_in (script.Input bytes) w.records d)
+  pub edges : (button : ℕ) (pressed : Bool) → P (telling_edge button pressed w.records d)
+  pub nobody : P (telling_nobody d)
+  pub acts : (verb : Verb) (slot : ℕ) (r : Record) → slice_get w.records slot ≡ Some r
+      → P (answering slot (operating verb d slot r))
+
+pub of_coming : (P : DeviceStep → Type 0) (w : World) (d : Devices) → OfEachComing P w d → (kind : EventKind)
+    → P (coming_in kind w.records d)
+of_coming P w d each kind = by_kind kind
+  where
+    by_there : (verb : Verb) (slot : ℕ) (o : Option Record) → slice_get w.records slot ≡ o
+        → P (unwrap_or (option_map (λ (r : Record). answering slot (operating verb d slot r)) o) (telling_nobody d))
+    by_there verb slot None e = each.nobody
+    by_there verb slot (Some r) e = each.acts verb slot r e
+
+    by_slot : (verb : Verb) (o : Option ℕ) → P (acting_on verb w.records d o)
+    by_slot verb None = each.nobody
+    by_slot verb (Some slot) = by_there verb slot (slice_get w.records slot) refl
+
+    by_kind : (kind : EventKind) → P (coming_in kind w.records d)
+    by_kind (script.Input bytes) = each.bytes bytes
+    by_kind (script.Press button) = each.edges button true
+    by_kind (script.Release button) = each.edges button false
+    by_kind (script.Act verb name) = by_slot verb (slot_of_name name w.records)
+
 module _ (w : World) (P : Stepped → Type 0) (none : P (unmade w)) where
   of_serving : (answer : ℕ → Record → DeviceAnswer) (served : Option ℕ)
       → ((slot : ℕ) (r : Record) → served ≡ Some slot → slice_get w.records slot ≡ Some r
@@ -306,36 +348,15 @@ module _ (w : World) (P : Stepped → Type 0) (none : P (unmade w)) where
       → P (one_answered w slot r (operating verb (with_rest w.devices rest) slot r)))
       → (arrivals : List Arrival) → P (done w (arrived w.records w.devices arrivals))
   of_arrived arrives edges nobody acts [] = none
-  of_arrived arrives edges nobody acts (a ∷ rest) = by_kind a.kind
-    where
-      by_nobody : P (done w (Some (telling_nobody (with_rest w.devices rest))))
-      by_nobody = subst P (sym (done_quietly w (with_rest w.devices rest))) (nobody rest)
-
-      by_there : (verb : Verb) (slot : ℕ) (o : Option Record) → slice_get w.records slot ≡ o
-          → P (done w (Some (unwrap_or
-          (option_map (λ (r : Record). answering slot (operating verb (with_rest w.devices rest) slot r)) o)
-          (telling_nobody (with_rest w.devices rest)))))
-      by_there verb slot None e = by_nobody
-      by_there verb slot (Some r) e =
-          subst P (sym (done_one w slot (operating verb (with_rest w.devices rest) slot r) r e)) (acts verb rest slot r
-          e)
-
-      by_slot : (verb : Verb) (o : Option ℕ)
-          → P (done w (Some (acting_on verb w.records (with_rest w.devices rest) o)))
-      by_slot verb None = by_nobody
-      by_slot verb (Some slot) = by_there verb slot (slice_get w.records slot) refl
-
-      by_edge : (button : ℕ) (pressed : Bool)
-          → P (done w (Some (telling_edge button pressed w.records (with_rest w.devices rest))))
-      by_edge button pressed =
-          subst P (sym (done_edge w button pressed (with_rest w.devices rest))) (edges button pressed rest)
-
-      by_kind : (kind : EventKind) → P (done w (Some (coming_in kind w.records (with_rest w.devices rest))))
-      by_kind (script.Input bytes) =
-          subst P (sym (done_quietly w (with_arrived w.devices bytes rest))) (arrives bytes rest)
-      by_kind (script.Press button) = by_edge button true
-      by_kind (script.Release button) = by_edge button false
-      by_kind (script.Act verb name) = by_slot verb (slot_of_name name w.records)
+  of_arrived arrives edges nobody acts (a ∷ rest) =
+      let left = with_rest w.devices rest in
+      of_coming (λ deed. P (done w (Some deed))) w left (record {
+        bytes = λ bytes. subst P (sym (done_quietly w (with_arrived w.devices bytes rest))) (arrives bytes rest);
+        edges = λ button pressed. subst P (sym (done_edge w button pressed left)) (edges button pressed rest);
+        nobody = subst P (sym (done_quietly w left)) (nobody rest);
+        acts = λ verb slot r is.
+            subst P (sym (done_one w slot (operating verb left slot r) r is)) (acts verb rest slot r is);
+      }) a.kind
 
 pub of_device : (w : World) (P : Stepped → Type 0) → OfEachDevice w P → (device : Dev)
     → P (done w (device_step_of w device))

@@ -1,7 +1,7 @@
 -- The next choice reads the slot whose window it is, and no other; and what it passes over. The list by slots is read
 -- at that slot (`at_slot`), so the choice is one by what is ready for it (`chosen_by`). A pass ends before anything of
 -- it becomes ready, so each tick on the way is one without a step of its own.
-use Rattle.std.proofs.Common.{◌≡◌, ◌≤◌, ◌<◌, ℕ, zero, suc, ◌+◌, ◌-◌, ◌^◌, ◌%◌, ◌&&◌, if◌then◌else◌, ◌∷◌, ◌/◌, Bool}
+use Rattle.std.proofs.Common.{◌≡◌, ◌≤◌, ◌<◌, ℕ, ◌+◌, ◌-◌, ◌^◌, ◌%◌, ◌&&◌, if◌then◌else◌, ◌∷◌, ◌/◌, Bool}
 use Rattle.std.proofs.Common.{true, false, List, [], map, nat_le, slice_get, slice_index_or, IfSome, Option, None, Some}
 use Rattle.std.proofs.Common.{is_some, refl, sym, ap, ap₂, subst, ◌∙◌, arith, eqb-true}
 use Rattle.std.specs.List.{range_with_len}
@@ -24,8 +24,6 @@ use Rattle.driver_model.specs.Alarm.{due_for, left_for}
 use Rattle.driver_model.specs.Commands.{Writes}
 use Rattle.driver_model.specs.Laws.{QuietUntilNext}
 use Rattle.kernel_laws.specs.Windows.{NextIsOfTheWindow, due_time, lane_order, lanes_in}
-use Rattle.kernel_model.specs.Record.{Record}
-use Rattle.kernel_model.specs.Turn.{may_turn}
 use Rattle.kernel_model.specs.World.{World, now_in, owns_in, sending_time}
 use Rattle.kernel_model.specs.Parts.{line_in}
 use Rattle.kernel_model.specs.Named.{waits_in}
@@ -33,6 +31,7 @@ use Rattle.kernel_model.specs.Named.{can_run}
 use Rattle.kernel_model.specs.Run.{next}
 use Rattle.kernel_model.specs.Parts.{work_for}
 use Rattle.kernel_partitions.proofs.Alone.{IsIdle, comes_in, first_of, flags_for, in_own_window, later, own_by}
+use Rattle.kernel_laws.proofs.OneRun.{told_ready}
 
 -- the slot whose window it is
 abbrev pub slot_now : World → ℕ
@@ -47,12 +46,6 @@ at_slot : {X : Type 0} (f : ℕ → X) (d : X) (w : World)
 at_slot f d w =
     let same : 0 + slot_now w ≡ slot_now w = omega arith in
     get_or-map-range_with_len f 0 SLOT_COUNT (slot_now w) (slot_now w) d (slot_below w) same
-
-flag_is : (records : List Record) (slot : ℕ)
-    → slice_index_or (map may_turn records) slot false ≡ can_run (slice_get records slot)
-flag_is [] slot = refl
-flag_is (r ∷ rs) zero = refl
-flag_is (r ∷ rs) (suc slot) = flag_is rs slot
 
 -- up to when time passes
 abbrev pub pass_end : World → ℕ
@@ -75,7 +68,7 @@ next_by law w some =
     at_slot (λ (s : ℕ). map (work_for w s).ready lane_order) [] w in
     law w some
     ∙ ap₂ (λ (flags : List Bool) (turn : Bool). chosen_by (slot_now w) (first_of (comes_in w) flags) turn (is_left l)
-    (pass_end w - w.clock.time)) lane (flag_is w.records (slot_now w))
+    (pass_end w - w.clock.time)) lane (told_ready w.records (slot_now w))
 
 -- a time before the earlier of two lies before both
 before_earlier : (time : ℕ) (o : Option ℕ) (other : ℕ) → time < earlier o other

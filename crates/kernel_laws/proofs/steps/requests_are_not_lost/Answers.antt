@@ -2,4 +2,4 @@ use Rattle.kernel_laws.proofs.Withdrawing.{requests_are_not_lost}
 use Rattle.kernel_laws.proofs.steps.requests_are_not_lost.Goals as goal
 
 pub returns : goal.returns
-returns c = requests_are_not_lost c.denials_are_due.ensures.calls
+returns c = requests_are_not_lost

@@ -14,7 +14,7 @@ returns-clause-life c =
 pub returns-clause-begin : goal.returns-clause-begin
 returns-clause-begin c =
     requests_begin_by_commands c.lines_follow_answers.ensures c.events_tell_steps.ensures
-    c.turns_keep_lines.ensures.lines c.drivers_ask_for_their_own.ensures c.a_driver_that_refuses_changes_nothing.ensures
+    c.drivers_keep_places_and_order.ensures
 
 pub returns-clause-withdrawn : goal.returns-clause-withdrawn
-returns-clause-withdrawn c = requests_are_withdrawn c.denials_are_due.ensures.calls c.lines_follow_answers.ensures
+returns-clause-withdrawn c = requests_are_withdrawn c.lines_follow_answers.ensures

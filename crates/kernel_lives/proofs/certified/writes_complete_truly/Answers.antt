@@ -3,5 +3,4 @@ use Rattle.kernel_lives.proofs.certified.writes_complete_truly.Goals as goal
 
 pub returns : goal.returns
 returns c =
-    writes_complete_truly c.drivers_keep_places_and_order.ensures c.only_drivers_move_lines.ensures
-    c.owns_stay_whole.ensures.stays
+    writes_complete_truly c.drivers_keep_places_and_order.ensures c.owns_stay_whole.ensures.stays

@@ -1,10 +1,13 @@
--- What a process keeps for one driver, where a driver is entered, or keeps another value.
+-- What a process keeps for one driver, where a driver is entered, keeps another value or is handed a pair.
 use Rattle.std.proofs.Common.{◌≡◌, ℕ, ◌==◌, Bool, true, false, cond, List, [], ◌∷◌, Option, None, Some, refl, sym, ap}
 use Rattle.std.proofs.Common.{◌∙◌, eqb-true, eq-eqb, unwrap_or, option_map}
 use Rattle.grant_values.specs.Values.{KeptValue, fresh_value}
-use Rattle.grant_model.specs.Grants.{Grant, entered, entering, fresh, grant_of, with_grant, with_value}
+use Rattle.tk_base.specs.declared.kinds.PairKind.{PairKind}
+use Rattle.grant_values.specs.Drivers.{drivers}
+use Rattle.grant_model.specs.Grants.{Grant, entered, entering, fresh, grant_of, with_grant, with_pair, with_value}
+use Rattle.driver_model.specs.Alarm.{alarm_driver, armed_in}
 use Rattle.process_model.specs.Own.{Own}
-use Rattle.process_model.specs.Handed.{own_entering}
+use Rattle.process_model.specs.Handed.{handing, own_entering}
 use Rattle.process_model.specs.Served.{kept, with_kept}
 
 -- the value of a grant that was found
@@ -87,3 +90,53 @@ kept_beside driver other value own apart = beside driver other value own.grants 
 pub entering_beside : (driver other : ℕ) (own : Own) → (driver == other) ≡ false
     → kept other (own_entering driver own) ≡ kept other own
 entering_beside driver other own apart = entered_beside driver other own.grants apart
+
+-- so what is read of it is as it was, where a driver that is entered tells what is told of none
+pub entering_read : {X : Type 0} (driver : ℕ) (read : Option KeptValue → X)
+    → ((o : Option KeptValue) → read (Some (unwrap_or o (fresh_value driver))) ≡ read o) → (other : ℕ) (own : Own)
+    → read (kept driver (own_entering other own)) ≡ read (kept driver own)
+entering_read driver read blank other own = by_driver (other == driver) refl
+  where
+    by_driver : (b : Bool) → (other == driver) ≡ b
+        → read (kept driver (own_entering other own)) ≡ read (kept driver own)
+    by_driver true e =
+        ap (λ (d : ℕ). read (kept driver (own_entering d own))) (eqb-true other driver e)
+        ∙ ap read (kept_entering driver own) ∙ blank (kept driver own)
+    by_driver false e = ap read (entering_beside other driver own e)
+
+-- a pair that is handed leaves every value
+handed : (other driver : ℕ) (kind : PairKind) (number : ℕ) (pair : ℕ × ℕ) (gs : List Grant)
+    → told (grant_of other (with_grant driver (with_pair kind number pair) gs)) ≡ told (grant_of other gs)
+handed other driver kind number pair [] = refl
+handed other driver kind number pair (g ∷ gs) =
+    by_test (g.driver == driver) (handed other driver kind number pair gs)
+  where
+    by_other : (b : Bool) → told (cond b (Some (with_pair kind number pair g)) (grant_of other gs))
+        ≡ told (cond b (Some g) (grant_of other gs))
+    by_other true = refl
+    by_other false = refl
+
+    by_rest : (b : Bool)
+        → told (grant_of other (with_grant driver (with_pair kind number pair) gs)) ≡ told (grant_of other gs)
+        → told (cond b (Some g) (grant_of other (with_grant driver (with_pair kind number pair) gs)))
+        ≡ told (cond b (Some g) (grant_of other gs))
+    by_rest true later = refl
+    by_rest false later = later
+
+    by_test : (here : Bool)
+        → told (grant_of other (with_grant driver (with_pair kind number pair) gs)) ≡ told (grant_of other gs)
+        → told (grant_of other (cond here (with_pair kind number pair g ∷ gs)
+        (g ∷ with_grant driver (with_pair kind number pair) gs)))
+        ≡ told (grant_of other (g ∷ gs))
+    by_test true later = by_other (g.driver == other)
+    by_test false later = by_rest (g.driver == other) later
+
+pub kept_handing : (other driver : ℕ) (kind : PairKind) (number : ℕ) (pair : ℕ × ℕ) (own : Own)
+    → kept other (handing kind driver number pair own) ≡ kept other (own_entering driver own)
+kept_handing other driver kind number pair own = handed other driver kind number pair (own_entering driver own).grants
+
+-- an alarm's driver that is entered has none armed
+pub alarm_blank : (o : Option KeptValue) → armed_in (Some (unwrap_or o (fresh_value alarm_driver))) ≡ armed_in o
+unfolding drivers
+alarm_blank None = refl
+alarm_blank (Some v) = refl

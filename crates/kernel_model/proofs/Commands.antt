@@ -25,7 +25,25 @@ use Rattle.driver_model.specs.Random as random
 use Rattle.driver_model.specs.Requests.{RequestKind, asking, request_in, with_request}
 use Rattle.driver_model.specs.Parts.{asking_beside}
 use Rattle.driver_model.specs.Storage as storage
-use Rattle.kernel_laws.proofs.Values.{entering_beside, kept_beside}
+use Rattle.kernel_model.proofs.Values.{entering_beside, kept_beside}
+
+-- the command of a number, row by row of a table
+module _ (number : ℕ) (own : Own) (P : Commanded → Type 0) where
+  abbrev chosen : Option (ℕ × Commanded) → Commanded
+  chosen found = unwrap_or (option_map (λ row. row.1) found) (refusing NoCommand own)
+
+  pub row : (n : ℕ) (c : Commanded) (rest : Option (ℕ × Commanded)) → (number ≡ n → P c) → P (chosen rest)
+      → P (chosen (cond (n == number) (Some (n, c)) rest))
+  row n c rest here later = if_equal (n == number) refl
+    where
+      if_equal : (b : Bool) → (n == number) ≡ b → P (chosen (cond b (Some (n, c)) rest))
+      if_equal true e = here (sym (eqb-true n number e))
+      if_equal false e = later
+
+-- and one that goes by a test
+pub if_either : (P : Commanded → Type 0) (b : Bool) (c d : Commanded) → P c → P d → P (cond b c d)
+if_either P true c d h k = h
+if_either P false c d h k = k
 
 -- what holds of a process as it was, and of each of these, by the driver that leaves it
 pub record OfEachKeeping (P : ℕ → Own → Own → Type 0) : Type 0 where
@@ -223,4 +241,15 @@ command_leaves_others driver taker is around number a2 a3 own other =
       keeps = λ d value o apart. kept_beside d other value o apart;
       enters = λ d value o apart.
           kept_beside d other value (own_entering d o) apart ∙ entering_beside d other o apart;
+    }) driver taker is around number a2 a3 own
+
+-- and it lives as before
+pub command_lives : (driver : ℕ) (taker : CommandHandler) → handler_of driver ≡ Some taker → (around : CommandContext)
+    (number a2 a3 : ℕ) (own : Own) → (taker around number a2 a3 own).step.own.lives ≡ own.lives
+command_lives driver taker is around number a2 a3 own =
+    of_command (λ d before after. after.lives ≡ before.lives) (record {
+      same = λ d o. refl;
+      shows = λ now o. refl;
+      keeps = λ d value o. refl;
+      enters = λ d value o. refl;
     }) driver taker is around number a2 a3 own
