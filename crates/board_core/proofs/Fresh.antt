@@ -30,7 +30,6 @@ use Rattle.board_opening.specs.Settings.{is_partitioned, visible_settings}
 use Rattle.board_opening.specs.Parts.{erased, pace}
 use Rattle.process_record.specs.declared.process.Process.{Process}
 use Rattle.process_record.specs.Summary.{Unplaced}
-use Rattle.process_record.specs.Process.{started}
 use Rattle.board_opening.specs.Opening.{opening, placed_applications, record_placed, unplaced_at}
 
 -- what holds of one holds of as many of it as may be

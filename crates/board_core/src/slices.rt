@@ -79,20 +79,24 @@ impl PresentSlot {
     }
 }
 
-/// The slot that has the turn of a choice, where its process runs. None where the choice is no such
-/// turn.
-pub(crate) fn running_in(choice: &Option<Choice>, processes: &[Process]) -> Option<Slot>
+/// The slot that has the turn of a choice, if it is a turn.
+pub(crate) fn slot_of(choice: &Option<Choice>) -> Option<Slot>
     ensures turn { IfSome result (λ slot. choice.now ≡ Some (Run slot)) }
-    ensures runs { IfSome result (λ slot. slot_runs (slice_get processes.now slot) ≡ true) }
-    ensures none { IfNone result ((slot : ℕ) → choice.now ≡ Some (Run slot)
-        → slot_runs (slice_get processes.now slot) ≡ false) }
+    ensures none { IfNone result ((slot : ℕ) → choice.now ≡ Some (Run slot) → ⊥) }
 {
     match *choice {
-        Some(Choice::Run(slot)) => match processes.get(slot.index())?.state {
-            State::Running => Some(slot),
-            State::Yielded | State::Faulted | State::Terminated(_) => None,
-        },
+        Some(Choice::Run(slot)) => Some(slot),
         Some(Choice::Device(_) | Choice::Pass(_)) | None => None,
+    }
+}
+
+/// Whether there is a process in a slot, and it runs.
+pub(crate) fn is_running(processes: &[Process], slot: Slot) -> bool
+    ensures { result ≡ slot_runs (slice_get processes.now slot) }
+{
+    match processes.get(slot.index()) {
+        Some(process) => matches!(process.state, State::Running),
+        None => false,
     }
 }
 

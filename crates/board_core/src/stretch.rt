@@ -1,6 +1,8 @@
 //! A quiet stretch: turns of processes, one after another, that only execute an instruction.
 ghost use Rattle.std.specs.Prelude.{◌≡◌, ◌+◌, ◌-◌, ◌≤◌, ◌<◌, true, false, Some, IfSome, IsTrue};
 ghost use Rattle.tk_base.specs.declared.limits.TheConstants.{STEP_LIMIT};
+ghost use Rattle.tk_base.specs.declared.process.Choice.TheVariants.{Run};
+ghost use Rattle.rv32_model.specs.declared.turn_end.TurnEnd.TheVariants.{Went};
 ghost use Rattle.kernel_model.specs.Accounts.{IsAccountedFor};
 ghost use Rattle.kernel_model.specs.Choices.{Throughout};
 ghost use Rattle.kernel_model.specs.Replay.{chosen};
@@ -11,13 +13,14 @@ ghost use Rattle.board_core.specs.KnownEnds.{IsKnownOfChoice};
 ghost use Rattle.board_core.specs.Stretches.{StopsAt};
 
 use crate::board::Board;
-use crate::slices::{is_over, running_in, turns_left};
+use crate::slices::{is_over, is_running, slot_of, turns_left};
 use driver_model::time_brings_an_alarm_nearer;
 use kernel_laws::{one_alone_goes_on, round_is_stretch};
 use kernel_lives::steps_are_accounted_for;
 use kernel_model::next_is_ready;
 use rv32_model::TurnEnd;
-use tk_base::Choice;
+use tk_base::{Choice, Slot};
+use turn_scheduler::slot_going_on;
 
 /// A part of a stretch: how many turns were made, whether the stretch ends with them, and the round
 /// robin's next choice, where it does, with what is known of its end.
@@ -39,11 +42,43 @@ pub struct QuietTurns {
     pub end: TurnEnd,
 }
 
+impl Part {
+    /// No turn was made, and the stretch ends before the next choice.
+    #[inline(always)]
+    fn ended(next_choice: Option<Choice>) -> Part
+        ensures { result
+            ≡ record { made = 0; is_over = true; next_choice = next_choice; end = Went } }
+    {
+        Part {
+            made: 0,
+            is_over: true,
+            next_choice,
+            end: TurnEnd::Went,
+        }
+    }
+}
+
 impl Board {
-    /// A part of a stretch: turns of one process, at most so many, up to when a device step may be
-    /// ready, and in its slice; where no other process can have a turn, slice after slice.
-    fn run_part(&mut self, most: u32) -> Part
-        requires { 0 < most }
+    /// The slot that had the last turn, where no device step is ready and its slice lasts: it has the
+    /// next turn too.
+    #[inline(always)]
+    fn slot_going_on(&self) -> Option<Slot>
+        ensures { IfSome result (λ slot. next self.now ≡ Some (Run slot)) }
+    {
+        if self.state.machine.moment.time < self.state.machine.calm {
+            slot_going_on(self)
+        } else {
+            None
+        }
+    }
+
+    /// A part of a stretch: turns of the process in the slot that has the next one, at most so many,
+    /// up to when a device step may be ready, and in its slice; where no other process can have a
+    /// turn, slice after slice.
+    #[inline(always)]
+    fn run_slot(&mut self, slot: Slot, most: u32) -> Part
+        requires chosen { next self.old ≡ Some (Run slot) }
+        requires most { 0 < most }
         ensures most { result.made ≤ most }
         ensures stretch { IsStretch result.made self.old self.new }
         ensures ends { result.is_over ≡ true → result.made < most → StopsAt self.new }
@@ -56,23 +91,12 @@ impl Board {
         one_alone_goes_on();
         next_is_ready();
         time_brings_an_alarm_nearer();
-        let next_choice = self.next_choice();
-        let Some(slot) = running_in(&next_choice, &self.state.processes) else {
-            return Part {
-                made: 0,
-                is_over: true,
-                next_choice,
-                end: TurnEnd::Went,
-            };
-        };
+        if !is_running(&self.state.processes, slot) {
+            return Part::ended(Some(Choice::Run(slot)));
+        }
         self.state.machine.calm = self.state.machine.calm_ahead();
         if self.state.machine.calm <= self.state.machine.moment.time {
-            return Part {
-                made: 0,
-                is_over: true,
-                next_choice,
-                end: TurnEnd::Went,
-            };
+            return Part::ended(Some(Choice::Run(slot)));
         }
         let before = self.state.present.used_before(slot);
         let alone = self.state.machine.ready.has_one();
@@ -96,9 +120,32 @@ impl Board {
         Part {
             made,
             is_over: is_over(made, left),
-            next_choice,
+            next_choice: Some(Choice::Run(slot)),
             end: stretch.end,
         }
+    }
+
+    /// A part of a stretch: [`Board::run_slot`], where the next choice is the turn of a process.
+    fn run_part(&mut self, most: u32) -> Part
+        requires { 0 < most }
+        ensures most { result.made ≤ most }
+        ensures stretch { IsStretch result.made self.old self.new }
+        ensures ends { result.is_over ≡ true → result.made < most → StopsAt self.new }
+        ensures more { result.is_over ≡ false → 0 < result.made }
+        ensures next { result.is_over ≡ true → result.next_choice ≡ next self.new }
+        ensures known { result.is_over ≡ true
+            → IfSome result.next_choice (IsKnownOfChoice self.new result.end) }
+    {
+        round_is_stretch();
+        // Most often, and then nothing else is asked.
+        if let Some(slot) = self.slot_going_on() {
+            return self.run_slot(slot, most);
+        }
+        let next_choice = self.next_choice();
+        let Some(slot) = slot_of(&next_choice) else {
+            return Part::ended(next_choice);
+        };
+        self.run_slot(slot, most)
     }
 
     /// Makes as many of the round robin's next steps as are turns that only execute an instruction,

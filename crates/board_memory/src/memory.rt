@@ -112,12 +112,14 @@ impl Memory {
         ensures ram { result.ram.now ≡ self.old.ram }
         ensures pmp { result.sight.pmp.now ≡ pmp.now }
     {
-        let mut windows = self.windows[slot.index()];
-        if !windows.are_of(pmp) {
-            let (flash, entries) = (self.flash.as_slice(), self.entries.as_slice());
-            windows = Windows::of(flash, entries, self.ram.len(), pmp);
-            self.windows[slot.index()] = windows;
-        }
+        let place = slot.index();
+        self.windows[place].follow(
+            self.flash.as_slice(),
+            self.entries.as_slice(),
+            self.ram.len(),
+            pmp,
+        );
+        let windows = self.windows[place];
         let flash = self.flash.as_slice();
         let entries = self.entries.as_slice();
         let ram = self.ram.as_mut_slice();

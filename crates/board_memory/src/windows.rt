@@ -2,30 +2,23 @@
 ghost use Rattle.std.specs.Prelude.{◌≡◌, ◌+◌, ◌-◌, ◌/◌, ◌%◌, ◌≤◌, ◌^◌, length, take, drop};
 ghost use Rattle.std.specs.Bool.{OnTrue};
 ghost use Rattle.tk_base.specs.declared.access.TheConstants.{FLASH_START, RAM_START};
+ghost use Rattle.pmp_regions.specs.Windows.{end_of};
 ghost use Rattle.board_memory.specs.Bytes.{AreWords, IsCode};
 ghost use Rattle.board_memory.specs.Known.{AreEntries, AreKnown};
 ghost use Rattle.board_memory.specs.Windows.{AreWindows, FitAnywhere, Permit};
 
 use crate::words::{Words, words_in};
-use pmp_regions::Pmp;
+use pmp_regions::{Extent, Pmp};
 use rv32_entries::Entry;
-use std::ops::Range;
 use tk_base::{Addr, FLASH_START, RAM_START};
-
-/// The two ends of a window: the address of its first byte, and the one behind its last.
-#[derive(Clone, Copy)]
-struct Ends {
-    from: u64,
-    to: u64,
-}
 
 /// The words of flash and of RAM that lie in the two windows of some registers.
 #[derive(Clone, Copy)]
 pub struct Windows {
-    /// The addresses between which the registers permit every fetch and every load.
-    executable: Ends,
-    /// Those between which they permit every load and every store.
-    writable: Ends,
+    /// The addresses in which the registers permit every fetch and every load.
+    executable: Extent,
+    /// Those in which they permit every load and every store.
+    writable: Extent,
     /// The words of flash between the first ones.
     pub code: Words,
     /// Of how many of the even places of these words the instructions are known, where none goes on behind the last.
@@ -40,8 +33,8 @@ impl Windows {
         ensures { FitAnywhere result }
     {
         Windows {
-            executable: Ends { from: 0, to: 0 },
-            writable: Ends { from: 0, to: 0 },
+            executable: Extent { from: 0, length: 0 },
+            writable: Extent { from: 0, length: 0 },
             code: Words {
                 start: FLASH_START,
                 size: 0,
@@ -54,64 +47,56 @@ impl Windows {
         }
     }
 
-    /// Those of some registers, over flash and so many bytes of RAM.
+    /// Makes them those of some registers, over flash and so many bytes of RAM.
+    // Where they stand: what is found is not moved.
     #[cold]
     #[inline(never)]
-    pub fn of(flash: &[u8], entries: &[Entry], size: usize, pmp: &Pmp) -> Windows
+    fn find(&mut self, flash: &[u8], entries: &[Entry], size: usize, pmp: &Pmp)
         requires { AreEntries flash.now entries.now }
-        ensures windows { AreWindows flash.now entries.now size result }
-        ensures permit { Permit pmp.now result }
+        ensures windows { AreWindows flash.now entries.now size self.new }
+        ensures permit { Permit pmp.now self.new }
     {
-        let executable = pmp.executable();
-        let writable = pmp.writable();
-        let code = code_words(&executable, flash.len());
-        let count = known_count(flash, entries, code);
-        let near = near_words(&writable, size);
-        Windows {
-            executable: ends_of(&executable),
-            writable: ends_of(&writable),
-            code,
-            count,
-            near,
+        self.executable = pmp.executable();
+        self.writable = pmp.writable();
+        self.code = code_words(self.executable, flash.len());
+        self.count = known_count(flash, entries, self.code);
+        self.near = near_words(self.writable, size);
+    }
+
+    /// Makes them those of some registers, over flash and so many bytes of RAM, where they are not.
+    #[inline(always)]
+    pub fn follow(&mut self, flash: &[u8], entries: &[Entry], size: usize, pmp: &Pmp)
+        requires entries { AreEntries flash.now entries.now }
+        requires windows { AreWindows flash.now entries.now size self.old }
+        ensures windows { AreWindows flash.now entries.now size self.new }
+        ensures permit { Permit pmp.now self.new }
+    {
+        if !self.are_of(pmp) {
+            self.find(flash, entries, size, pmp);
         }
     }
 
     /// Whether they are those of some registers.
     #[inline(always)]
-    pub fn are_of(&self, pmp: &Pmp) -> bool
+    fn are_of(&self, pmp: &Pmp) -> bool
         ensures { OnTrue result (Permit pmp.now self.now) }
     {
-        let executable = pmp.executable();
-        let writable = pmp.writable();
-        are_ends(self.executable, &executable) && are_ends(self.writable, &writable)
+        are_same(self.executable, pmp.executable()) && are_same(self.writable, pmp.writable())
     }
 }
 
-/// The ends of a range.
-fn ends_of(range: &Range<u64>) -> Ends
-    ensures from { result.from ≡ range.now.start }
-    ensures to { result.to ≡ range.now.end }
-{
-    Ends {
-        from: range.start,
-        to: range.end,
-    }
-}
-
-/// Whether they are the ends of a range.
+/// Whether they are the same addresses.
 #[inline(always)]
-fn are_ends(ends: Ends, range: &Range<u64>) -> bool
-    ensures from { OnTrue result (ends.from ≡ range.now.start) }
-    ensures to { OnTrue result (ends.to ≡ range.now.end) }
+fn are_same(some: Extent, others: Extent) -> bool
+    ensures { OnTrue result (some ≡ others) }
 {
-    ends.from == range.start && ends.to == range.end
+    some.from == others.from && some.length == others.length
 }
 
 /// The words of flash, of so many bytes, in a window.
 #[tactic(auto, using(crate::proofs::Near::of_more))]
-fn code_words(window: &Range<u64>, size: usize) -> Words
-    requires { window.now.start ≤ window.now.end }
-    ensures words { AreWords FLASH_START size window.now.start window.now.end result.start result.size }
+fn code_words(window: Extent, size: usize) -> Words
+    ensures words { AreWords FLASH_START size window.from (end_of window) result.start result.size }
     ensures below { result.start + result.size ≤ RAM_START }
 {
     let most = (RAM_START - FLASH_START) as usize;
@@ -120,9 +105,8 @@ fn code_words(window: &Range<u64>, size: usize) -> Words
 
 /// The words of RAM, of so many bytes, in a window.
 #[tactic(auto, using(crate::proofs::Near::of_more))]
-fn near_words(window: &Range<u64>, size: usize) -> Words
-    requires { window.now.start ≤ window.now.end }
-    ensures words { AreWords RAM_START size window.now.start window.now.end result.start result.size }
+fn near_words(window: Extent, size: usize) -> Words
+    ensures words { AreWords RAM_START size window.from (end_of window) result.start result.size }
     ensures wraps { result.start + result.size ≤ 2 ^ 32 }
 {
     words_in(window, RAM_START, size.min(0x7fff_ffff))
@@ -154,8 +138,8 @@ fn known_count(flash: &[u8], entries: &[Entry], code: Words) -> usize
 #[tactic(auto, using(crate::proofs::Near::is_code))]
 #[inline(always)]
 pub fn code_in<'a>(flash: &'a [u8], pmp: &Pmp, windows: Windows) -> &'a [u8]
-    requires words { AreWords FLASH_START (length flash.now) windows.executable.from windows.executable.to
-        windows.code.start windows.code.size }
+    requires words { AreWords FLASH_START (length flash.now) windows.executable.from
+        (end_of windows.executable) windows.code.start windows.code.size }
     requires below { windows.code.start + windows.code.size ≤ RAM_START }
     requires permit { Permit pmp.now windows }
     ensures code { IsCode flash.now pmp.now windows.code.start result.now }

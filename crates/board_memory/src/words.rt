@@ -1,8 +1,9 @@
 //! Windows of whole words.
 ghost use Rattle.std.specs.Prelude.{◌≡◌, ◌+◌, ◌%◌, ◌<◌, ◌≤◌, ◌^◌};
+ghost use Rattle.pmp_regions.specs.Windows.{end_of};
 ghost use Rattle.board_memory.specs.Bytes.{AreWords};
 
-use std::ops::Range;
+use pmp_regions::Extent;
 use tk_base::Addr;
 
 /// So many bytes from an address on, of whole words.
@@ -17,13 +18,13 @@ pub struct Words {
 /// The words of a window that lies in so many bytes from an address on. There are none where it does not, or where it
 /// begins within a word.
 #[inline(always)]
-pub fn words_in(window: &Range<u64>, first: Addr, size: usize) -> Words
+pub fn words_in(window: Extent, first: Addr, size: usize) -> Words
     requires first { first % 4 ≡ 0 }
     requires ends { first + size < 2 ^ 32 }
-    requires order { window.now.start ≤ window.now.end }
-    ensures { AreWords first size window.now.start window.now.end result.start result.size }
+    ensures { AreWords first size window.from (end_of window) result.start result.size }
 {
-    let (start, end) = (window.start, window.end);
+    let start = u64::from(window.from);
+    let end = start + u64::from(window.length);
     if start % 4 != 0 || start < u64::from(first) || end > u64::from(first) + size as u64 {
         return Words {
             start: first,

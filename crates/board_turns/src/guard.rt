@@ -1,6 +1,5 @@
 //! The one protection register file.
 ghost use Rattle.std.specs.Prelude.{◌≡◌, ◌<◌, false, None, length};
-ghost use Rattle.process_layout.specs.Bounds.{bounds_of};
 ghost use Rattle.board_memory.specs.Registers.{Protect};
 ghost use Rattle.grant_enter.specs.Homes.{own_of};
 ghost use Rattle.syscall_abi.specs.Forms.{form_of};
@@ -8,9 +7,8 @@ ghost use Rattle.board_turns.specs.Guards.{GuardsOnly, GuardsOthers, IsSetFor, m
 
 use grant_enter::Home;
 use pmp_regions::Pmp;
-use process_layout::Layout;
 use syscall_abi::Call;
-use tk_base::Slot;
+use tk_base::{Addr, Slot};
 
 /// The board's protection registers (RISC-V privileged manual, "Physical Memory Protection"), and
 /// the slot for whose process they are set, if they are for any.
@@ -71,20 +69,17 @@ impl ActivePmp {
         }
     }
 
-    /// Sets the registers again for the process in a slot, where it may access other memory than what
-    /// they were set for.
+    /// Sets the registers again for the process in a slot, where its break is another one than that
+    /// for which they were set. It asks that they fit but for that.
     #[inline(always)]
-    pub fn refresh(&mut self, home: &Home, slot: Slot, before: &Layout)
+    pub fn refresh_break(&mut self, home: &Home, slot: Slot, before: Addr)
         requires slot { slot < length home.now.owns }
-        requires set { Protect self.old.pmp (bounds_of before.now) }
+        requires set { Protect self.old.pmp
+            (record (own_of home.now slot).layout { brk = before }) }
         ensures slot { self.new.slot ≡ self.old.slot }
         ensures protect { Protect self.new.pmp (own_of home.now slot).layout }
     {
-        let layout = home.layout(slot);
-        let same_flash = layout.flash_start == before.flash_start
-            && layout.flash_end == before.flash_end;
-        let same_ram = layout.start == before.start && layout.brk == before.brk;
-        if !(same_flash && same_ram) {
+        if home.layout(slot).brk != before {
             home.protect(slot, &mut self.pmp);
         }
     }

@@ -130,9 +130,9 @@ impl Machine {
         ensures drivers { self.new.drivers ≡ self.old.drivers }
     {
         process.denial = Some(denial);
-        let layout = self.home.layout(slot);
+        let brk = self.home.layout(slot).brk;
         restart_process(&mut self.home, process, slot);
-        self.guard.refresh(&self.home, slot, &layout);
+        self.guard.refresh_break(&self.home, slot, brk);
     }
 
     /// A denial: the process in a slot faults, and has ended or starts again, as the policy
@@ -179,7 +179,10 @@ impl Machine {
             ≡ record self.old { home = self.new.home; drivers = self.new.drivers } }
     {
         commands_stay_in_place();
-        let (Some(order), Some(id)) = (Order::of(call), self.home.id(slot)) else {
+        let Some(order) = Order::of(call) else {
+            return Outcome::ToDriver;
+        };
+        let Some(id) = self.home.id(slot) else {
             return Outcome::ToDriver;
         };
         let tick = self.moment.tick();

@@ -18,12 +18,13 @@ use process_record::{Outcome, Process};
 use syscall_abi::{Call, CallForm};
 use tk_base::{CallRule, Slot};
 
-/// Whether a form of calls is a command to a driver that takes commands.
-fn is_taken(form: &CallForm) -> bool
-    ensures { result ≡ is_taken form.now }
+/// Whether a call is a command to a driver that takes commands.
+#[inline(always)]
+fn is_taken(call: &Call) -> bool
+    ensures { result ≡ is_taken (form_of call.now) }
 {
-    match *form {
-        CallForm::Command { driver, .. } => Driver::of(driver).is_some(),
+    match *call {
+        Call::Command { driver, .. } => Driver::of(driver).is_some(),
         _ => false,
     }
 }
@@ -60,14 +61,14 @@ impl Caller<'_> {
         ensures keeps { Keeps self.old self.new }
     {
         no_call_is_left();
-        let form = call.form();
         if !self.is_permitted(call, strict) {
-            return self.refuse(CallRule::Permission, failure(&form, CallRule::Permission));
+            let failure = failure(&call.form(), CallRule::Permission);
+            return self.refuse(CallRule::Permission, failure);
         }
-        if is_taken(&form) {
+        if is_taken(call) {
             return Outcome::ToDriver;
         }
-        self.serve(&form)
+        self.serve(&call.form())
     }
 }
 

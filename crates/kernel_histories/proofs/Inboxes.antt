@@ -49,7 +49,7 @@ use Rattle.kernel_model.specs.Calls.{refused_with, restart, served, swap_by, swa
 use Rattle.kernel_model.specs.Calls.{yield_now, yielding}
 use Rattle.kernel_model.specs.Parts.{calls, delivery, failed_swap, object_permits, swapped, unknown_call, with_process}
 use Rattle.kernel_model.specs.Turn.{Act, Alarmed, Edge, Event, Input, NoWord, Stored, Taken, Turn, Word, WriteDone}
-use Rattle.kernel_model.specs.Turn.{Turned, apply, at_turn_end, faulted, idle, is_turn, made, operated}
+use Rattle.kernel_model.specs.Turn.{Turned, apply, at_turn_end, faulted, is_turn, made, operated}
 use Rattle.kernel_model.specs.Turn.{surroundings, turn_counted, turn_in, turned}
 use Rattle.kernel_model.specs.Laws.{CanStartAgain}
 use Rattle.kernel_model.specs.Histories.{class_of, ends_life, handed_by}

@@ -18,7 +18,6 @@ use Rattle.grant_model.specs.Laws.{ArePair, IsAreaOf, IsValue}
 use Rattle.grant_model.proofs.Exchange.{pairs-are-found}
 use Rattle.grant_model.proofs.Values.{values-are-found}
 use Rattle.process_model.specs.Handed.{handing}
-use Rattle.process_record.specs.declared.emit.CallMade.{CallMade}
 use Rattle.process_record.specs.Parts.{cleared}
 use Rattle.kernel_model.specs.Record.{Record}
 use Rattle.kernel_model.specs.Turn.{Act, TurnTrace, untraced}

@@ -1,6 +1,6 @@
 -- What is scheduled for a process after each thing that happens to it, exactly (TRD 104, "Subscribe", "Command",
 -- "Yield", "Exit").
-use Rattle.std.specs.Prelude.{◌≡◌, ℕ, ◌==◌, Bool, true, false, not, ◌&&◌, if◌then◌else◌, [], ◌∷◌, filter, slice_get}
+use Rattle.std.specs.Prelude.{◌≡◌, ◌==◌, Bool, true, false, not, ◌&&◌, if◌then◌else◌, [], ◌∷◌, filter, slice_get}
 use Rattle.std.specs.Prelude.{slice_index, Option, None, Some, is_none, option_and_then}
 use Rattle.tk_base.specs.declared.upcall.Upcall.{Upcall as Scheduled}
 use Rattle.tk_base.specs.declared.upcall.Wait.{Wait}

@@ -22,16 +22,13 @@ use Rattle.process_model.specs.Served.{kept, with_written}
 use Rattle.process_record.specs.Process.{waiting}
 use Rattle.driver_model.specs.Commands.{QueueName, Writes, Reads, Randoms, Stores, is_same}
 use Rattle.driver_model.specs.Console as console
-use Rattle.driver_model.specs.Console.{console_in, console_writes}
 use Rattle.driver_model.specs.Keeping.{DriversKeep}
 use Rattle.driver_model.specs.Laws.{StaysInPlace}
 use Rattle.driver_model.specs.Lines.{RequestOf, kind_in}
 use Rattle.driver_model.specs.Random as random
-use Rattle.driver_model.specs.Random.{randoms}
 use Rattle.driver_model.specs.Requests.{request_in, unanswered, waiting_in, with_request}
 use Rattle.driver_model.specs.Steps.{own_after, silently}
 use Rattle.driver_model.specs.Storage as storage
-use Rattle.driver_model.specs.Storage.{storages}
 use Rattle.kernel_model.specs.Record.{Record}
 use Rattle.kernel_model.specs.declared.settings.Settings.{Settings}
 use Rattle.kernel_model.specs.Calls.{restart}

@@ -16,7 +16,7 @@ use Rattle.driver_model.specs.Commands.{leaving_all}
 use Rattle.driver_model.specs.Console as console
 use Rattle.kernel_model.specs.Record.{Record, flash_of}
 use Rattle.kernel_model.specs.Turn.{Event, NoWord, Taken, Word, WriteDone}
-use Rattle.kernel_model.specs.World.{Answer, DeviceAnswer, DeviceStep, Devices, Label, Stepped, World, answer_label}
+use Rattle.kernel_model.specs.World.{Answer, DeviceAnswer, DeviceStep, Devices, Stepped, World, answer_label}
 use Rattle.kernel_model.specs.World.{answering, arrived, carried_out, coming_in, device_step_of, done, lane_in}
 use Rattle.kernel_model.specs.World.{operating}
 use Rattle.kernel_model.specs.World.{random_step, receive_step, routed, serving, storing, telling_edge, telling_nobody}

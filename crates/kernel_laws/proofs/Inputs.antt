@@ -42,7 +42,7 @@ use Rattle.kernel_model.specs.Edges.{arrival_in, arrivals_in, first_for}
 use Rattle.kernel_model.specs.Replay.{after_all}
 use Rattle.kernel_model.proofs.Told.{done_one, edge_answer, of_device as of_each_device, told_labels, with_rest}
 use Rattle.kernel_model.proofs.Places.{of_stepped, stepped_else, stepped_ready, routed_rest}
-use Rattle.kernel_laws.specs.Inputs.{HasRoom, InputIsKept, IsSubsequence, IsTheLast, KeepsInput, RingsHaveTheLast}
+use Rattle.kernel_laws.specs.Inputs.{InputIsKept, IsSubsequence, IsTheLast, KeepsInput, RingsHaveTheLast}
 use Rattle.kernel_laws.specs.Inputs.{bytes_arriving, bytes_in, input_in, input_told, inputs_told, last_of, ring_in}
 use Rattle.kernel_laws.specs.Words.{of_lane}
 use Rattle.kernel_laws.proofs.Devices.{of_serving}

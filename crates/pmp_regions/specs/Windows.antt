@@ -5,6 +5,7 @@ use Rattle.tk_base.specs.declared.access.Access.TheVariants.{Fetch, Load, Store}
 use Rattle.tk_base.specs.declared.access.Width.{Width}
 use Rattle.tk_base.specs.Access.{width_bytes}
 use Rattle.pmp_regions.specs.declared.Entry.{Entry}
+use Rattle.pmp_regions.specs.declared.Extent.{Extent}
 use Rattle.pmp_regions.specs.Entries.{pmp_entry, is_tor}
 use Rattle.pmp_regions.specs.Check.{deciding, matches_all, denied_by_registers}
 
@@ -12,6 +13,10 @@ use Rattle.pmp_regions.specs.Check.{deciding, matches_all, denied_by_registers}
 pub record Ends : Type 0 where
   pub from : ℕ
   pub to : ℕ
+
+-- the address behind the last of so many
+abbrev pub end_of : Extent → ℕ
+end_of addresses = addresses.from + addresses.length
 
 -- all bytes of an access lie in a window
 abbrev pub window_holds : Ends → ℕ → Width → Bool

@@ -8,7 +8,6 @@ ghost use Rattle.std.specs.Bool.{OnTrue};
 ghost use Rattle.tk_base.specs.Bus.{unless_denied};
 
 use std::marker::Model;
-use std::ops::Range;
 use tk_base::{Access, Addr, Rule, Width};
 
 /// How an entry's address register is read: field A of its configuration.
@@ -29,6 +28,13 @@ pub struct Entry {
     pub execute: bool,
     /// An address divided by 4.
     pub address: u32,
+}
+
+/// So many addresses from one on.
+#[derive(Clone, Copy)]
+pub struct Extent {
+    pub from: Addr,
+    pub length: u32,
 }
 
 /// The protection registers. Contracts see the list of the eight entries.
@@ -60,7 +66,7 @@ impl Model for Pmp {
 impl Pmp {
     ghost use Rattle.pmp_regions.specs.Entries.{empty_entry, tor_entry, off_entry, bottom_word};
     ghost use Rattle.pmp_regions.specs.Check.{denied_by_registers, deciding, matches_any, matches_all};
-    ghost use Rattle.pmp_regions.specs.Windows.{Permits, PermitsBetween, Decides, EndBy};
+    ghost use Rattle.pmp_regions.specs.Windows.{Permits, PermitsBetween, Decides, EndBy, end_of};
     ghost use Rattle.tk_base.specs.declared.access.Access.TheVariants.{Fetch, Load, Store};
 
     /// How many entries there are.
@@ -241,28 +247,30 @@ impl Pmp {
         self.search(access, at, width)
     }
 
-    /// The addresses between which every fetch and every load is permitted, the second one above the last of them.
-    /// Elsewhere one may be permitted nevertheless.
+    /// Addresses in which every fetch and every load is permitted. Elsewhere one may be permitted nevertheless.
     #[inline(always)]
-    pub fn executable(&self) -> Range<u64>
-        ensures fetch { PermitsBetween self.now Fetch result.start result.end }
-        ensures load { PermitsBetween self.now Load result.start result.end }
-        ensures order { result.start ≤ result.end }
+    pub fn executable(&self) -> Extent
+        ensures fetch { PermitsBetween self.now Fetch result.from (end_of result) }
+        ensures load { PermitsBetween self.now Load result.from (end_of result) }
+        ensures ends { end_of result ≤ 2 ^ 32 }
     {
-        let from = u64::from(self.executable.from);
-        from..from + self.executable.length
+        Extent {
+            from: self.executable.from,
+            length: self.executable.length,
+        }
     }
 
-    /// The addresses between which every load and every store is permitted, the second one above the last of them.
-    /// Elsewhere one may be permitted nevertheless.
+    /// Addresses in which every load and every store is permitted. Elsewhere one may be permitted nevertheless.
     #[inline(always)]
-    pub fn writable(&self) -> Range<u64>
-        ensures load { PermitsBetween self.now Load result.start result.end }
-        ensures store { PermitsBetween self.now Store result.start result.end }
-        ensures order { result.start ≤ result.end }
+    pub fn writable(&self) -> Extent
+        ensures load { PermitsBetween self.now Load result.from (end_of result) }
+        ensures store { PermitsBetween self.now Store result.from (end_of result) }
+        ensures ends { end_of result ≤ 2 ^ 32 }
     {
-        let from = u64::from(self.writable.from);
-        from..from + self.writable.length
+        Extent {
+            from: self.writable.from,
+            length: self.writable.length,
+        }
     }
 
     /// Whether an access lies in the window where every load and every store is permitted. Where it does
@@ -363,7 +371,7 @@ impl Pmp {
 #[derive(Debug, Drop)]
 struct Window {
     from: Addr,
-    length: u64,
+    length: u32,
 }
 
 impl Model for Window {
@@ -389,7 +397,7 @@ impl Window {
     {
         Window {
             from,
-            length: u64::from(to - from),
+            length: to - from,
         }
     }
 
@@ -409,7 +417,7 @@ impl Window {
     fn holds(&self, at: Addr, width: Width) -> bool
         ensures { result ≡ window_holds self.now at width }
     {
-        u64::from(at.wrapping_sub(self.from)) + u64::from(width.bytes()) <= self.length
+        u64::from(at.wrapping_sub(self.from)) + u64::from(width.bytes()) <= u64::from(self.length)
     }
 }
 

@@ -1,5 +1,5 @@
 -- What an entry tells: the instruction that was decoded, and its length in bytes.
-use Rattle.std.specs.Prelude.{◌≡◌, ℕ, ◌+◌, ◌%◌, Bool, true, false, if◌then◌else◌, Option, None, Some}
+use Rattle.std.specs.Prelude.{◌≡◌, ℕ, ◌+◌, ◌*◌, ◌%◌, ◌^◌, Bool, true, false, if◌then◌else◌, Option, None, Some}
 use Rattle.tk_base.specs.declared.access.Width.TheVariants as widths
 use Rattle.rv32_model.specs.declared.instr.Op.TheVariants as ops
 use Rattle.rv32_model.specs.declared.instr.BranchTest.TheVariants as tests
@@ -10,21 +10,25 @@ use Rattle.rv32_entries.specs.declared.entry.Entry.{Entry}
 use Rattle.rv32_entries.specs.declared.entry.Entry.TheVariants as entries
 use Rattle.rv32_entries.specs.Registers.{index_of, target_index}
 
+-- the offset of so many parcels, modulo 2^32
+abbrev pub offset_of : ℕ → ℕ
+offset_of half = half * 2 % 2 ^ 32
+
 -- the instruction; none where nothing is known
 abbrev pub entry_instr : Entry → Option Instr
 entry_instr entries.Cold = None
 entry_instr (entries.Lui rd imm) = Some (instrs.Lui (target_index rd) imm)
 entry_instr (entries.Auipc rd imm) = Some (instrs.Auipc (target_index rd) imm)
-entry_instr (entries.Jal rd offset) = Some (instrs.Jal (target_index rd) offset)
-entry_instr (entries.J offset) = Some (instrs.Jal 0 offset)
+entry_instr (entries.Jal rd half) = Some (instrs.Jal (target_index rd) (offset_of half))
+entry_instr (entries.J half) = Some (instrs.Jal 0 (offset_of half))
 entry_instr (entries.Jalr rd rs1 offset) = Some (instrs.Jalr (target_index rd) (index_of rs1) offset)
 entry_instr (entries.Jr rs1 offset) = Some (instrs.Jalr 0 (index_of rs1) offset)
-entry_instr (entries.Beq rs1 rs2 offset) = Some (instrs.Branch tests.Beq (index_of rs1) (index_of rs2) offset)
-entry_instr (entries.Bne rs1 rs2 offset) = Some (instrs.Branch tests.Bne (index_of rs1) (index_of rs2) offset)
-entry_instr (entries.Blt rs1 rs2 offset) = Some (instrs.Branch tests.Blt (index_of rs1) (index_of rs2) offset)
-entry_instr (entries.Bge rs1 rs2 offset) = Some (instrs.Branch tests.Bge (index_of rs1) (index_of rs2) offset)
-entry_instr (entries.Bltu rs1 rs2 offset) = Some (instrs.Branch tests.Bltu (index_of rs1) (index_of rs2) offset)
-entry_instr (entries.Bgeu rs1 rs2 offset) = Some (instrs.Branch tests.Bgeu (index_of rs1) (index_of rs2) offset)
+entry_instr (entries.Beq rs1 rs2 half) = Some (instrs.Branch tests.Beq (index_of rs1) (index_of rs2) (offset_of half))
+entry_instr (entries.Bne rs1 rs2 half) = Some (instrs.Branch tests.Bne (index_of rs1) (index_of rs2) (offset_of half))
+entry_instr (entries.Blt rs1 rs2 half) = Some (instrs.Branch tests.Blt (index_of rs1) (index_of rs2) (offset_of half))
+entry_instr (entries.Bge rs1 rs2 half) = Some (instrs.Branch tests.Bge (index_of rs1) (index_of rs2) (offset_of half))
+entry_instr (entries.Bltu rs1 rs2 half) = Some (instrs.Branch tests.Bltu (index_of rs1) (index_of rs2) (offset_of half))
+entry_instr (entries.Bgeu rs1 rs2 half) = Some (instrs.Branch tests.Bgeu (index_of rs1) (index_of rs2) (offset_of half))
 entry_instr (entries.Lb rd rs1 offset) = Some (instrs.Load loads.Lb (target_index rd) (index_of rs1) offset)
 entry_instr (entries.Lh rd rs1 offset) = Some (instrs.Load loads.Lh (target_index rd) (index_of rs1) offset)
 entry_instr (entries.Lw rd rs1 offset) = Some (instrs.Load loads.Lw (target_index rd) (index_of rs1) offset)
@@ -61,23 +65,26 @@ entry_instr (entries.Divu rd rs1 rs2) = Some (instrs.Op ops.Divu (target_index r
 entry_instr (entries.Rem rd rs1 rs2) = Some (instrs.Op ops.Rem (target_index rd) (index_of rs1) (index_of rs2))
 entry_instr (entries.Remu rd rs1 rs2) = Some (instrs.Op ops.Remu (target_index rd) (index_of rs1) (index_of rs2))
 entry_instr entries.Fence = Some instrs.Fence
+entry_instr (entries.Li rd imm) = Some (instrs.OpImm ops.Add (target_index rd) 0 imm)
 entry_instr entries.Nop = Some (instrs.OpImm ops.Add 0 0 0)
 entry_instr entries.Ecall = Some instrs.Ecall
 entry_instr (entries.CLui rd imm) = Some (instrs.Lui (target_index rd) imm)
-entry_instr (entries.CJal rd offset) = Some (instrs.Jal (target_index rd) offset)
-entry_instr (entries.CJ offset) = Some (instrs.Jal 0 offset)
+entry_instr (entries.CJal rd half) = Some (instrs.Jal (target_index rd) (offset_of half))
+entry_instr (entries.CJ half) = Some (instrs.Jal 0 (offset_of half))
 entry_instr (entries.CJalr rd rs1 offset) = Some (instrs.Jalr (target_index rd) (index_of rs1) offset)
 entry_instr (entries.CJr rs1 offset) = Some (instrs.Jalr 0 (index_of rs1) offset)
-entry_instr (entries.CBeq rs1 rs2 offset) = Some (instrs.Branch tests.Beq (index_of rs1) (index_of rs2) offset)
-entry_instr (entries.CBne rs1 rs2 offset) = Some (instrs.Branch tests.Bne (index_of rs1) (index_of rs2) offset)
+entry_instr (entries.CBeqz rs1 half) = Some (instrs.Branch tests.Beq (index_of rs1) 0 (offset_of half))
+entry_instr (entries.CBnez rs1 half) = Some (instrs.Branch tests.Bne (index_of rs1) 0 (offset_of half))
 entry_instr (entries.CLw rd rs1 offset) = Some (instrs.Load loads.Lw (target_index rd) (index_of rs1) offset)
 entry_instr (entries.CSw rs1 rs2 offset) = Some (instrs.Store widths.Word (index_of rs1) (index_of rs2) offset)
 entry_instr entries.CNop = Some (instrs.OpImm ops.Add 0 0 0)
+entry_instr (entries.CLi rd imm) = Some (instrs.OpImm ops.Add (target_index rd) 0 imm)
 entry_instr (entries.CAddi rd rs1 imm) = Some (instrs.OpImm ops.Add (target_index rd) (index_of rs1) imm)
 entry_instr (entries.CAndi rd rs1 imm) = Some (instrs.OpImm ops.And (target_index rd) (index_of rs1) imm)
 entry_instr (entries.CSlli rd rs1 imm) = Some (instrs.OpImm ops.Sll (target_index rd) (index_of rs1) imm)
 entry_instr (entries.CSrli rd rs1 imm) = Some (instrs.OpImm ops.Srl (target_index rd) (index_of rs1) imm)
 entry_instr (entries.CSrai rd rs1 imm) = Some (instrs.OpImm ops.Sra (target_index rd) (index_of rs1) imm)
+entry_instr (entries.CMv rd rs2) = Some (instrs.Op ops.Add (target_index rd) 0 (index_of rs2))
 entry_instr (entries.CAdd rd rs1 rs2) = Some (instrs.Op ops.Add (target_index rd) (index_of rs1) (index_of rs2))
 entry_instr (entries.CSub rd rs1 rs2) = Some (instrs.Op ops.Sub (target_index rd) (index_of rs1) (index_of rs2))
 entry_instr (entries.CXor rd rs1 rs2) = Some (instrs.Op ops.Xor (target_index rd) (index_of rs1) (index_of rs2))
@@ -89,16 +96,16 @@ abbrev pub entry_length : Entry → ℕ
 entry_length entries.Cold = 0
 entry_length (entries.Lui rd imm) = 4
 entry_length (entries.Auipc rd imm) = 4
-entry_length (entries.Jal rd offset) = 4
-entry_length (entries.J offset) = 4
+entry_length (entries.Jal rd half) = 4
+entry_length (entries.J half) = 4
 entry_length (entries.Jalr rd rs1 offset) = 4
 entry_length (entries.Jr rs1 offset) = 4
-entry_length (entries.Beq rs1 rs2 offset) = 4
-entry_length (entries.Bne rs1 rs2 offset) = 4
-entry_length (entries.Blt rs1 rs2 offset) = 4
-entry_length (entries.Bge rs1 rs2 offset) = 4
-entry_length (entries.Bltu rs1 rs2 offset) = 4
-entry_length (entries.Bgeu rs1 rs2 offset) = 4
+entry_length (entries.Beq rs1 rs2 half) = 4
+entry_length (entries.Bne rs1 rs2 half) = 4
+entry_length (entries.Blt rs1 rs2 half) = 4
+entry_length (entries.Bge rs1 rs2 half) = 4
+entry_length (entries.Bltu rs1 rs2 half) = 4
+entry_length (entries.Bgeu rs1 rs2 half) = 4
 entry_length (entries.Lb rd rs1 offset) = 4
 entry_length (entries.Lh rd rs1 offset) = 4
 entry_length (entries.Lw rd rs1 offset) = 4
@@ -135,23 +142,26 @@ entry_length (entries.Divu rd rs1 rs2) = 4
 entry_length (entries.Rem rd rs1 rs2) = 4
 entry_length (entries.Remu rd rs1 rs2) = 4
 entry_length entries.Fence = 4
+entry_length (entries.Li rd imm) = 4
 entry_length entries.Nop = 4
 entry_length entries.Ecall = 4
 entry_length (entries.CLui rd imm) = 2
-entry_length (entries.CJal rd offset) = 2
-entry_length (entries.CJ offset) = 2
+entry_length (entries.CJal rd half) = 2
+entry_length (entries.CJ half) = 2
 entry_length (entries.CJalr rd rs1 offset) = 2
 entry_length (entries.CJr rs1 offset) = 2
-entry_length (entries.CBeq rs1 rs2 offset) = 2
-entry_length (entries.CBne rs1 rs2 offset) = 2
+entry_length (entries.CBeqz rs1 half) = 2
+entry_length (entries.CBnez rs1 half) = 2
 entry_length (entries.CLw rd rs1 offset) = 2
 entry_length (entries.CSw rs1 rs2 offset) = 2
 entry_length entries.CNop = 2
+entry_length (entries.CLi rd imm) = 2
 entry_length (entries.CAddi rd rs1 imm) = 2
 entry_length (entries.CAndi rd rs1 imm) = 2
 entry_length (entries.CSlli rd rs1 imm) = 2
 entry_length (entries.CSrli rd rs1 imm) = 2
 entry_length (entries.CSrai rd rs1 imm) = 2
+entry_length (entries.CMv rd rs2) = 2
 entry_length (entries.CAdd rd rs1 rs2) = 2
 entry_length (entries.CSub rd rs1 rs2) = 2
 entry_length (entries.CXor rd rs1 rs2) = 2

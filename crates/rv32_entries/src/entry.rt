@@ -7,7 +7,9 @@ use crate::register::{Register, Target};
 /// An instruction, and by its variant its length; or nothing known of what stands at a place. No variant groups several
 /// operations or lengths, so that one look tells what to do, and what comes next does not wait for memory to tell it.
 /// Those of two bytes begin with C. None names x0 as a register to set: a jump that keeps no link has a variant of its
-/// own, and so has what does nothing. Offsets and immediates are numbers modulo 2^32, as in [`rv32_model::Instr`].
+/// own, and so has what does nothing. Nor does one name x0 where code often reads it: what sets a register to a number,
+/// what copies one, and what branches by whether one is 0 have their own. Offsets and immediates are numbers modulo
+/// 2^32, as in [`rv32_model::Instr`]; of a jump or branch by an offset it is the half, by so many parcels.
 #[derive(Clone, Copy)]
 pub enum Entry {
     /// Nothing is known: bits that are no instruction, a breakpoint, half an instruction, one that sets x0 and has no
@@ -23,11 +25,11 @@ pub enum Entry {
     },
     Jal {
         rd: Target,
-        offset: u32,
+        half: u32,
     },
     /// A jump that keeps no link.
     J {
-        offset: u32,
+        half: u32,
     },
     Jalr {
         rd: Target,
@@ -42,32 +44,32 @@ pub enum Entry {
     Beq {
         rs1: Register,
         rs2: Register,
-        offset: u32,
+        half: u32,
     },
     Bne {
         rs1: Register,
         rs2: Register,
-        offset: u32,
+        half: u32,
     },
     Blt {
         rs1: Register,
         rs2: Register,
-        offset: u32,
+        half: u32,
     },
     Bge {
         rs1: Register,
         rs2: Register,
-        offset: u32,
+        half: u32,
     },
     Bltu {
         rs1: Register,
         rs2: Register,
-        offset: u32,
+        half: u32,
     },
     Bgeu {
         rs1: Register,
         rs2: Register,
-        offset: u32,
+        half: u32,
     },
     Lb {
         rd: Target,
@@ -245,6 +247,11 @@ pub enum Entry {
         rs2: Register,
     },
     Fence,
+    /// `addi` of x0, which sets a register to a number.
+    Li {
+        rd: Target,
+        imm: u32,
+    },
     /// `addi x0, x0, 0`, which does nothing.
     Nop,
     Ecall,
@@ -254,10 +261,10 @@ pub enum Entry {
     },
     CJal {
         rd: Target,
-        offset: u32,
+        half: u32,
     },
     CJ {
-        offset: u32,
+        half: u32,
     },
     CJalr {
         rd: Target,
@@ -268,15 +275,15 @@ pub enum Entry {
         rs1: Register,
         offset: u32,
     },
-    CBeq {
+    /// A branch where a register is 0.
+    CBeqz {
         rs1: Register,
-        rs2: Register,
-        offset: u32,
+        half: u32,
     },
-    CBne {
+    /// A branch where it is not.
+    CBnez {
         rs1: Register,
-        rs2: Register,
-        offset: u32,
+        half: u32,
     },
     CLw {
         rd: Target,
@@ -289,6 +296,10 @@ pub enum Entry {
         offset: u32,
     },
     CNop,
+    CLi {
+        rd: Target,
+        imm: u32,
+    },
     CAddi {
         rd: Target,
         rs1: Register,
@@ -313,6 +324,11 @@ pub enum Entry {
         rd: Target,
         rs1: Register,
         imm: u32,
+    },
+    /// `add` of x0, which copies a register.
+    CMv {
+        rd: Target,
+        rs2: Register,
     },
     CAdd {
         rd: Target,
@@ -351,12 +367,13 @@ impl Entry {
         match self {
             Entry::Cold => 0,
             Entry::CJal { .. } | Entry::CJ { .. } | Entry::CJalr { .. } | Entry::CJr { .. } => 2,
-            Entry::CBeq { .. } | Entry::CBne { .. } => 2,
+            Entry::CBeqz { .. } | Entry::CBnez { .. } => 2,
             Entry::Jal { .. } | Entry::J { .. } | Entry::Jalr { .. } | Entry::Jr { .. } => 4,
             Entry::Ecall | Entry::CNop => 4,
             Entry::Beq { .. } | Entry::Bne { .. } | Entry::Blt { .. } => 4,
             Entry::Bge { .. } | Entry::Bltu { .. } | Entry::Bgeu { .. } => 4,
             Entry::CLui { .. } | Entry::CLw { .. } | Entry::CSw { .. } => 4,
+            Entry::CLi { .. } | Entry::CMv { .. } => 4,
             Entry::CAddi { .. } | Entry::CAndi { .. } | Entry::CSlli { .. } => 4,
             Entry::CSrli { .. } | Entry::CSrai { .. } | Entry::CAdd { .. } => 4,
             Entry::CSub { .. } | Entry::CXor { .. } | Entry::COr { .. } | Entry::CAnd { .. } => 4,

@@ -1,6 +1,8 @@
 //! The entry of an instruction.
-ghost use Rattle.std.specs.Prelude.{Some};
+ghost use Rattle.std.specs.Prelude.{◌≡◌, ◌%◌, Some};
 ghost use Rattle.rv32_model.specs.declared.instr.Instr.TheVariants as instrs;
+ghost use Rattle.rv32_model.specs.declared.instr.Op.TheVariants as ops;
+ghost use Rattle.rv32_entries.specs.Registers.{index_of, target_index};
 ghost use Rattle.rv32_predecode.specs.Decoded.{IsEntryOf};
 
 use rv32_entries::{Entry, Register, Target};
@@ -26,6 +28,31 @@ impl ToEntry {
         match self.length {
             4 => Entry::Nop,
             2 => Entry::CNop,
+            _ => Entry::Cold,
+        }
+    }
+
+    /// The entry of an addition to x0, which sets a register to a number.
+    fn setting_to(self, rd: Target, imm: u32) -> Entry
+        ensures { IsEntryOf self.length (Some (instrs.OpImm ops.Add (target_index rd) 0 imm)) result }
+    {
+        match self.length {
+            4 => Entry::Li { rd, imm },
+            2 => Entry::CLi { rd, imm },
+            _ => Entry::Cold,
+        }
+    }
+
+    /// The entry of a branch of two bytes, which looks whether a register is 0.
+    fn branch_by_zero(self, test: BranchTest, rs1: Register, offset: u32) -> Entry
+        requires length { self.length ≡ 2 }
+        requires even { offset % 2 ≡ 0 }
+        ensures { IsEntryOf 2 (Some (instrs.Branch test (index_of rs1) 0 offset)) result }
+    {
+        let half = offset / 2;
+        match test {
+            BranchTest::Beq => Entry::CBeqz { rs1, half },
+            BranchTest::Bne => Entry::CBnez { rs1, half },
             _ => Entry::Cold,
         }
     }
@@ -63,10 +90,11 @@ impl InstrVisitor for ToEntry {
         if offset % 2 != 0 {
             return Entry::Cold;
         }
+        let half = offset / 2;
         if rd == 0 {
             return match self.length {
-                4 => Entry::J { offset },
-                2 => Entry::CJ { offset },
+                4 => Entry::J { half },
+                2 => Entry::CJ { half },
                 _ => Entry::Cold,
             };
         }
@@ -74,8 +102,8 @@ impl InstrVisitor for ToEntry {
             return Entry::Cold;
         };
         match self.length {
-            4 => Entry::Jal { rd, offset },
-            2 => Entry::CJal { rd, offset },
+            4 => Entry::Jal { rd, half },
+            2 => Entry::CJal { rd, half },
             _ => Entry::Cold,
         }
     }
@@ -108,22 +136,21 @@ impl InstrVisitor for ToEntry {
         let Some(rs1) = Register::of(rs1) else {
             return Entry::Cold;
         };
+        if self.length == 2 && rs2 == 0 {
+            return self.branch_by_zero(test, rs1, offset);
+        }
+        let half = offset / 2;
         let Some(rs2) = Register::of(rs2) else {
             return Entry::Cold;
         };
         match self.length {
             4 => match test {
-                BranchTest::Beq => Entry::Beq { rs1, rs2, offset },
-                BranchTest::Bne => Entry::Bne { rs1, rs2, offset },
-                BranchTest::Blt => Entry::Blt { rs1, rs2, offset },
-                BranchTest::Bge => Entry::Bge { rs1, rs2, offset },
-                BranchTest::Bltu => Entry::Bltu { rs1, rs2, offset },
-                BranchTest::Bgeu => Entry::Bgeu { rs1, rs2, offset },
-            },
-            2 => match test {
-                BranchTest::Beq => Entry::CBeq { rs1, rs2, offset },
-                BranchTest::Bne => Entry::CBne { rs1, rs2, offset },
-                _ => Entry::Cold,
+                BranchTest::Beq => Entry::Beq { rs1, rs2, half },
+                BranchTest::Bne => Entry::Bne { rs1, rs2, half },
+                BranchTest::Blt => Entry::Blt { rs1, rs2, half },
+                BranchTest::Bge => Entry::Bge { rs1, rs2, half },
+                BranchTest::Bltu => Entry::Bltu { rs1, rs2, half },
+                BranchTest::Bgeu => Entry::Bgeu { rs1, rs2, half },
             },
             _ => Entry::Cold,
         }
@@ -180,6 +207,9 @@ impl InstrVisitor for ToEntry {
         let Some(rd) = Target::of(rd) else {
             return Entry::Cold;
         };
+        if matches!(op, Op::Add) && rs1 == 0 {
+            return self.setting_to(rd, imm);
+        }
         let Some(rs1) = Register::of(rs1) else {
             return Entry::Cold;
         };
@@ -212,12 +242,16 @@ impl InstrVisitor for ToEntry {
         let Some(rd) = Target::of(rd) else {
             return Entry::Cold;
         };
+        let copies = self.length == 2 && matches!(op, Op::Add) && rs1 == 0;
         let Some(rs1) = Register::of(rs1) else {
             return Entry::Cold;
         };
         let Some(rs2) = Register::of(rs2) else {
             return Entry::Cold;
         };
+        if copies {
+            return Entry::CMv { rd, rs2 };
+        }
         match self.length {
             4 => match op {
                 Op::Add => Entry::Add { rd, rs1, rs2 },

@@ -1,5 +1,5 @@
 -- What handing the instruction of an entry over comes to.
-use Rattle.std.specs.Prelude.{◌≡◌, ℕ, true, Option, None, Some, is_some}
+use Rattle.std.specs.Prelude.{◌≡◌, true, Option, None, Some, is_some}
 use Rattle.rv32_model.specs.declared.instr.Instr.{Instr}
 
 -- what handing an instruction over comes to: there is none, and the handler is as it was; or it was handled by one that

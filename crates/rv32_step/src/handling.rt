@@ -3,7 +3,7 @@ ghost use Rattle.std.specs.Prelude.{◌≡◌, Some};
 ghost use Rattle.rv32_entries.specs.Registers.{index_of, target_index};
 ghost use Rattle.rv32_model.specs.declared.instr.Instr.TheVariants as instrs;
 ghost use Rattle.rv32_model.specs.declared.instr.Op.TheVariants as ops;
-ghost use Rattle.rv32_entries.specs.Entries.{entry_instr, entry_length};
+ghost use Rattle.rv32_entries.specs.Entries.{entry_instr, entry_length, offset_of};
 ghost use Rattle.rv32_step.specs.Handling.{HandsOver};
 
 use rv32_entries::{Entry, Register, Target};
@@ -20,6 +20,18 @@ pub trait SizedVisitor: InstrVisitor {
     /// The next instruction has so many bytes.
     fn begin(&mut self, length: u8)
         ensures { self.new ≡ sized self.old length };
+
+    /// As [`InstrVisitor::op_imm`], of an addition to x0: a register is set to a number.
+    fn li(&mut self, rd: u8, imm: u32) -> Self::Answer
+        ensures { Self.handles self.old (Some (instrs.OpImm ops.Add rd 0 imm)) result self.new };
+
+    /// As [`InstrVisitor::op`], of an addition to x0: a register is copied.
+    fn mv(&mut self, rd: u8, rs2: u8) -> Self::Answer
+        ensures { Self.handles self.old (Some (instrs.Op ops.Add rd 0 rs2)) result self.new };
+
+    /// As [`InstrVisitor::branch`], by a test of a register and x0.
+    fn branch_by_zero(&mut self, test: BranchTest, rs1: u8, offset: u32) -> Self::Answer
+        ensures { Self.handles self.old (Some (instrs.Branch test rs1 0 offset)) result self.new };
 }
 
 #[inline(always)]
@@ -41,21 +53,21 @@ fn auipc<H: SizedVisitor>(handler: &mut H, length: u8, rd: Target, imm: u32) -> 
 }
 
 #[inline(always)]
-fn jal<H: SizedVisitor>(handler: &mut H, length: u8, rd: Target, offset: u32) -> Option<H::Answer>
-    ensures { HandsOver (Some (instrs.Jal (target_index rd) offset))
+fn jal<H: SizedVisitor>(handler: &mut H, length: u8, rd: Target, half: u32) -> Option<H::Answer>
+    ensures { HandsOver (Some (instrs.Jal (target_index rd) (offset_of half)))
         H.handles (H.sized handler.old length) result handler.old handler.new }
 {
     handler.begin(length);
-    Some(handler.jal(rd.number(), offset))
+    Some(handler.jal(rd.number(), half.wrapping_mul(2)))
 }
 
 #[inline(always)]
-fn jump<H: SizedVisitor>(handler: &mut H, length: u8, offset: u32) -> Option<H::Answer>
-    ensures { HandsOver (Some (instrs.Jal 0 offset))
+fn jump<H: SizedVisitor>(handler: &mut H, length: u8, half: u32) -> Option<H::Answer>
+    ensures { HandsOver (Some (instrs.Jal 0 (offset_of half)))
         H.handles (H.sized handler.old length) result handler.old handler.new }
 {
     handler.begin(length);
-    Some(handler.jal(0, offset))
+    Some(handler.jal(0, half.wrapping_mul(2)))
 }
 
 #[inline(always)]
@@ -94,13 +106,27 @@ fn branch<H: SizedVisitor>(
     test: BranchTest,
     rs1: Register,
     rs2: Register,
-    offset: u32,
+    half: u32,
 ) -> Option<H::Answer>
-    ensures { HandsOver (Some (instrs.Branch test (index_of rs1) (index_of rs2) offset))
+    ensures { HandsOver (Some (instrs.Branch test (index_of rs1) (index_of rs2) (offset_of half)))
         H.handles (H.sized handler.old length) result handler.old handler.new }
 {
     handler.begin(length);
-    Some(handler.branch(test, rs1.number(), rs2.number(), offset))
+    Some(handler.branch(test, rs1.number(), rs2.number(), half.wrapping_mul(2)))
+}
+
+#[inline(always)]
+fn branch_by_zero<H: SizedVisitor>(
+    handler: &mut H,
+    test: BranchTest,
+    rs1: Register,
+    half: u32,
+) -> Option<H::Answer>
+    ensures { HandsOver (Some (instrs.Branch test (index_of rs1) 0 (offset_of half)))
+        H.handles (H.sized handler.old 2) result handler.old handler.new }
+{
+    handler.begin(2);
+    Some(handler.branch_by_zero(test, rs1.number(), half.wrapping_mul(2)))
 }
 
 #[inline(always)]
@@ -149,6 +175,24 @@ fn op_imm<H: SizedVisitor>(
 {
     handler.begin(length);
     Some(handler.op_imm(op, rd.number(), rs1.number(), imm))
+}
+
+#[inline(always)]
+fn li<H: SizedVisitor>(handler: &mut H, length: u8, rd: Target, imm: u32) -> Option<H::Answer>
+    ensures { HandsOver (Some (instrs.OpImm ops.Add (target_index rd) 0 imm))
+        H.handles (H.sized handler.old length) result handler.old handler.new }
+{
+    handler.begin(length);
+    Some(handler.li(rd.number(), imm))
+}
+
+#[inline(always)]
+fn mv<H: SizedVisitor>(handler: &mut H, rd: Target, rs2: Register) -> Option<H::Answer>
+    ensures { HandsOver (Some (instrs.Op ops.Add (target_index rd) 0 (index_of rs2)))
+        H.handles (H.sized handler.old 2) result handler.old handler.new }
+{
+    handler.begin(2);
+    Some(handler.mv(rd.number(), rs2.number()))
 }
 
 #[inline(always)]
@@ -205,16 +249,16 @@ pub fn handle_entry<H: SizedVisitor>(entry: Entry, handler: &mut H) -> Option<H:
         Entry::Cold => None,
         Entry::Lui { rd, imm } => lui(handler, 4, rd, imm),
         Entry::Auipc { rd, imm } => auipc(handler, 4, rd, imm),
-        Entry::Jal { rd, offset } => jal(handler, 4, rd, offset),
-        Entry::J { offset } => jump(handler, 4, offset),
+        Entry::Jal { rd, half } => jal(handler, 4, rd, half),
+        Entry::J { half } => jump(handler, 4, half),
         Entry::Jalr { rd, rs1, offset } => jalr(handler, 4, rd, rs1, offset),
         Entry::Jr { rs1, offset } => jump_by_register(handler, 4, rs1, offset),
-        Entry::Beq { rs1, rs2, offset } => branch(handler, 4, BranchTest::Beq, rs1, rs2, offset),
-        Entry::Bne { rs1, rs2, offset } => branch(handler, 4, BranchTest::Bne, rs1, rs2, offset),
-        Entry::Blt { rs1, rs2, offset } => branch(handler, 4, BranchTest::Blt, rs1, rs2, offset),
-        Entry::Bge { rs1, rs2, offset } => branch(handler, 4, BranchTest::Bge, rs1, rs2, offset),
-        Entry::Bltu { rs1, rs2, offset } => branch(handler, 4, BranchTest::Bltu, rs1, rs2, offset),
-        Entry::Bgeu { rs1, rs2, offset } => branch(handler, 4, BranchTest::Bgeu, rs1, rs2, offset),
+        Entry::Beq { rs1, rs2, half } => branch(handler, 4, BranchTest::Beq, rs1, rs2, half),
+        Entry::Bne { rs1, rs2, half } => branch(handler, 4, BranchTest::Bne, rs1, rs2, half),
+        Entry::Blt { rs1, rs2, half } => branch(handler, 4, BranchTest::Blt, rs1, rs2, half),
+        Entry::Bge { rs1, rs2, half } => branch(handler, 4, BranchTest::Bge, rs1, rs2, half),
+        Entry::Bltu { rs1, rs2, half } => branch(handler, 4, BranchTest::Bltu, rs1, rs2, half),
+        Entry::Bgeu { rs1, rs2, half } => branch(handler, 4, BranchTest::Bgeu, rs1, rs2, half),
         Entry::Lb { rd, rs1, offset } => load(handler, 4, LoadKind::Lb, rd, rs1, offset),
         Entry::Lh { rd, rs1, offset } => load(handler, 4, LoadKind::Lh, rd, rs1, offset),
         Entry::Lw { rd, rs1, offset } => load(handler, 4, LoadKind::Lw, rd, rs1, offset),
@@ -251,23 +295,26 @@ pub fn handle_entry<H: SizedVisitor>(entry: Entry, handler: &mut H) -> Option<H:
         Entry::Rem { rd, rs1, rs2 } => op(handler, 4, Op::Rem, rd, rs1, rs2),
         Entry::Remu { rd, rs1, rs2 } => op(handler, 4, Op::Remu, rd, rs1, rs2),
         Entry::Fence => fence(handler, 4),
+        Entry::Li { rd, imm } => li(handler, 4, rd, imm),
         Entry::Nop => nop(handler, 4),
         Entry::Ecall => ecall(handler, 4),
         Entry::CLui { rd, imm } => lui(handler, 2, rd, imm),
-        Entry::CJal { rd, offset } => jal(handler, 2, rd, offset),
-        Entry::CJ { offset } => jump(handler, 2, offset),
+        Entry::CJal { rd, half } => jal(handler, 2, rd, half),
+        Entry::CJ { half } => jump(handler, 2, half),
         Entry::CJalr { rd, rs1, offset } => jalr(handler, 2, rd, rs1, offset),
         Entry::CJr { rs1, offset } => jump_by_register(handler, 2, rs1, offset),
-        Entry::CBeq { rs1, rs2, offset } => branch(handler, 2, BranchTest::Beq, rs1, rs2, offset),
-        Entry::CBne { rs1, rs2, offset } => branch(handler, 2, BranchTest::Bne, rs1, rs2, offset),
+        Entry::CBeqz { rs1, half } => branch_by_zero(handler, BranchTest::Beq, rs1, half),
+        Entry::CBnez { rs1, half } => branch_by_zero(handler, BranchTest::Bne, rs1, half),
         Entry::CLw { rd, rs1, offset } => load(handler, 2, LoadKind::Lw, rd, rs1, offset),
         Entry::CSw { rs1, rs2, offset } => store(handler, 2, Width::Word, rs1, rs2, offset),
         Entry::CNop => nop(handler, 2),
+        Entry::CLi { rd, imm } => li(handler, 2, rd, imm),
         Entry::CAddi { rd, rs1, imm } => op_imm(handler, 2, Op::Add, rd, rs1, imm),
         Entry::CAndi { rd, rs1, imm } => op_imm(handler, 2, Op::And, rd, rs1, imm),
         Entry::CSlli { rd, rs1, imm } => op_imm(handler, 2, Op::Sll, rd, rs1, imm),
         Entry::CSrli { rd, rs1, imm } => op_imm(handler, 2, Op::Srl, rd, rs1, imm),
         Entry::CSrai { rd, rs1, imm } => op_imm(handler, 2, Op::Sra, rd, rs1, imm),
+        Entry::CMv { rd, rs2 } => mv(handler, rd, rs2),
         Entry::CAdd { rd, rs1, rs2 } => op(handler, 2, Op::Add, rd, rs1, rs2),
         Entry::CSub { rd, rs1, rs2 } => op(handler, 2, Op::Sub, rd, rs1, rs2),
         Entry::CXor { rd, rs1, rs2 } => op(handler, 2, Op::Xor, rd, rs1, rs2),

@@ -242,4 +242,27 @@ impl<B: Predecoded> SizedVisitor for Near<'_, B> {
     fn begin(&mut self, length: u8) {
         self.length = u32::from(length);
     }
+
+    #[inline(always)]
+    #[tactic(auto, unfolding(rv32_model::specs::UserTurn::executed))]
+    fn li(&mut self, rd: u8, imm: u32) -> Served {
+        self.compute(rd, imm)
+    }
+
+    #[inline(always)]
+    #[tactic(auto, unfolding(rv32_model::specs::UserTurn::executed))]
+    fn mv(&mut self, rd: u8, rs2: u8) -> Served {
+        let value = self.regs.get(rs2);
+        self.compute(rd, value)
+    }
+
+    #[inline(always)]
+    #[tactic(auto, unfolding(rv32_model::specs::UserTurn::executed))]
+    fn branch_by_zero(&mut self, test: BranchTest, rs1: u8, offset: u32) -> Served {
+        if takes(test, self.regs.get(rs1), 0) {
+            return self.hop(offset);
+        }
+        self.go_on();
+        Served::Jumped
+    }
 }

@@ -68,8 +68,9 @@ pub enum Rule {
 /// system call is named as a fetch at its own address.
 #[derive(Clone, Copy, Debug, PartialEq, Eq)]
 pub struct Denial {
-    pub access: Access,
+    // First, so that a denial has eight bytes.
     pub address: Addr,
+    pub access: Access,
     pub rule: Rule,
 }
 

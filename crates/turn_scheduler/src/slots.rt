@@ -1,8 +1,9 @@
 //! Which process has the next turn.
-ghost use Rattle.std.specs.Prelude.{◌≡◌, ◌-◌, ◌≤◌, find};
+ghost use Rattle.std.specs.Prelude.{◌≡◌, ◌-◌, ◌≤◌, find, IfSome, None, Some};
 ghost use Rattle.std.specs.List.{range_with_len};
 ghost use Rattle.tk_base.specs.declared.limits.TheConstants.{SLOT_COUNT};
-ghost use Rattle.turn_scheduler.specs.RoundRobin.{slots_after, used_after};
+ghost use Rattle.tk_base.specs.declared.process.Choice.TheVariants.{Run};
+ghost use Rattle.turn_scheduler.specs.RoundRobin.{choice, ready_device, slots_after, used_after};
 ghost use Rattle.turn_scheduler.specs.Parts.{place_is_ready};
 ghost use Rattle.turn_scheduler.specs.Parts.{goes_on_in};
 
@@ -44,10 +45,13 @@ pub(crate) fn next_in_order<S: Situated>(situated: &S, present: Option<Slot>) ->
 }
 
 /// The present slot, where it has the next turn: it is ready, and has used fewer turns than its
-/// slice.
+/// slice. Where no device step is ready, that turn is the next choice.
 #[inline(always)]
-pub(crate) fn slot_going_on<S: Situated>(situated: &S) -> Option<Slot>
-    ensures { result ≡ goes_on_in (S.situation situated.now) }
+#[tactic(auto, unfolding(crate::specs::RoundRobin::choice, crate::specs::RoundRobin::next_slot))]
+pub fn slot_going_on<S: Situated>(situated: &S) -> Option<Slot>
+    ensures slot { result ≡ goes_on_in (S.situation situated.now) }
+    ensures chosen { IfSome result (λ slot. ready_device (S.situation situated.now).devices ≡ None
+        → choice (S.situation situated.now) ≡ Some (Run slot)) }
 {
     let Present { slot, used, slice } = situated.present();
     let present = slot?;

@@ -20,12 +20,12 @@ use Rattle.board_turns.proofs.machine.Machine.command_driver.Goals.{After-give_r
 
 -- the command
 abbrev order : After-give_reply → Order
-order c = c.in-Some-Some.order
+order c = c.in-Some.order
 
 -- the call is that command
 is_command : (c : After-give_reply)
     → form_of c.args.call.now ≡ Command (order c).driver (order c).number (order c).a2 (order c).a3
-is_command c = form_in (form_of c.args.call.now) (order c) (sym c.of.ensures ∙ c.in-Some-Some.is-0)
+is_command c = form_in (form_of c.args.call.now) (order c) (sym c.of.ensures ∙ c.in-Some.is)
 
 -- who takes it
 taker : (c : After-give_reply) → (t : CommandHandler) × (handler_of (order c).driver ≡ Some t)
@@ -35,10 +35,10 @@ taker c = some_of (handler_of (order c).driver)
     (form_of c.args.call.now) c.requires.left)
 
 -- the id is that of the process
-known : (c : After-give_reply) → c.in-Some-Some.id ≡ id_of c.args.slot (own_of c.args.self.now.home c.args.slot)
+known : (c : After-give_reply) → c.in-Some-id.id ≡ id_of c.args.slot (own_of c.args.self.now.home c.args.slot)
 known c =
-    living_id c.args.slot c.args.slot c.args.self.now.home.owns c.in-Some-Some.id
-    (sym c.id.ensures ∙ c.in-Some-Some.is-1)
+    living_id c.args.slot c.args.slot c.args.self.now.home.owns c.in-Some-id.id
+    (sym c.id.ensures ∙ c.in-Some-id.is)
 
 -- the machine once its driver answered
 abbrev left : After-give_reply → Machine
@@ -48,7 +48,7 @@ left c = record c.args.self.now { home = c.command-reply.new.home; drivers = c.c
 answered : (c : After-give_reply)
     → Came c.args.slot c.args.self.now (left c) (order c) c.command-reply.result (taker c).0
 answered c =
-    came c.args.slot c.args.self.now (left c) (order c) c.command-reply.result (taker c).0 (taker c).1 c.in-Some-Some.id
+    came c.args.slot c.args.self.now (left c) (order c) c.command-reply.result (taker c).0 (taker c).1 c.in-Some-id.id
     c.tick-tick.result (known c) c.tick-tick.ensures c.requires.may c.command-reply.ensures.comes
 
 pub returns-clause-serves : goal.returns-clause-serves
