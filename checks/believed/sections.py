@@ -88,7 +88,7 @@ SECTIONS = [
         "process_model/Permission", "driver_model/Bytes", "rv32_model/Laws"]),
     ("What time partitions promise of it", ["board_partitions", "kernel_partitions"]),
     ("Drivers and devices", ["driver_model", "board_devices", "grant_values"]),
-    ("Runs by round robin, and by windows", ["kernel_model/Run", "turn_scheduler"]),
+    ("Runs by round robin, and by windows", ["kernel_model/Run", "partition_turns", "turn_scheduler"]),
     ("Images and placement", ["tbf_headers", "flash_walk", "app_placement"]),
     ("The script", ["script_text"]),
     ("What the program promises", [

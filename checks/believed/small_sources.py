@@ -193,6 +193,14 @@ class Following(unittest.TestCase):
         under = closure(names, contract_of(names, "top/lib.rt", "keep").starts)
         self.assertIn("idle", names_of(under.definitions))
 
+    def test_names_that_are_passed_on(self):
+        sources = small(top=TOP.replace("base.specs.Sums.{Pair,", "base.specs.Passing.{Pair,"))
+        passing = "-- Sums, passed on.\npub use Rattle.base.specs.Sums.{Pair, double}\n"
+        sources.specs["base", "Passing"] = read_spec("base", "Passing", passing)
+        names = Names(sources)
+        under = closure(names, contract_of(names, "top/lib.rt", "keep").starts)
+        self.assertEqual(names_of(under.definitions), names_of(self.under.definitions))
+
     def test_names_that_are_nowhere(self):
         names = Names(small(top=TOP.replace("double as twice", "treble as twice")))
         with self.assertRaisesRegex(Unread, "Promises of top/Promise: .*treble"):

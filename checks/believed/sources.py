@@ -86,7 +86,7 @@ def head_size(raw):
 
 
 def read_import(spec, line):
-    """A `use` of a spec: of names, or of a file as a whole."""
+    """A `use` of a spec: of names, or of a file as a whole. What is passed on (`pub use`) is found by its name too."""
     names = re.fullmatch(r"use ([\w.]+?)\.\{(.*)\}", line)
     whole = re.fullmatch(r"use ([\w.]+) as (\w+)", line)
     if names:
@@ -106,8 +106,9 @@ def head_of(line):
 
 def read_line(spec, at, line, now):
     """Reads one line that is no comment, within or after a definition, and answers the definition that it is in."""
-    if line.startswith("use "):
-        read_import(spec, line)
+    taken = line.removeprefix("pub ")
+    if taken.startswith("use "):
+        read_import(spec, taken)
         return None
     head = None if line[0].isspace() or line[0] in "})" else head_of(line)
     if head and "mod" in head[0]:

@@ -1,13 +1,15 @@
 -- A slot below which each kept time lies behind the nearest, as the loop over slots finds it: it keeps the nearest time
 -- so far and the first slot that has it (`FindsNearest`), and one slot more is nearer, or is not. So where the nearest
 -- has just come none below that slot is due, and the search may begin there.
-use Rattle.std.proofs.Common.{◌≡◌, ◌≢◌, ℕ, zero, suc, ◌+◌, ◌-◌, ◌<◌, ◌≤◌, ◌==◌, Bool, true, false, List, find, fold}
+use Rattle.std.proofs.Common.{◌≡◌, ◌≢◌, ℕ, zero, suc, ◌+◌, ◌-◌, ◌<◌, ◌≤◌, Bool, true, false, List, find, fold}
 use Rattle.std.proofs.Common.{length}
-use Rattle.std.proofs.Common.{slice_index_or, slice_set, nat_lt, Option, None, Some, refl, sym, ap, subst, ◌∙◌}
+use Rattle.std.proofs.Common.{slice_index_or, slice_set, nat_lt, Option, None, Some, refl, sym, ap, ◌∙◌}
 use Rattle.std.proofs.Common.{arith, eqb-true, eq-eqb}
 use Rattle.std.specs.Prelude.{IfSome, min, nat_eq, not}
 use Rattle.std.specs.Option.{option_eq}
 use Rattle.std.specs.List.{range_with_len}
+use Rattle.std.proofs.Common.{◌⊎◌, inl, inr}
+use Rattle.std.proofs.lemmas.Bool.{cases_eq, cases_lt}
 use Rattle.std.proofs.lemmas.Bool.{false≢true}
 use Rattle.std.proofs.lemmas.Bool.Decides.{nat_tests}
 use Rattle.std.proofs.lemmas.List.{get_or-set_same, get_or-set_other}
@@ -38,11 +40,7 @@ found_same (Some x) = eq-eqb x x refl
 
 -- two that are not found unlike are the same
 pub same_kept : (o other : Option ℕ) → not (option_eq nat_eq o other) ≡ false → o ≡ other
-same_kept o other e = same_option o other (by_test (option_eq nat_eq o other) e)
-  where
-    by_test : (b : Bool) → not b ≡ false → b ≡ true
-    by_test true f = refl
-    by_test false f = cc
+same_kept o other e = same_option o other (grind (arith, nat_tests))
 
 pub unlike : (o other : Option ℕ) → option_eq nat_eq o other ≡ false → o ≢ other
 unlike o other e same =
@@ -119,19 +117,11 @@ if_kept nearest (Some k) = kept_before nearest k
 -- so it is of one slot more
 one_more_before : (times : List (Option ℕ)) (nearest : Option ℕ) (slot : ℕ) → NoneBefore nearest slot times
     → NoneBefore (nearer nearest (slice_index_or times slot None)) (slot + 1) times
-one_more_before times nearest slot so_far other h = by_slot (other == slot) refl
-  where
-    by_slot : (b : Bool) → (other == slot) ≡ b
-        → IfSome (slice_index_or times other None) (NotBefore (nearer nearest (slice_index_or times slot None)))
-    by_slot true e =
-        let same : slot ≡ other = sym (eqb-true other slot e) in
-        subst (λ (n : ℕ). IfSome (slice_index_or times n None) (NotBefore (nearer nearest (slice_index_or times slot
-        None))))
-        same (if_kept nearest (slice_index_or times slot None))
-    by_slot false e =
-        let apart : other ≢ slot = λ same. false≢true (sym e ∙ eq-eqb other slot same) in
-        if_before nearest (slice_index_or times slot None) (slice_index_or times other None)
-        (so_far other (omega (arith, h, apart)))
+one_more_before times nearest slot so_far other h = elim (cases_eq other slot) [
+  | inl same ↦ rw same (if_kept nearest (slice_index_or times slot None))
+  | inr apart ↦ if_before nearest (slice_index_or times slot None) (slice_index_or times other None)
+      (so_far other (omega (arith, h, apart)))
+]
 
 -- those below a slot that has the nearest lie behind it
 nearest_there : (times : List (Option ℕ)) (nearest kept : Option ℕ) (slot : ℕ) → NoneBefore nearest slot times
@@ -147,16 +137,12 @@ nearest_there times (Some n) None slot so_far another = absurd (another refl)
 nearest_there times (Some n) (Some k) slot so_far another =
     λ other h. by_kept (slice_index_or times other None) (so_far other h)
   where
-    least : n ≤ k → min n k ≡ n
-    least e = omega (arith, e)
-
-    less : (b : Bool) → nat_lt k n ≡ b → k < n
-    less true e = is_below k n e
-    less false e = absurd (another (ap Some (least (is_not_below k n e))))
+    less : k < n
+    less = elim (cases_lt k n) [ inl l ↦ l | inr least ↦ absurd (another (ap Some (omega (arith, least)))) ]
 
     by_kept : (o : Option ℕ) → IfSome o (NotBefore (Some n)) → IfSome o (λ at. min n k < at)
     by_kept None e = tt
-    by_kept (Some at) e = omega (arith, e, less (nat_lt k n) refl)
+    by_kept (Some at) e = omega (arith, e, less)
 
 -- one slot more is looked at: it has the nearest so far, or not
 pub found_there : (times : List (Option ℕ)) (nearest next : Option ℕ) (first slot : ℕ)
@@ -165,9 +151,8 @@ pub found_there : (times : List (Option ℕ)) (nearest next : Option ℕ) (first
     → FindsNearest times next slot (slot + 1)
 found_there times nearest next first slot folded is another so_far = record {
   folded = folded;
-  before = subst (λ (o : Option ℕ). NoneBefore o (slot + 1) times) (sym is)
-      (one_more_before times nearest slot so_far.before);
-  behind = subst (λ (o : Option ℕ). AllBehind o slot times) (sym is)
+  before = rw is (one_more_before times nearest slot so_far.before);
+  behind = rw is
       (nearest_there times nearest (slice_index_or times slot None) slot so_far.before (λ e. another (is ∙ e)));
 }
 
@@ -177,9 +162,8 @@ pub found_before : (times : List (Option ℕ)) (nearest next : Option ℕ) (firs
     → FindsNearest times next first (slot + 1)
 found_before times nearest next first slot folded is same so_far = record {
   folded = folded;
-  before = subst (λ (o : Option ℕ). NoneBefore o (slot + 1) times) (sym is)
-      (one_more_before times nearest slot so_far.before);
-  behind = subst (λ (o : Option ℕ). AllBehind o first times) (sym same) so_far.behind;
+  before = rw is (one_more_before times nearest slot so_far.before);
+  behind = rw same so_far.behind;
 }
 
 -- below slot 0 there is none
@@ -196,35 +180,27 @@ still_behind times slot first None (Some d) within another behind = absurd (anot
 still_behind times slot first (Some n) due within another behind =
     by_due due another
   where
-    apart_from : (other : ℕ) → (other == slot) ≡ false → other ≢ slot
-    apart_from other e same = false≢true (sym e ∙ eq-eqb other slot same)
-
-    by_slot : (o : Option ℕ) (at other : ℕ) → IfSome o (λ k. at < k) → (b : Bool) → (other == slot) ≡ b
+    by_slot : (o : Option ℕ) (at other : ℕ) → IfSome o (λ k. at < k)
         → IfSome (slice_index_or times other None) (λ k. at < k)
         → IfSome (slice_index_or (slice_set times slot o) other None) (λ k. at < k)
-    by_slot o at other here true e there =
-        subst (λ (i : ℕ). IfSome (slice_index_or (slice_set times slot o) i None) (λ k. at < k)) (sym (eqb-true other
-        slot e))
-        (subst (λ (x : Option ℕ). IfSome x (λ k. at < k)) (sym (get_or-set_same times slot o None within)) here)
-    by_slot o at other here false e there =
-        subst (λ (x : Option ℕ). IfSome x (λ k. at < k))
-        (sym (get_or-set_other times slot other o None (apart_from other e))) there
+    by_slot o at other here there = elim (cases_eq other slot) [
+      | inl same ↦ rw (same, get_or-set_same times slot o None within) here
+      | inr apart ↦ rw (get_or-set_other times slot other o None apart) there
+    ]
 
     nearer_too : (o : Option ℕ) (at : ℕ) → at ≤ n → IfSome o (λ k. n < k) → IfSome o (λ k. at < k)
     nearer_too None at h e = tt
     nearer_too (Some k) at h e = omega (arith, h, e)
 
-    least : (d : ℕ) → d ≤ n → d ≡ min n d
-    least d e = omega (arith, e)
-
-    later : (d : ℕ) → Some d ≢ nearer (Some n) (Some d) → (b : Bool) → nat_lt n d ≡ b → min n d < d
-    later d ne true e = omega (arith, is_below n d e)
-    later d ne false e = absurd (ne (ap Some (least d (is_not_below n d e))))
+    later : (d : ℕ) → Some d ≢ nearer (Some n) (Some d) → min n d < d
+    later d ne = elim (cases_lt n d) [
+      | inl less ↦ omega (arith, less)
+      | inr least ↦ absurd (ne (ap Some (omega (arith, least))))
+    ]
 
     by_due : (o : Option ℕ) → o ≢ nearer (Some n) o → AllBehind (nearer (Some n) o) first (slice_set times slot o)
-    by_due None ne = λ other h. by_slot None n other tt (other == slot) refl (behind other h)
-    by_due (Some d) ne = λ other h.
-        by_slot (Some d) (min n d) other (later d ne (nat_lt n d) refl) (other == slot) refl
+    by_due None ne = λ other h. by_slot None n other tt (behind other h)
+    by_due (Some d) ne = λ other h. by_slot (Some d) (min n d) other (later d ne)
         (nearer_too (slice_index_or times other None) (min n d) (omega arith) (behind other h))
 
 -- where the nearest has just come, none below the first slot is due
@@ -232,7 +208,7 @@ pub none_due_below : IsDueWhereNoneAreLeft → (now time at first : ℕ) (times 
     → AllTell now time times owns → at ≡ time → AllBehind (Some at) first times → NoneDueBelow first now owns
 none_due_below law now time at first times owns tell is behind = λ slot h.
     sym (not_due_yet law now time slot (slice_index_or times slot None) owns (tell slot)
-    (subst (λ (t : ℕ). IfSome (slice_index_or times slot None) (λ other. t < other)) is (behind slot h)))
+    (rw is at (behind slot h)))
 
 pub none_due_below_0 : (now : ℕ) (owns : List Own) → NoneDueBelow 0 now owns
 none_due_below_0 now owns = λ slot h. absurd (omega (arith, h))
@@ -243,7 +219,7 @@ pub all_passed : (p : ℕ → Bool) (from : ℕ) → ((slot : ℕ) → slot < fr
 all_passed p zero none = refl
 all_passed p (suc from) none =
     ap (λ (n : ℕ). find p (range_with_len n (SLOT_COUNT - n))) (one_more from)
-    ∙ step (nat_lt from SLOT_COUNT) refl ∙ all_passed p from (λ slot h. none slot (omega (arith, h)))
+    ∙ step (cases_lt from SLOT_COUNT) ∙ all_passed p from (λ slot h. none slot (omega (arith, h)))
   where
     one_more : (n : ℕ) → suc n ≡ n + 1
     one_more n = omega arith
@@ -251,11 +227,10 @@ all_passed p (suc from) none =
     no_more : (slot n : ℕ) → n ≡ 0 → find p (range_with_len slot n) ≡ None
     no_more slot n e = rw (e) refl
 
-    step : (b : Bool) → nat_lt from SLOT_COUNT ≡ b
+    step : (from < SLOT_COUNT) ⊎ (SLOT_COUNT ≤ from)
         → find p (range_with_len (from + 1) (SLOT_COUNT - (from + 1))) ≡ find p (range_with_len from (SLOT_COUNT -
         from))
-    step true e = passed p from SLOT_COUNT (is_below from SLOT_COUNT e) (none from (omega arith))
-    step false e =
-        let past : SLOT_COUNT ≤ from = is_not_below from SLOT_COUNT e in
+    step (inl less) = passed p from SLOT_COUNT less (none from (omega arith))
+    step (inr past) =
         no_more (from + 1) (SLOT_COUNT - (from + 1)) (omega (arith, past))
         ∙ sym (no_more from (SLOT_COUNT - from) (omega (arith, past)))

@@ -1,15 +1,15 @@
 -- Kept times, as they are looked for, as time passes, and as processes change: each tells when the alarm of its slot
 -- becomes due (`TellsAlarm`). As time passes fewer ticks are left by as many, so the time stays; a change of one slot
 -- leaves what is told of all others, and to look at that slot again makes it all.
-use Rattle.std.proofs.Common.{◌≡◌, ◌≢◌, ℕ, zero, suc, ◌+◌, ◌-◌, ◌%◌, ◌^◌, ◌<◌, ◌≤◌, ◌==◌, Bool, true, false, cond, List}
+use Rattle.std.proofs.Common.{◌≡◌, ◌≢◌, ℕ, zero, suc, ◌+◌, ◌-◌, ◌%◌, ◌^◌, ◌<◌, Bool, true, false, cond, List}
 use Rattle.std.proofs.Common.{[], ◌∷◌}
 use Rattle.std.proofs.Common.{length, replicate, slice_get, slice_set, slice_index_or, option_and_then, option_map}
 use Rattle.std.proofs.Common.{Option, None}
-use Rattle.std.proofs.Common.{Some, refl, sym, ap, ap₂, subst, ◌∙◌, arith, eqb-true, eq-eqb}
-use Rattle.std.proofs.lemmas.Bool.{false≢true}
+use Rattle.std.proofs.Common.{Some, refl, sym, ap, ap₂, subst, ◌∙◌, arith}
+use Rattle.std.proofs.Common.{inl, inr}
+use Rattle.std.proofs.lemmas.Bool.{cases_Bool, cases_eq}
 use Rattle.std.proofs.lemmas.List.{get_or-set_same, get_or-set_other}
 use Rattle.tk_base.specs.declared.limits.TheConstants.{SLOT_COUNT}
-use Rattle.tk_base.specs.declared.process.ProcessId.{ProcessId}
 use Rattle.grant_values.specs.declared.alarm.Armed.{Armed}
 use Rattle.grant_model.specs.Grants.{Grant, grant_of}
 use Rattle.process_model.specs.Own.{Own}
@@ -26,13 +26,10 @@ left_by now lives alarm = cond lives (option_map (ticks_left now) alarm) None
 -- of a slot in which nobody lives none tells
 pub nobody_tells : (now slot : ℕ) (o : Option Own) → living slot o ≡ None → option_and_then (ticks_left_of now) o ≡ None
 nobody_tells now slot None e = refl
-nobody_tells now slot (Some own) e = by_lives own.lives e
-  where
-    by_lives : (b : Bool) → ◌≡◌ {A = Option ProcessId} (cond b (Some (record { slot = slot; life = own.life }))
-        None) None
-        → cond b (option_map (ticks_left now) (alarm_in own)) None ≡ None
-    by_lives true e = cc
-    by_lives false e = refl
+nobody_tells now slot (Some own) e = elim (cases_Bool own.lives) [
+  | inl lives ↦ let here = rw lives at e in absurd (cc)
+  | inr not ↦ rw not refl
+]
 
 -- and of one that has none armed
 pub unarmed_tells : (now : ℕ) (own : Own) → alarm_in own ≡ None → ticks_left_of now own ≡ None
@@ -62,11 +59,8 @@ ahead_tells now time o own alarm there lives armed reference delta = record {
   armed = armed;
   reference = reference;
   delta = delta;
-  left = back time (ticks_left now alarm);
+  left = omega arith;
 }
-  where
-    back : (n k : ℕ) → k ≡ n + k - n
-    back n k = omega arith
 
 -- what a kept time that lies ahead says is left
 pub left_ahead : (now time at : ℕ) (o : Option Own) → BecomesDue now time at o
@@ -78,11 +72,7 @@ left_ahead now time at o due =
 
 -- fewer than 2^32 ticks are left
 pub soon : (now time at : ℕ) (o : Option Own) → BecomesDue now time at o → at - time < 2 ^ 32
-soon now time at o due = few due.alarm.delta ((now + (2 ^ 32 - due.alarm.reference)) % 2 ^ 32) (at -
-    time) due.left due.delta
-  where
-    few : (d e left : ℕ) → d - e ≡ left → d < 2 ^ 32 → left < 2 ^ 32
-    few d e left is small = omega (arith, is, small)
+soon now time at o due = omega (arith, due.left, due.delta)
 
 none_left_on : (now later : ℕ) (o : Option Own) → option_and_then (ticks_left_of now) o ≡ None
     → option_and_then (ticks_left_of later) o ≡ None
@@ -114,19 +104,9 @@ pub later_tells : TimeBringsNearer → (now time passed : ℕ) (kept : Option �
     → TellsAlarm now time kept o → TellsAlarm ((now + passed) % 2 ^ 32) (time + passed) kept o
 later_tells law now time passed None o small tells = none_left_on now ((now + passed) % 2 ^ 32) o tells
 later_tells law now time passed (Some at) o small tells = λ ahead.
-    let due = tells (before ahead) in
+    let due = tells (omega (arith, ahead)) in
     left_now now time at ((now + passed) % 2 ^ 32) (time + passed) at o due
-    (law now passed due.alarm small due.reference due.delta (within (ticks_left now due.alarm) due.left ahead)
-    ∙ fewer (ticks_left now due.alarm) due.left)
-  where
-    before : time + passed < at → time < at
-    before ahead = omega (arith, ahead)
-
-    within : (left : ℕ) → left ≡ at - time → time + passed < at → passed ≤ left
-    within left is ahead = omega (arith, is, ahead)
-
-    fewer : (left : ℕ) → left ≡ at - time → left - passed ≡ at - (time + passed)
-    fewer left is = omega (arith, is)
+    (law now passed due.alarm small due.reference due.delta (omega (arith, due.left, ahead)) ∙ omega (arith, due.left))
 
 -- what the alarm has of a process
 left_of : ℕ → Bool → List Grant → Option ℕ
@@ -140,7 +120,8 @@ unfolding left_of
 same_tells now time None own o grants lives tells = ap₂ (left_of now) lives grants ∙ tells
 same_tells now time (Some at) own o grants lives tells = λ ahead.
     let due = tells ahead in
-    let same : own ≡ due.own = the_one own due.own due.there in
+    let there = due.there in
+    let same : own ≡ due.own = cc in
     record {
       own = o;
       there = refl;
@@ -152,9 +133,6 @@ same_tells now time (Some at) own o grants lives tells = λ ahead.
       delta = due.delta;
       left = due.left;
     }
-  where
-    the_one : (x y : Own) → Some x ≡ Some y → x ≡ y
-    the_one x y e = cc
 
 -- a slot that is set has what it is set to, and every other has what it had
 set_same : {X : Type 0} (xs : List X) (i : ℕ) (x y : X) → slice_get xs i ≡ Some x → slice_get (slice_set xs i
@@ -174,43 +152,26 @@ set_other (z ∷ zs) (suc i) (suc j) y ne = set_other zs i j y (λ e. ne (ap suc
 pub others_tell : (now time slot : ℕ) (times : List (Option ℕ)) (owns : List Own) (o : Own)
     → AllTell now time times owns → OthersTell slot now time times (slice_set owns slot o)
 others_tell now time slot times owns o tell other ne =
-    subst (TellsAlarm now time (slice_index_or times other None)) (sym (set_other owns slot other o ne)) (tell other)
+    rw (set_other owns slot other o ne) (tell other)
 
 -- where the time of the process in one slot is looked for again, what is told of all is true
 pub noted_tell : (now time slot : ℕ) (times : List (Option ℕ)) (owns : List Own) (kept : Option ℕ) → slot < length times
     → TellsAlarm now time kept (slice_get owns slot) → OthersTell slot now time times owns
     → AllTell now time (slice_set times slot kept) owns
-noted_tell now time slot times owns kept within tells others other = by_slot (other == slot) refl
-  where
-    by_slot : (b : Bool) → (other == slot) ≡ b
-        → TellsAlarm now time (slice_index_or (slice_set times slot kept) other None) (slice_get owns other)
-    by_slot true e =
-        let same : slot ≡ other = sym (eqb-true other slot e) in
-        subst (λ (n : ℕ). TellsAlarm now time (slice_index_or (slice_set times slot kept) n None) (slice_get owns n))
-        same
-        (subst (λ (k : Option ℕ). TellsAlarm now time k (slice_get owns slot))
-        (sym (get_or-set_same times slot kept None within)) tells)
-    by_slot false e =
-        let apart : other ≢ slot = λ same. false≢true (sym e ∙ eq-eqb other slot same) in
-        subst (λ (k : Option ℕ). TellsAlarm now time k (slice_get owns other))
-        (sym (get_or-set_other times slot other kept None apart)) (others other apart)
+noted_tell now time slot times owns kept within tells others other = elim (cases_eq other slot) [
+  | inl same ↦ rw (same, get_or-set_same times slot kept None within) tells
+  | inr apart ↦ rw (get_or-set_other times slot other kept None apart) (others other apart)
+]
 
 -- and of all, where it keeps the same for the alarm
 pub kept_tell : (now time slot : ℕ) (times : List (Option ℕ)) (owns : List Own) (own o : Own)
     → slice_get owns slot ≡ Some own → o.grants ≡ own.grants → o.lives ≡ own.lives → AllTell now time times owns
     → AllTell now time times (slice_set owns slot o)
-kept_tell now time slot times owns own o was grants lives tell other = by_slot (other == slot) refl
-  where
-    by_slot : (b : Bool) → (other == slot) ≡ b
-        → TellsAlarm now time (slice_index_or times other None) (slice_get (slice_set owns slot o) other)
-    by_slot true e =
-        let same : slot ≡ other = sym (eqb-true other slot e) in
-        subst (λ (n : ℕ). TellsAlarm now time (slice_index_or times n None) (slice_get (slice_set owns slot o) n)) same
-        (subst (TellsAlarm now time (slice_index_or times slot None)) (sym (set_same owns slot own o was))
-        (same_tells now time (slice_index_or times slot None) own o grants lives
-        (subst (TellsAlarm now time (slice_index_or times slot None)) was (tell slot))))
-    by_slot false e =
-        others_tell now time slot times owns o tell other (λ same. false≢true (sym e ∙ eq-eqb other slot same))
+kept_tell now time slot times owns own o was grants lives tell other = elim (cases_eq other slot) [
+  | inl same ↦ rw (same, set_same owns slot own o was)
+      (same_tells now time (slice_index_or times slot None) own o grants lives (rw was at (tell slot)))
+  | inr apart ↦ others_tell now time slot times owns o tell other apart
+]
 
 -- as time passes on the clock of a board, what is told of all stays true
 pub all_later : TimeBringsNearer → (start time passed : ℕ) (times : List (Option ℕ)) (owns : List Own)
@@ -219,13 +180,10 @@ pub all_later : TimeBringsNearer → (start time passed : ℕ) (times : List (Op
 all_later law start time passed times owns tell slot =
     let kept = slice_index_or times slot None in
     subst (λ (now : ℕ). TellsAlarm now (time + passed) kept (slice_get owns slot)) (on_the_clock start time passed)
-    (later_tells law (clock_at start time) time passed kept (slice_get owns slot) (below start time) (tell slot))
+    (later_tells law (clock_at start time) time passed kept (slice_get owns slot) (omega arith) (tell slot))
   where
     on_the_clock : (start time passed : ℕ) → (clock_at start time + passed) % 2 ^ 32 ≡ clock_at start (time + passed)
     on_the_clock start time passed = omega arith
-
-    below : (start time : ℕ) → clock_at start time < 2 ^ 32
-    below start time = omega arith
 
 nothing_at : (n slot : ℕ) → ◌≡◌ {A = Option ℕ} (slice_index_or (replicate n None) slot None) None
 nothing_at zero slot = refl

@@ -1,13 +1,14 @@
 -- What the nearest of the kept times says of the next alarm: as long as it lies ahead, the ticks up to it are those
 -- that are left of all alarms, and none is due. Both are folds over the slots that keep the nearer of two, equal by
 -- induction; all lie less than 2^32 ticks ahead, so the clock reckons them alike.
-use Rattle.std.proofs.Common.{◌≡◌, ◌≢◌, ℕ, zero, suc, ◌+◌, ◌-◌, ◌^◌, ◌<◌, ◌≤◌, ◌==◌, List, [], ◌∷◌, fold}
+use Rattle.std.proofs.Common.{◌≡◌, ◌≢◌, ℕ, zero, suc, ◌+◌, ◌-◌, ◌^◌, ◌<◌, ◌≤◌, List, [], ◌∷◌, fold}
 use Rattle.std.proofs.Common.{slice_get, slice_index_or, slice_set, length}
 use Rattle.std.proofs.Common.{replicate, Bool, true, false, cond, IsTrue, Option, None, Some, refl}
-use Rattle.std.proofs.Common.{sym, ap, ◌∙◌, arith, eqb-true, eq-eqb}
+use Rattle.std.proofs.Common.{sym, ap, ◌∙◌, arith}
 use Rattle.std.specs.Prelude.{IfSome, is_some, min}
 use Rattle.std.specs.List.{range_with_len}
-use Rattle.std.proofs.lemmas.Bool.{false≢true}
+use Rattle.std.proofs.Common.{inl, inr}
+use Rattle.std.proofs.lemmas.Bool.{cases_eq}
 use Rattle.std.proofs.lemmas.List.{get_or-set_same, get_or-set_other, set-get_or}
 use Rattle.tk_base.specs.declared.limits.TheConstants.{SLOT_COUNT}
 use Rattle.process_model.specs.Own.{Own}
@@ -64,10 +65,7 @@ nearer_until : (time : ℕ) (least kept : Option ℕ) → nearer (until time lea
     least kept)
 nearer_until time None kept = refl
 nearer_until time (Some x) None = refl
-nearer_until time (Some x) (Some y) = ap Some (earlier x y time)
-  where
-    earlier : (x y time : ℕ) → min (x - time) (y - time) ≡ min x y - time
-    earlier x y time = omega arith
+nearer_until time (Some x) (Some y) = ap Some (omega arith)
 
 module _ (now time : ℕ) (times : List (Option ℕ)) (owns : List Own) (tell : AllTell now time times owns) where
   -- where all times that are kept lie ahead, each says what is left
@@ -170,20 +168,13 @@ nearer_none (Some x) = refl
 
 -- of three times the last two may change places
 nearer_last : (o other last : Option ℕ) → nearer (nearer o other) last ≡ nearer (nearer o last) other
-nearer_last None None None = refl
-nearer_last None None (Some z) = refl
+nearer_last None None last = sym (nearer_none last)
 nearer_last None (Some y) None = refl
-nearer_last None (Some y) (Some z) = ap Some (turned y z)
-  where
-    turned : (y z : ℕ) → min y z ≡ min z y
-    turned y z = omega arith
+nearer_last None (Some y) (Some z) = ap Some (omega arith)
 nearer_last (Some x) None None = refl
 nearer_last (Some x) None (Some z) = refl
 nearer_last (Some x) (Some y) None = refl
-nearer_last (Some x) (Some y) (Some z) = ap Some (turned x y z)
-  where
-    turned : (x y z : ℕ) → min (min x y) z ≡ min (min x z) y
-    turned x y z = omega arith
+nearer_last (Some x) (Some y) (Some z) = ap Some (omega arith)
 
 -- A time that is kept of a slot of which none was: the nearest is then the nearer of it and of the nearest before.
 module _ (times : List (Option ℕ)) (slot : ℕ) (due : Option ℕ) (within : slot < length times)
@@ -213,28 +204,19 @@ module _ (times : List (Option ℕ)) (slot : ℕ) (due : Option ℕ) (within : s
       ≡ nearer (fold (nearer_kept times) so_far (range_with_len from n)) due
   unfolding after
   nearest_among zero from so_far low high = absurd (omega (arith, low, high))
-  nearest_among (suc n) from so_far low high =
-      by_slot (from == slot) refl (λ apart. nearest_among n (from + 1) (nearer so_far (slice_index_or times from None))
-      (omega (arith, low, apart)) (omega (arith, high)))
-    where
-      by_slot : (b : Bool) → (from == slot) ≡ b
-          → (from ≢ slot → fold (nearer_kept after) (nearer so_far (slice_index_or times from None)) (range_with_len
-          (from + 1) n)
-          ≡ nearer (fold (nearer_kept times) (nearer so_far (slice_index_or times from None)) (range_with_len (from +
-          1) n)) due)
-          → fold (nearer_kept after) so_far (range_with_len from (suc n))
-          ≡ nearer (fold (nearer_kept times) so_far (range_with_len from (suc n))) due
-      by_slot true e further =
-          let here : from ≡ slot = eqb-true from slot e in
-          ap (λ (k : Option ℕ). fold (nearer_kept after) (nearer so_far k) (range_with_len (from + 1) n))
-          (ap (λ (i : ℕ). slice_index_or after i None) here ∙ get_or-set_same times slot due None within)
-          ∙ nearest_beyond n (from + 1) so_far (omega (arith, here))
-          ∙ ap (λ (o : Option ℕ). nearer (fold (nearer_kept times) o (range_with_len (from + 1) n)) due)
-          (sym (ap (nearer so_far) (ap (λ (i : ℕ). slice_index_or times i None) here ∙ none) ∙ nearer_none so_far))
-      by_slot false e further =
-          let apart : from ≢ slot = λ same. false≢true (sym e ∙ eq-eqb from slot same) in
-          ap (λ (k : Option ℕ). fold (nearer_kept after) (nearer so_far k) (range_with_len (from + 1) n))
-          (other_kept from apart) ∙ further apart
+  nearest_among (suc n) from so_far low high = elim (cases_eq from slot) [
+    | inl here ↦
+        ap (λ (k : Option ℕ). fold (nearer_kept after) (nearer so_far k) (range_with_len (from + 1) n))
+        (ap (λ (i : ℕ). slice_index_or after i None) here ∙ get_or-set_same times slot due None within)
+        ∙ nearest_beyond n (from + 1) so_far (omega (arith, here))
+        ∙ ap (λ (o : Option ℕ). nearer (fold (nearer_kept times) o (range_with_len (from + 1) n)) due)
+        (sym (ap (nearer so_far) (ap (λ (i : ℕ). slice_index_or times i None) here ∙ none) ∙ nearer_none so_far))
+    | inr apart ↦
+        ap (λ (k : Option ℕ). fold (nearer_kept after) (nearer so_far k) (range_with_len (from + 1) n))
+        (other_kept from apart)
+        ∙ nearest_among n (from + 1) (nearer so_far (slice_index_or times from None)) (omega (arith, low, apart))
+        (omega (arith, high))
+  ]
 
   pub nearest_with : slot < SLOT_COUNT → nearer (nearest_kept times) due ≡ nearest_kept (slice_set times slot due)
   unfolding nearest_kept after

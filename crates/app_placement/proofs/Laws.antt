@@ -1,11 +1,13 @@
 -- What holds of all places, and one step of placing. An application's place begins at or above the end of what is
--- filled (`Follows`), and what is filled then ends no lower (`FilledMore`); so by induction on the applications each
--- block lies in RAM, before all later ones, and the slots are taken in order, no more than there are.
+-- filled (`Follows`), and what is filled then ends no lower (`FilledMore`); so by one induction on the applications
+-- (`places_are`) each block lies in RAM, before all later ones, and the slots are taken in order, no more than there
+-- are.
 use Rattle.std.proofs.Common.{◌≡◌, ℕ, zero, suc, ◌+◌, ◌%◌, ◌<◌, ◌≤◌, Bool, true, false, nat_lt, nat_le, cond, List, []}
 use Rattle.std.proofs.Common.{◌∷◌, length, Option, Some, None, Result, Ok, Err, IfOk, All, AllPairs, take, get_or}
 use Rattle.std.proofs.Common.{is_ok, option_map, refl, sym, ap, ◌∙◌, subst, arith}
 use Rattle.std.specs.List.{count_by}
-use Rattle.std.proofs.lemmas.Bool.{leb-false, ltb-false}
+use Rattle.std.proofs.lemmas.Bool.{cond_both, leb-false, ltb-false}
+use Rattle.std.proofs.lemmas.Result.{IfOk-weaker}
 use Rattle.std.proofs.lemmas.Bool.Decides.{nat_tests}
 use Rattle.std.proofs.lemmas.List.Elements.{All-nil, All-cons, All-weaker}
 use Rattle.std.proofs.lemmas.List.Sums.{sum_by-cons}
@@ -76,20 +78,28 @@ block_end-aligned start minimum h = omega arith
 
 ok_of_cond : (P : Place → Type 0) (b : Bool) (fault : PlaceFault) (r : Result Place PlaceFault) → (b ≡ false → IfOk r P)
     → IfOk (cond b (Err fault) r) P
-ok_of_cond P true fault r h = tt
-ok_of_cond P false fault r h = h refl
+ok_of_cond P b fault r h = cond_both b (Err fault) r (λ r. IfOk r P) (λ e. tt) h
+
+place_by : (partition : Bool) (ram : ℕ) (filled : Filled) (app : Application) (P : Place → Type 0)
+    → (nat_le SLOT_COUNT filled.count ≡ false
+    → is_start_taken partition (room_of partition ram filled).from app.fixed_start ≡ false
+    → nat_lt (room_of partition ram filled).to
+    (block_start (room_of partition ram filled).from app.fixed_start + block_length app.minimum_ram) ≡ false
+    → P (filled.count, extents app (block_start (room_of partition ram filled).from app.fixed_start)))
+    → IfOk (place_of partition ram filled app) P
+unfolding place_of
+place_by partition ram filled app P h =
+    ok_of_cond P (nat_le SLOT_COUNT filled.count) NoSlot _ (λ free.
+    ok_of_cond P (is_start_taken partition (room_of partition ram filled).from app.fixed_start) FixedTaken _ (λ taken.
+    ok_of_cond P _ NoRoom _ (λ fits. h free taken fits)))
 
 place_of-follows : (partition : Bool) (ram : ℕ) (filled : Filled) (app : Application) → IsFilled partition ram filled
     → IfOk (place_of partition ram filled app) (Follows partition ram filled)
-unfolding place_of
 place_of-follows partition ram filled app f =
     let room = room_of partition ram filled in
     let start = block_start room.from app.fixed_start in
     let end = start + block_length app.minimum_ram in
-    let P : Place → Type 0 = Follows partition ram filled in
-    ok_of_cond P (nat_le SLOT_COUNT filled.count) NoSlot _ (λ free.
-    ok_of_cond P (is_start_taken partition room.from app.fixed_start) FixedTaken _ (λ taken.
-    ok_of_cond P (nat_lt room.to end) NoRoom _ (λ fits.
+    place_by partition ram filled app (Follows partition ram filled) (λ free taken fits.
     let few = leb-false SLOT_COUNT filled.count free in
     let r = next_room partition ram filled f (omega (arith, few)) in
     let s = start_not_taken partition room.from app.fixed_start r.aligned taken in
@@ -102,7 +112,7 @@ place_of-follows partition ram filled app f =
       room = omega (arith, last);
       end = omega (arith, last, r.within);
       aligned = block_end-aligned start app.minimum_ram s.1;
-    })))
+    })
 
 -- the next room begins where that of the place ends, or later
 below_after : (partition : Bool) (ram : ℕ) (filled : Filled) (q : Place) → q.1.end ≤ (room_of partition ram filled).to
@@ -144,106 +154,27 @@ abbrev LiesAbove : ℕ → ℕ → ℕ → Placed → Type 0
 LiesAbove ram last_end count p =
     IfOk p.place (λ q. (last_end ≤ q.1.start) × (q.1.end ≤ RAM_START + ram) × (count ≤ q.0))
 
-LiesAbove-first : (partition : Bool) (ram : ℕ) (filled : Filled) (offset : ℕ) (r : Result Place PlaceFault)
-    → IfOk r (Follows partition ram filled)
-    → LiesAbove ram filled.last_end filled.count (record { offset = offset; place = r })
-LiesAbove-first partition ram filled offset (Err fault) h = tt
-LiesAbove-first partition ram filled offset (Ok q) h = (h.start, h.end, omega arith)
-
-LiesAbove-less : (ram end end' count count' : ℕ) (p : Placed) → end ≤ end' → count ≤ count'
-    → LiesAbove ram end' count' p → LiesAbove ram end count p
-LiesAbove-less ram end end' count count' p e k h = above p.place h where
-  above : (r : Result Place PlaceFault)
-      → IfOk r (λ q. (end' ≤ q.1.start) × (q.1.end ≤ RAM_START + ram) × (count' ≤ q.0))
-      → IfOk r (λ q. (end ≤ q.1.start) × (q.1.end ≤ RAM_START + ram) × (count ≤ q.0))
-  above (Err fault) h = tt
-  above (Ok q) h = (omega (arith, h.0), h.1, omega (arith, h.2))
-
-places_from-above : (partition : Bool) (ram : ℕ) (filled : Filled) (apps : List Application)
-    → IsFilled partition ram filled
-    → All (LiesAbove ram filled.last_end filled.count) (places_from partition ram filled apps)
-unfolding places_from
-places_from-above partition ram filled [] f = All-nil _
-places_from-above partition ram filled (app ∷ apps) f =
-    let r = place_of partition ram filled app in
-    let more : FilledMore partition ram filled (filled_after filled r) =
-    filled_after-filled partition ram filled app f in
-    All-cons (LiesAbove ram filled.last_end filled.count) (record { offset = app.offset; place = r })
-    (places_from partition ram (filled_after filled r) apps)
-    (LiesAbove-first partition ram filled app.offset r (place_of-follows partition ram filled app f))
-    (All-weaker (LiesAbove ram (filled_after filled r).last_end (filled_after filled r).count)
-    (LiesAbove ram filled.last_end filled.count)
-    (λ p h. LiesAbove-less ram filled.last_end (filled_after filled r).last_end filled.count
-    (filled_after filled r).count p more.end more.count h)
-    (places_from partition ram (filled_after filled r) apps)
-    (places_from-above partition ram (filled_after filled r) apps more.filled))
-
 -- one that is placed lies before one that lies above what is filled after it
 LiesBefore-above : (partition : Bool) (ram : ℕ) (filled : Filled) (offset : ℕ) (r : Result Place PlaceFault)
     → IfOk r (Follows partition ram filled) → (p : Placed)
     → LiesAbove ram (filled_after filled r).last_end (filled_after filled r).count p
     → LiesBefore (record { offset = offset; place = r }) p
 LiesBefore-above partition ram filled offset (Err fault) h p above = tt
-LiesBefore-above partition ram filled offset (Ok a) h p above = before p.place above where
-  before : (s : Result Place PlaceFault)
-      → IfOk s (λ q. (a.1.end ≤ q.1.start) × (q.1.end ≤ RAM_START + ram) × (filled.count + 1 ≤ q.0))
-      → IfOk s (λ b. (a.0 < b.0) × (a.1.end ≤ b.1.start))
-  before (Err fault) h' = tt
-  before (Ok b) h' = (omega (arith, h.slot, h'.2), h'.0)
-
-places_from-apart : (partition : Bool) (ram : ℕ) (filled : Filled) (apps : List Application)
-    → IsFilled partition ram filled
-    → AllPairs LiesBefore (places_from partition ram filled apps)
-unfolding places_from
-places_from-apart partition ram filled [] f = λ i j d i<j j<n. absurd (omega arith)
-places_from-apart partition ram filled (app ∷ apps) f =
-    let r = place_of partition ram filled app in
-    let more : FilledMore partition ram filled (filled_after filled r) =
-    filled_after-filled partition ram filled app f in
-    let first : Placed = record { offset = app.offset; place = r } in
-    AllPairs-cons LiesBefore first (places_from partition ram (filled_after filled r) apps)
-    (All-weaker (LiesAbove ram (filled_after filled r).last_end (filled_after filled r).count) (LiesBefore first)
-    (λ p h. LiesBefore-above partition ram filled app.offset r (place_of-follows partition ram filled app f) p h)
-    (places_from partition ram (filled_after filled r) apps)
-    (places_from-above partition ram (filled_after filled r) apps more.filled))
-    (places_from-apart partition ram (filled_after filled r) apps more.filled)
+LiesBefore-above partition ram filled offset (Ok a) h p above =
+    IfOk-weaker p.place _ _ (λ b h'. (omega (arith, h.slot, h'.2), h'.0)) above
 
 -- nothing is filled at first
 pub none_filled : (partition : Bool) (ram : ℕ) → IsFilled partition ram (record { last_end = RAM_START; count = 0 })
-none_filled true ram = record {
+none_filled partition ram = record {
   from = omega arith;
   to = omega arith;
   aligned = refl;
   few = omega arith;
-  below = omega arith;
+  below = elim partition as (λ p. RAM_START ≤ (room_of p ram (record { last_end = RAM_START; count = 0 })).from) [
+    | true ↦ omega arith
+    | false ↦ omega arith
+  ];
 }
-none_filled false ram = record {
-  from = omega arith;
-  to = omega arith;
-  aligned = refl;
-  few = omega arith;
-  below = omega arith;
-}
-
-in_ram : (ram : ℕ) (p : Placed) → LiesAbove ram RAM_START 0 p → LiesInRam ram p
-in_ram ram p h = above p.place h where
-  above : (r : Result Place PlaceFault)
-      → IfOk r (λ q. (RAM_START ≤ q.1.start) × (q.1.end ≤ RAM_START + ram) × (0 ≤ q.0))
-      → IfOk r (λ q. (RAM_START ≤ q.1.start) × (q.1.end ≤ RAM_START + ram))
-  above (Err fault) h = tt
-  above (Ok q) h = (h.0, h.1)
-
--- each block lies in RAM
-pub placements-in_ram : (partition : Bool) (ram : ℕ) (apps : List Application)
-    → All (LiesInRam ram) (placements partition ram apps)
-placements-in_ram partition ram apps =
-    All-weaker (LiesAbove ram RAM_START 0) (LiesInRam ram) (λ p h. in_ram ram p h) (placements partition ram apps)
-    (places_from-above partition ram _ apps (none_filled partition ram))
-
--- each block lies apart from the others
-pub placements-apart : (partition : Bool) (ram : ℕ) (apps : List Application)
-    → AllPairs LiesBefore (placements partition ram apps)
-placements-apart partition ram apps = places_from-apart partition ram _ apps (none_filled partition ram)
 
 -- what an application asks for in its object lies in flash
 accessible_in_flash : (flash : List ℕ) (f : Found) (offset from to : ℕ) → length flash ≤ FLASH_LIMIT → IsFound flash f
@@ -257,8 +188,7 @@ accessible_in_flash flash f offset from to short found e a =
         from_object = omega arith;
         within_object = omega arith;
         not_empty = a.not_empty;
-        from_aligned =
-            a.from_aligned;
+        from_aligned = a.from_aligned;
         to_aligned = a.to_aligned;
       },
       omega arith,
@@ -269,35 +199,22 @@ pub place_of-in_flash : (flash : List ℕ) (f : Found) (partition : Bool) (ram :
     → length flash ≤ FLASH_LIMIT → IsFound flash f → app.offset ≡ f.offset
     → IsAccessible f.offset f.size app.flash_from app.flash_to
     → LiesInFlash flash (record { offset = app.offset; place = place_of partition ram filled app })
-unfolding place_of
 place_of-in_flash flash f partition ram filled app short found e a =
-    let lies = accessible_in_flash flash f app.offset app.flash_from app.flash_to short found e a in
-    let P : Place → Type 0 = λ q. IsAccessible app.offset (size_at flash app.offset) q.1.flash_start q.1.flash_end
-    × (app.offset + size_at flash app.offset ≤ length flash) × (q.1.flash_end ≤ RAM_START) in
-    let room = room_of partition ram filled in
-    let start = block_start room.from app.fixed_start in
-    ok_of_cond P (nat_le SLOT_COUNT filled.count) NoSlot _ (λ free.
-    ok_of_cond P (is_start_taken partition room.from app.fixed_start) FixedTaken _ (λ taken.
-    ok_of_cond P (nat_lt room.to (start + block_length app.minimum_ram)) NoRoom
-    (Ok (filled.count, extents app start)) (λ fits. lies)))
+    place_by partition ram filled app (λ q. IsAccessible app.offset (size_at flash app.offset) q.1.flash_start
+    q.1.flash_end × (app.offset + size_at flash app.offset ≤ length flash) × (q.1.flash_end ≤ RAM_START))
+    (λ free taken fits.
+    accessible_in_flash flash f app.offset app.flash_from app.flash_to short found e a)
 
 -- an application's memory is what its header asks for
 pub place_of-laid_out : (flash : List ℕ) (f : Found) (partition : Bool) (ram : ℕ) (filled : Filled) (app : Application)
     → IsFound flash f → app.offset ≡ f.offset → application_of flash f ≡ Some app
     → IsLaidOut flash (record { offset = app.offset; place = place_of partition ram filled app })
-unfolding place_of
 place_of-laid_out flash f partition ram filled app found e h =
-    let asked = asked_of_found flash f app found e h in
-    let P : Place → Type 0 = λ q. option_map (λ (a : Application). extents a q.1.start)
-    (application_in app.offset (header_reading (object_bytes flash app.offset))) ≡ Some q.1 in
-    let room = room_of partition ram filled in
-    let start = block_start room.from app.fixed_start in (
+    let asked = asked_of_found flash f app found e h in (
       asked.0,
-      ok_of_cond P (nat_le SLOT_COUNT filled.count) NoSlot _ (λ free.
-          ok_of_cond P (is_start_taken partition room.from app.fixed_start) FixedTaken _ (λ taken.
-          ok_of_cond P (nat_lt room.to (start + block_length app.minimum_ram)) NoRoom
-          (Ok (filled.count, extents app start)) (λ fits.
-          ap (option_map (λ (a : Application). extents a start)) asked.1))),
+      place_by partition ram filled app (λ q. option_map (λ (a : Application). extents a q.1.start)
+          (application_in app.offset (header_reading (object_bytes flash app.offset))) ≡ Some q.1)
+          (λ free taken fits. rw asked.1 refl),
     )
 
 -- the slots are taken in order from a number on
@@ -319,31 +236,63 @@ AreNumberedFrom-cons n p places h hs (suc k) d lt =
     slot_is (get_or places k d).place (n + cond (is_placed p) 1 0 + count_by is_placed (take k places))
     (n + count_by is_placed (p ∷ take k places)) (sum_of_count n p (take k places)) (hs k d (omega arith))
 
-slot_of_follows : (partition : Bool) (ram : ℕ) (filled : Filled) (r : Result Place PlaceFault)
-    → IfOk r (Follows partition ram filled) → IfOk r (λ q. q.0 ≡ filled.count)
-slot_of_follows partition ram filled (Err fault) h = tt
-slot_of_follows partition ram filled (Ok q) h = h.slot
-
 count-filled_after : (filled : Filled) (r : Result Place PlaceFault)
     → (filled_after filled r).count ≡ filled.count + cond (is_ok r) 1 0
 count-filled_after filled (Err fault) = omega arith
 count-filled_after filled (Ok q) = refl
 
-places_from-numbered : (partition : Bool) (ram : ℕ) (filled : Filled) (apps : List Application)
-    → IsFilled partition ram filled
-    → AreNumberedFrom filled.count (places_from partition ram filled apps)
+-- places from what is filled on, each after those before it
+record AreFrom (ram : ℕ) (filled : Filled) (places : List Placed) : Type 0 where
+  above : All (LiesAbove ram filled.last_end filled.count) places
+  apart : AllPairs LiesBefore places
+  numbered : AreNumberedFrom filled.count places
+  few : filled.count + count_by is_placed places ≤ SLOT_COUNT
+
+places_are : (partition : Bool) (ram : ℕ) (filled : Filled) (apps : List Application) → IsFilled partition ram filled
+    → AreFrom ram filled (places_from partition ram filled apps)
 unfolding places_from
-places_from-numbered partition ram filled [] f = λ k d lt. absurd (omega arith)
-places_from-numbered partition ram filled (app ∷ apps) f =
+places_are partition ram filled [] f = record {
+  above = All-nil _;
+  apart = λ i j d i<j j<n. absurd (omega arith);
+  numbered = λ k d lt. absurd (omega arith);
+  few = omega (arith, f.few);
+}
+places_are partition ram filled (app ∷ apps) f =
     let r = place_of partition ram filled app in
-    let more : FilledMore partition ram filled (filled_after filled r) =
-    filled_after-filled partition ram filled app f in
-    AreNumberedFrom-cons filled.count (record { offset = app.offset; place = r })
-    (places_from partition ram (filled_after filled r) apps)
-    (slot_of_follows partition ram filled r (place_of-follows partition ram filled app f))
-    (subst (λ (n : ℕ). AreNumberedFrom n (places_from partition ram (filled_after filled r) apps))
-    (count-filled_after filled r)
-    (places_from-numbered partition ram (filled_after filled r) apps more.filled))
+    let after = filled_after filled r in
+    let follows = place_of-follows partition ram filled app f in
+    let more = filled_after-more partition ram filled r f follows in
+    let first : Placed = record { offset = app.offset; place = r } in
+    let others = places_from partition ram after apps in
+    let rest = places_are partition ram after apps more.filled in
+    let count = count-filled_after filled r in
+    let sum = sum_of_count filled.count first others in
+    record {
+      above = All-cons (LiesAbove ram filled.last_end filled.count) first others
+          (IfOk-weaker r (Follows partition ram filled) _ (λ q h. (h.start, h.end, omega (arith, h.slot))) follows)
+          (All-weaker (LiesAbove ram after.last_end after.count) (LiesAbove ram filled.last_end filled.count)
+          (λ p h. IfOk-weaker p.place _ _ (λ q at.
+          (omega (arith, at.0, more.end), at.1, omega (arith, at.2, more.count))) h) others rest.above);
+      apart = AllPairs-cons LiesBefore first others
+          (All-weaker (LiesAbove ram after.last_end after.count) (LiesBefore first)
+          (λ p h. LiesBefore-above partition ram filled app.offset r follows p h) others rest.above) rest.apart;
+      numbered = AreNumberedFrom-cons filled.count first others
+          (IfOk-weaker r (Follows partition ram filled) _ (λ q h. h.slot) follows)
+          (subst (λ (n : ℕ). AreNumberedFrom n others) count rest.numbered);
+      few = omega (arith, rest.few, sum, count);
+    }
+
+-- each block lies in RAM
+pub placements-in_ram : (partition : Bool) (ram : ℕ) (apps : List Application)
+    → All (LiesInRam ram) (placements partition ram apps)
+placements-in_ram partition ram apps =
+    All-weaker (LiesAbove ram RAM_START 0) (LiesInRam ram) (λ p h. IfOk-weaker p.place _ _ (λ q at. (at.0, at.1)) h)
+    (placements partition ram apps) (places_are partition ram _ apps (none_filled partition ram)).above
+
+-- each block lies apart from the others
+pub placements-apart : (partition : Bool) (ram : ℕ) (apps : List Application)
+    → AllPairs LiesBefore (placements partition ram apps)
+placements-apart partition ram apps = (places_are partition ram _ apps (none_filled partition ram)).apart
 
 -- the slots are taken in order
 pub placements-numbered : (partition : Bool) (ram : ℕ) (apps : List Application)
@@ -352,25 +301,10 @@ placements-numbered partition ram apps k d lt =
     let places = placements partition ram apps in
     slot_is (get_or places k d).place (0 + count_by is_placed (take k places)) (count_by is_placed (take k places))
     (omega arith)
-    (places_from-numbered partition ram _ apps (none_filled partition ram) k d lt)
-
-places_from-few : (partition : Bool) (ram : ℕ) (filled : Filled) (apps : List Application)
-    → IsFilled partition ram filled
-    → filled.count + count_by is_placed (places_from partition ram filled apps) ≤ SLOT_COUNT
-unfolding places_from
-places_from-few partition ram filled [] f = omega (arith, f.few)
-places_from-few partition ram filled (app ∷ apps) f =
-    let r = place_of partition ram filled app in
-    let more : FilledMore partition ram filled (filled_after filled r) =
-    filled_after-filled partition ram filled app f in
-    let later = places_from-few partition ram (filled_after filled r) apps more.filled in
-    let sum = sum_of_count filled.count (record { offset = app.offset; place = r })
-    (places_from partition ram (filled_after filled r) apps) in
-    let count = count-filled_after filled r in
-    omega (arith, later, sum, count)
+    ((places_are partition ram _ apps (none_filled partition ram)).numbered k d lt)
 
 -- no more are placed than there are slots
 pub placements-few : (partition : Bool) (ram : ℕ) (apps : List Application)
     → count_by is_placed (placements partition ram apps) ≤ SLOT_COUNT
 placements-few partition ram apps =
-    let few = places_from-few partition ram _ apps (none_filled partition ram) in omega (arith, few)
+    omega (arith, (places_are partition ram _ apps (none_filled partition ram)).few)

@@ -7,7 +7,7 @@ use Rattle.tk_base.specs.declared.process.Choice.TheVariants.{Device}
 use Rattle.tk_base.specs.declared.process.Dev.TheVariants as dev
 use Rattle.board_memory.specs.Registers.{Protect}
 use Rattle.tk_base.specs.declared.process.Verb.{Verb}
-use Rattle.script_text.specs.Settings.{Act, EventKind, Input, Press, Release, ScriptEvent}
+use Rattle.script_text.specs.Settings.{Act, EventKind, ScriptEvent}
 use Rattle.board_devices.specs.Arriving.{act_of, first_act, is_time}
 use Rattle.process_model.specs.Own.{Own}
 use Rattle.process_record.specs.Emit.{nothing}
@@ -53,12 +53,10 @@ means_nobody (event ∷ rest) rs none = by_kind event.kind none
         option_map {U = ℕ × Verb} (λ (slot : ℕ). (slot, act.0)) (slot_of_name act.1 rs))
         (act_of kind) ≡ None
         → parts.MeansNobody kind rs
-    by_kind (Input bytes) none = tt
-    by_kind (Press button) none = tt
-    by_kind (Release button) none = tt
     by_kind (Act verb name) none = by_slot verb name (slot_of_name name rs) refl none
+    by_kind kind none = tt
 
-module _ (b : BoardState) (home : Homes) (d : Drivers) (came : Arrives b.machine.home b.machine.drivers home d) where
+module _ (b : BoardState) {home : Homes} {d : Drivers} (came : Arrives b.machine.home b.machine.drivers home d) where
   -- the world after it
   pub world_arrived : is_time b.machine.moment.time b.machine.drivers.arrivals ≡ true
       → act_meant (world_of b) ≡ None → DevicesAnswerOne

@@ -21,9 +21,10 @@ use Rattle.turn_scheduler.specs.Situation.{Situation}
 use Rattle.turn_scheduler.specs.RoundRobin.{LiesAhead, choice, ready_device}
 use Rattle.turn_scheduler.specs.Parts.{place_is_ready}
 use Rattle.turn_scheduler.specs.Parts.{slot_in}
+use Rattle.process_model.specs.Changes.{IsWhole}
 use Rattle.process_model.specs.Handed.{HoldsInPlace}
 use Rattle.process_model.specs.declared.place.Footprint.{Footprint}
-use Rattle.process_model.specs.Own.{Own, kernel_break_of, opened}
+use Rattle.process_model.specs.Own.{Own, opened}
 use Rattle.board_devices.specs.Clock.{clock_at}
 use Rattle.alarm_capsule.specs.Times.{AllTell}
 use Rattle.alarm_capsule.proofs.KeptTimes.{fresh_tell}
@@ -55,65 +56,12 @@ use Rattle.board_drivers.proofs.Records.{beside_get, reads_shown, owns_shown, se
 use Rattle.kernel_calls.proofs.Pairs.{get_or-zip, length-firsts}
 use Rattle.board_turns.specs.Turning.{HasProcess, MayTurn}
 
--- each process has storage
-pub has_storage : (b : BoardState) → IsBoard b → length (residents b) ≤ length b.machine.drivers.stores.slots
-has_storage b board =
-    omega (arith, board.few, board.machine.driven.slots, length-firsts b.processes.items b.machine.home.owns board.owns)
-
--- the own of each process is the one in the home
-shown_own : (b : BoardState) → IsBoard b → (slot : ℕ) (r : Record) → slice_get (world_of b).records slot ≡ Some r
-    → slice_get b.machine.home.owns slot ≡ Some r.own
-shown_own b board slot r is =
-    ap (λ (owns : List Own). slice_get owns slot)
-    (sym (owns_shown b.machine.home.flash b.machine.drivers.buttons.pressed b.processes.items b.machine.home.owns
-    b.machine.drivers.stores.slots board.owns (has_storage b board)))
-    ∙ slice_get-map (λ (x : Record). x.own) (world_of b).records slot ∙ ap (option_map (λ (x : Record). x.own)) is
-
--- what holds of each own in the home holds of that of each process
-pub shown_of_each : (P : Own → Type 0) (b : BoardState) → IsBoard b
-    → ((slot : ℕ) → slot < length b.machine.home.owns → P (own_of b.machine.home slot))
-    → (slot : ℕ) → IfSome (slice_get (world_of b).records slot) (λ (r : Record). P r.own)
-shown_of_each P b board holds slot = by_record (slice_get (world_of b).records slot) refl
-  where
-    by_record : (o : Option Record) → slice_get (world_of b).records slot ≡ o → IfSome o (λ (r : Record). P r.own)
-    by_record None is = tt
-    by_record (Some r) is =
-        let there = shown_own b board slot r is in
-        subst P (get_or_from_slice_get b.machine.home.owns slot r.own nobody there)
-        (holds slot (slice_get_within b.machine.home.owns slot r.own there))
-
--- what is the own of each process is whole, as it is in the home
-pub shown_whole : (b : BoardState) → IsBoard b
-    → ((slot : ℕ) → slot < length b.machine.home.owns → HoldsInPlace (own_of b.machine.home slot))
-    → ((slot : ℕ) → slot < length b.machine.home.owns → IsInPlace (own_of b.machine.home slot)) → AreWhole (world_of b)
-shown_whole b board holds lies slot r is =
-    let there : slice_get b.machine.home.owns slot ≡ Some r.own = shown_own b board slot r is in
-    let within = slice_get_within b.machine.home.owns slot r.own there in
-    let same : own_of b.machine.home slot ≡ r.own = get_or_from_slice_get b.machine.home.owns slot r.own nobody there in
-    record {
-      bytes =
-          subst (λ (o : Own). length o.ram ≡ kernel_break_of o - o.layout.start) same (lies slot within).ram;
-      buffers = subst HoldsInPlace same (holds slot within);
-    }
-
--- which slots can have a turn, whosever window it is
-pub turns_shown : (b : BoardState) → IsBoard b → map may_turn (world_of b).records ≡ map resident_turns (residents b)
-turns_shown b board =
-    reads_shown may_turn resident_turns b.machine.home.flash b.machine.drivers.buttons.pressed (residents b)
-    b.machine.drivers.stores.slots (has_storage b board) (λ p. refl)
-
 -- whether a slot is ready, by the table of those that are
 pub resident_at : (residents : List Resident) (slot : ℕ)
     → can_turn_in (slice_get residents slot) ≡ place_is_ready (map resident_turns residents) slot
 resident_at [] slot = refl
 resident_at (r ∷ rs) zero = refl
 resident_at (r ∷ rs) (suc slot) = resident_at rs slot
-
--- of as many as there are processes
-pub turns_long : (b : BoardState) → IsBoard b → length (map may_turn (world_of b).records) ≡ length b.processes.items
-turns_long b board =
-    ap length (turns_shown b board) ∙ length-map (residents b) resident_turns
-    ∙ length-firsts b.processes.items b.machine.home.owns board.owns
 
 none_flagged : (flags : List Bool) (slot : ℕ) → slice_index_or (map (λ (flag : Bool). false) flags) slot false ≡ false
 none_flagged [] slot = refl
@@ -154,13 +102,156 @@ goes_at : (only : Option ℕ) (flags : List Bool) (slot : ℕ)
 goes_at None flags slot = refl
 goes_at (Some only) flags slot = one_goes_at flags only slot
 
--- whether a slot is ready
-pub slot_shown : (b : BoardState) → IsBoard b → (slot : ℕ) → place_is_ready (ready_slots (world_of b)) slot
-    ≡ (is_let (only_of b.machine.moment) slot && can_turn_in (slice_get (residents b) slot))
-slot_shown b board slot =
-    goes_at (only_in (world_of b)) (map may_turn (world_of b).records) slot
-    ∙ ap (λ (flag : Bool). is_let (only_in (world_of b)) slot && flag)
-    (ap (λ (table : List Bool). place_is_ready table slot) (turns_shown b board) ∙ sym (resident_at (residents b) slot))
+both : (b c : Bool) → (b && c) ≡ true → (b ≡ true) × (c ≡ true)
+both true c e = (refl, e)
+both false c e = cc
+
+module _ {b : BoardState} (board : IsBoard b) where
+  -- each process has storage
+  pub has_storage : length (residents b) ≤ length b.machine.drivers.stores.slots
+  has_storage = omega (
+    arith,
+    board.few,
+    board.machine.driven.slots,
+    length-firsts b.processes.items b.machine.home.owns board.owns,
+  )
+
+  -- the own of each process is the one in the home
+  pub owns_in_world : map (λ (r : Record). r.own) (world_of b).records ≡ b.machine.home.owns
+  owns_in_world =
+      owns_shown b.machine.home.flash b.machine.drivers.buttons.pressed b.processes.items b.machine.home.owns
+      b.machine.drivers.stores.slots board.owns has_storage
+
+  pub own_read : (slot : ℕ)
+      → slice_get b.machine.home.owns slot ≡ option_map (λ (r : Record). r.own) (slice_get (world_of b).records slot)
+  own_read slot =
+      ap (λ (owns : List Own). slice_get owns slot) (sym owns_in_world)
+      ∙ slice_get-map (λ (r : Record). r.own) (world_of b).records slot
+
+  -- what holds of each own in the home holds of that of each process
+  pub shown_of_each : (P : Own → Type 0)
+      → ((slot : ℕ) → slot < length b.machine.home.owns → P (own_of b.machine.home slot))
+      → (slot : ℕ) → IfSome (slice_get (world_of b).records slot) (λ (r : Record). P r.own)
+  shown_of_each P holds slot = by_record (slice_get (world_of b).records slot) refl
+    where
+      by_record : (o : Option Record) → slice_get (world_of b).records slot ≡ o → IfSome o (λ (r : Record). P r.own)
+      by_record None is = tt
+      by_record (Some r) is =
+          let there : slice_get b.machine.home.owns slot ≡ Some r.own =
+          own_read slot ∙ ap (option_map (λ (x : Record). x.own)) is in
+          subst P (get_or_from_slice_get b.machine.home.owns slot r.own nobody there)
+          (holds slot (slice_get_within b.machine.home.owns slot r.own there))
+
+  -- what is the own of each process is whole, as it is in the home
+  pub shown_whole : ((slot : ℕ) → slot < length b.machine.home.owns → HoldsInPlace (own_of b.machine.home slot))
+      → ((slot : ℕ) → slot < length b.machine.home.owns → IsInPlace (own_of b.machine.home slot))
+      → AreWhole (world_of b)
+  shown_whole holds lies slot r is =
+      rw is at (shown_of_each IsWhole (λ slot h. record { bytes = (lies slot h).ram; buffers = holds slot h }) slot)
+
+  -- which slots can have a turn, whosever window it is
+  pub turns_shown : map may_turn (world_of b).records ≡ map resident_turns (residents b)
+  turns_shown =
+      reads_shown may_turn resident_turns b.machine.home.flash b.machine.drivers.buttons.pressed (residents b)
+      b.machine.drivers.stores.slots has_storage (λ p. refl)
+
+  -- of as many as there are processes
+  pub turns_long : length (map may_turn (world_of b).records) ≡ length b.processes.items
+  turns_long = ap length turns_shown ∙ length-map (residents b) resident_turns
+      ∙ length-firsts b.processes.items b.machine.home.owns board.owns
+
+  -- whether a slot is ready
+  pub slot_shown : (slot : ℕ) → place_is_ready (ready_slots (world_of b)) slot
+      ≡ (is_let (only_of b.machine.moment) slot && can_turn_in (slice_get (residents b) slot))
+  slot_shown slot =
+      goes_at (only_in (world_of b)) (map may_turn (world_of b).records) slot
+      ∙ ap (λ (flag : Bool). is_let (only_in (world_of b)) slot && flag)
+      (ap (λ (table : List Bool). place_is_ready table slot) turns_shown ∙ sym (resident_at (residents b) slot))
+
+  -- its summary
+  pub summary_shown : (lines : ArrayVec SlotLine) (unplaced : ArrayVec Unplaced) (leds : ℕ)
+      → lines.items ≡ map (resident_line b.machine.home.flash) (residents b) → unplaced.items ≡ b.unplaced.items
+      → leds ≡ bits_of b.machine.drivers.leds
+      → ◌≡◌ {A = Summary} (record {
+        slots = lines;
+        unplaced = unplaced;
+        leds = leds;
+        led_count = b.machine.moment.settings.leds;
+        steps = b.machine.moment.steps;
+        time = b.machine.moment.time;
+      }) (summary_of (world_of b))
+  unfolding summary_of
+  summary_shown lines unplaced leds e f lit =
+      let s = summary_of (world_of b) in
+      ap (λ (xs : List SlotLine). record s { slots = record { items = xs }; unplaced = unplaced; leds = leds })
+      (e ∙ sym (reads_shown slot_line_of (resident_line b.machine.home.flash) b.machine.home.flash
+      b.machine.drivers.buttons.pressed (residents b) b.machine.drivers.stores.slots has_storage (λ p. refl)))
+      ∙ ap₂ (λ (xs : List Unplaced) (bits : ℕ). record s { unplaced = record { items = xs }; leds = bits }) f lit
+
+  -- whether the process in a slot can have a turn, by the residents
+  pub run_shown : (slot : ℕ)
+      → can_run (slice_get (world_of b).records slot) ≡ can_turn_in (slice_get (residents b) slot)
+  run_shown slot =
+      let slots = b.machine.drivers.stores.slots in
+      ap can_run (slice_get-map (recorded b) (zip (residents b) slots) slot
+      ∙ ap (option_map (recorded b)) (beside_get (residents b) slots slot has_storage))
+      ∙ of_resident (slice_index_or slots slot []) (slice_get (residents b) slot)
+    where
+      of_resident : (storage : List ℕ) (o : Option Resident)
+          → can_run (option_map (recorded b) (option_map (λ (r : Resident). (r, storage)) o)) ≡ can_turn_in o
+      of_resident storage None = refl
+      of_resident storage (Some r) = refl
+
+  -- whether a slot can run, by the residents
+  pub ready_shown : (slot : ℕ) → is_ready (world_of b) (Run slot)
+      ≡ (nat_lt b.machine.moment.steps STEP_LIMIT && can_turn_in (slice_get (residents b) slot))
+  unfolding may_be_made
+  ready_shown slot = ap (λ (c : Bool). nat_lt b.machine.moment.steps STEP_LIMIT && c) (run_shown slot)
+
+  -- below the limit of steps the process decides
+  pub below_limit : (slot : ℕ) → b.machine.moment.steps < STEP_LIMIT
+      → can_turn_in (slice_get (residents b) slot) ≡ is_ready (world_of b) (Run slot)
+  below_limit slot h = sym (ready_shown slot ∙ under (can_turn_in (slice_get (residents b) slot)))
+    where
+      under : (c : Bool) → (nat_lt b.machine.moment.steps STEP_LIMIT && c) ≡ c
+      under c = grind (arith, nat_tests)
+
+  -- a slot that is ready is one of the table's
+  pub ready_within : (slot : ℕ) → is_ready (world_of b) (Run slot) ≡ true
+      → (b.machine.moment.steps < STEP_LIMIT) × (slot < length b.processes.items)
+  ready_within slot e =
+      let t = both (nat_lt b.machine.moment.steps STEP_LIMIT) (can_turn_in (slice_get (residents b) slot))
+      (sym (ready_shown slot) ∙ e) in
+      let within : slot < length (residents b) = resident (slice_get (residents b) slot) refl t.1 in
+      (below t.0, omega (arith, within, length-firsts b.processes.items b.machine.home.owns board.owns))
+    where
+      below : nat_lt b.machine.moment.steps STEP_LIMIT ≡ true → b.machine.moment.steps < STEP_LIMIT
+      below h = grind (arith, nat_tests)
+
+      resident : (o : Option Resident) → slice_get (residents b) slot ≡ o → can_turn_in o ≡ true
+          → slot < length (residents b)
+      resident None f h = cc
+      resident (Some s) f h = slice_get_within (residents b) slot s f
+
+  -- turns of a slot of a board's tables may be made while steps are left, whatever the drivers are
+  pub may_turn_on : (turns : ℕ) (d : Drivers) (slot : ℕ) → slot < length b.processes.items
+      → b.machine.moment.steps + turns ≤ STEP_LIMIT
+      → HasProcess slot b.machine.home b.processes.items (MayTurn turns slot (record b.machine { drivers = d }))
+  may_turn_on turns d slot within limit = record {
+    within = within;
+    owns = board.owns;
+    holds = λ process is. record {
+      slot = within_owns;
+      seated = seated_there b.machine.home.flash b.machine.moment.steps b.processes.items b.machine.home.owns slot
+          (resident b.machine.home slot process) is (slice_get-get_or b.machine.home.owns slot nobody within_owns)
+          board.seated;
+      limit = limit;
+      guard = board.machine.guard;
+    };
+  }
+    where
+      within_owns : slot < length b.machine.home.owns
+      within_owns = omega (arith, within, board.owns)
 
 -- up to when time passes, without time partitions and with them
 pub no_window : (w : World) (n : ℕ) → end_at w.clock.time n ≡ None → passes_to w n ≡ (work_of w).next
@@ -177,31 +268,7 @@ pub status_shown : (b : BoardState) (ready devices : List Bool) (nearest : Optio
     → ready ≡ ready_slots (world_of b) → devices ≡ ready_devices (world_of b) → nearest ≡ next_time (world_of b)
     → ◌≡◌ {A = Situation} (record (situation_of (world_of b)) { ready = ready; devices = devices; next = nearest })
     (situation_of (world_of b))
-status_shown b ready devices nearest e f g =
-    let s = situation_of (world_of b) in
-    ap (λ (xs : List Bool). record s { ready = xs; devices = devices; next = nearest }) e
-    ∙ ap₂ (λ (xs : List Bool) (at : Option ℕ). record s { devices = xs; next = at }) f g
-
--- its summary
-pub summary_shown : (b : BoardState) (lines : ArrayVec SlotLine) (unplaced : ArrayVec Unplaced) (leds : ℕ) → IsBoard b
-    → lines.items ≡ map (resident_line b.machine.home.flash) (residents b) → unplaced.items ≡ b.unplaced.items
-    → leds ≡ bits_of b.machine.drivers.leds
-    → ◌≡◌ {A = Summary} (record {
-      slots = lines;
-      unplaced = unplaced;
-      leds = leds;
-      led_count =
-          b.machine.moment.settings.leds;
-      steps = b.machine.moment.steps;
-      time = b.machine.moment.time;
-    }) (summary_of (world_of b))
-unfolding summary_of
-summary_shown b lines unplaced leds board e f lit =
-    let s = summary_of (world_of b) in
-    ap (λ (xs : List SlotLine). record s { slots = record { items = xs }; unplaced = unplaced; leds = leds })
-    (e ∙ sym (reads_shown slot_line_of (resident_line b.machine.home.flash) b.machine.home.flash
-    b.machine.drivers.buttons.pressed (residents b) b.machine.drivers.stores.slots (has_storage b board) (λ p. refl)))
-    ∙ ap₂ (λ (xs : List Unplaced) (bits : ℕ). record s { unplaced = record { items = xs }; leds = bits }) f lit
+status_shown b ready devices nearest e f g = rw (e, f, g)
 
 -- the line that was made of a slot
 pub line_is : (home : Homes) (ps : List Process) (p : Process) (slot known : ℕ) (flash name : List ℕ) (wait : Wait)
@@ -219,24 +286,7 @@ pub line_is : (home : Homes) (ps : List Process) (p : Process) (slot known : ℕ
     }
     ≡ resident_line home.flash (slice_index_or ps slot p, slice_index_or home.owns slot nobody)
 line_is home ps p slot known flash name wait dropped at named here is waits count =
-    let title : name ≡ name_of (object_in home.flash p.object) =
-    named ∙ ap (λ (f : List ℕ). name_of (object_in f p.object)) here in
-    let waited : wait ≡ (slice_index_or home.owns slot nobody).inbox.wait =
-    waits ∙ ap (λ (k : ℕ). (own_of home k).inbox.wait) is in
-    let counted : dropped ≡ (slice_index_or home.owns slot nobody).inbox.dropped =
-    count ∙ ap (λ (k : ℕ). (own_of home k).inbox.dropped) is in
-    let line = resident_line home.flash (p, slice_index_or home.owns slot nobody) in
-    ap (λ (n : List ℕ). record line { name = record { items = n }; wait = wait; dropped = dropped }) title
-    ∙ ap₂ (λ (v : Wait) (d : ℕ). record line { wait = v; dropped = d }) waited counted
-    ∙ ap (λ (q : Process). resident_line home.flash (q, slice_index_or home.owns slot nobody)) at
-
--- whether the process of a slot can have a turn, by its place
-pub turns_at : (home : Homes) (ps : List Process) (p : Process) (slot known : ℕ) (answer : Bool)
-    → p ≡ slice_index_or ps slot p → answer ≡ resident_turns (p, own_of home known) → known ≡ slot
-    → answer ≡ resident_turns (slice_index_or ps slot p, slice_index_or home.owns slot nobody)
-turns_at home ps p slot known answer at e is =
-    e ∙ ap (λ (k : ℕ). resident_turns (p, own_of home k)) is
-    ∙ ap (λ (q : Process). resident_turns (q, slice_index_or home.owns slot nobody)) at
+    rw (← at, named, here, waits, count, is)
 
 -- one more that is read of each resident
 pub lines_more : {X : Type 0} (f : Resident → X) (ps : List Process) (owns : List Own) (i : ℕ) (d : Process) (line : X)
@@ -259,57 +309,6 @@ pub lines_all : {X : Type 0} (f : Resident → X) (ps : List Process) (owns : Li
     → length owns ≡ length ps → length ps ≤ i → lines ≡ map f (take i (zip ps owns)) → lines ≡ map f (zip ps owns)
 lines_all f ps owns i lines n h so =
     so ∙ ap (map f) (take_all i (zip ps owns) (omega (arith, h, length-firsts ps owns n)))
-
--- whether the process in a slot can have a turn, by the residents
-pub run_shown : (b : BoardState) (slot : ℕ) → IsBoard b
-    → can_run (slice_get (world_of b).records slot) ≡ can_turn_in (slice_get (residents b) slot)
-run_shown b slot board =
-    let slots = b.machine.drivers.stores.slots in
-    ap can_run (slice_get-map (recorded b) (zip (residents b) slots) slot
-    ∙ ap (option_map (recorded b)) (beside_get (residents b) slots slot (has_storage b board)))
-    ∙ of_resident (slice_index_or slots slot []) (slice_get (residents b) slot)
-  where
-    of_resident : (storage : List ℕ) (o : Option Resident)
-        → can_run (option_map (recorded b) (option_map (λ (r : Resident). (r, storage)) o)) ≡ can_turn_in o
-    of_resident storage None = refl
-    of_resident storage (Some r) = refl
-
--- whether a slot can run, by the residents
-pub ready_shown : (b : BoardState) (slot : ℕ) → IsBoard b
-    → is_ready (world_of b) (Run slot)
-    ≡ (nat_lt b.machine.moment.steps STEP_LIMIT && can_turn_in (slice_get (residents b) slot))
-unfolding may_be_made
-ready_shown b slot board =
-    ap (λ (c : Bool). nat_lt b.machine.moment.steps STEP_LIMIT && c) (run_shown b slot board)
-
--- below the limit of steps the process decides
-pub below_limit : (b : BoardState) (slot : ℕ) → IsBoard b → b.machine.moment.steps < STEP_LIMIT
-    → can_turn_in (slice_get (residents b) slot) ≡ is_ready (world_of b) (Run slot)
-below_limit b slot board h = sym (ready_shown b slot board ∙ under (can_turn_in (slice_get (residents b) slot)))
-  where
-    under : (c : Bool) → (nat_lt b.machine.moment.steps STEP_LIMIT && c) ≡ c
-    under c = grind (arith, nat_tests)
-
-both : (b c : Bool) → (b && c) ≡ true → (b ≡ true) × (c ≡ true)
-both true c e = (refl, e)
-both false c e = cc
-
--- a slot that is ready is one of the table's
-pub ready_within : (b : BoardState) (slot : ℕ) → IsBoard b → is_ready (world_of b) (Run slot) ≡ true
-    → (b.machine.moment.steps < STEP_LIMIT) × (slot < length b.processes.items)
-ready_within b slot board e =
-    let t = both (nat_lt b.machine.moment.steps STEP_LIMIT) (can_turn_in (slice_get (residents b) slot))
-    (sym (ready_shown b slot board) ∙ e) in
-    let within : slot < length (residents b) = resident (slice_get (residents b) slot) refl t.1 in
-    (below t.0, omega (arith, within, length-firsts b.processes.items b.machine.home.owns board.owns))
-  where
-    below : nat_lt b.machine.moment.steps STEP_LIMIT ≡ true → b.machine.moment.steps < STEP_LIMIT
-    below h = grind (arith, nat_tests)
-
-    resident : (o : Option Resident) → slice_get (residents b) slot ≡ o → can_turn_in o ≡ true
-        → slot < length (residents b)
-    resident None f h = cc
-    resident (Some s) f h = slice_get_within (residents b) slot s f
 
 -- where it is calm there is no device step that is ready first
 pub none_in_calm : (w : World) → ready_devices w ≡ false ∷ false ∷ false ∷ false ∷ false ∷ false ∷ []
@@ -344,39 +343,14 @@ next_ahead w (Some at) is near law none =
     subst (λ (o : Option ℕ). IfSome o (λ n. w.clock.time < n)) (sym is) (law w none) in
     (later, near)
 
--- turns of a slot of a board's tables may be made while steps are left, whatever the drivers are
-pub may_turn_on : (turns : ℕ) (b : BoardState) (d : Drivers) (slot : ℕ) → IsBoard b → slot < length b.processes.items
-    → b.machine.moment.steps + turns ≤ STEP_LIMIT
-    → HasProcess slot b.machine.home b.processes.items (MayTurn turns slot (record b.machine { drivers = d }))
-may_turn_on turns b d slot board within limit = record {
-  within = within;
-  owns = board.owns;
-  holds = λ process is. record {
-    slot = within_owns;
-    seated = seated_there b.machine.home.flash b.machine.moment.steps b.processes.items b.machine.home.owns slot
-        (resident b.machine.home slot process) is (slice_get-get_or b.machine.home.owns slot nobody within_owns)
-        board.seated;
-    limit = limit;
-    guard = board.machine.guard;
-  };
-}
-  where
-    within_owns : slot < length b.machine.home.owns
-    within_owns = omega (arith, within, board.owns)
-
 -- no process has an alarm armed before the first step, and none is kept
 pub first_tell : (start : ℕ) (times : List (Option ℕ)) (home : Homes) (es : List Footprint)
     → home.owns ≡ map opened es → times ≡ replicate SLOT_COUNT None → AllTell (clock_at start 0) 0 times home.owns
 first_tell start times home es owns none =
-    subst (λ (xs : List (Option ℕ)). AllTell (clock_at start 0) 0 xs home.owns) (sym none)
-    (subst (AllTell (clock_at start 0) 0 (replicate SLOT_COUNT None)) (sym owns)
-    (fresh_tell (clock_at start 0) 0 (map opened es) (ungranted es)))
+    rw (none, owns) (fresh_tell (clock_at start 0) 0 (map opened es) (ungranted es))
   where
-    the_one : (x y : Own) → Some x ≡ Some y → x ≡ y
-    the_one x y e = cc
-
     ungranted : (es : List Footprint) (slot : ℕ) (own : Own) → slice_get (map opened es) slot ≡ Some own
         → own.grants ≡ []
     ungranted [] slot own is = cc
-    ungranted (e ∷ es) zero own is = ap (λ (o : Own). o.grants) (sym (the_one (opened e) own is))
+    ungranted (e ∷ es) zero own is = cc
     ungranted (e ∷ es) (suc slot) own is = ungranted es slot own is

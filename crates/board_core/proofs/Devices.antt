@@ -5,7 +5,7 @@ use Rattle.board_devices.specs.Buttons.{ButtonsView}
 use Rattle.board_devices.specs.Clock.{clock_at}
 use Rattle.alarm_capsule.proofs.KeptTimes.{others_tell}
 use Rattle.alarm_capsule.specs.Times.{OthersTell}
-use Rattle.std.proofs.Common.{◌≡◌, ℕ, zero, suc, ◌+◌, ◌==◌, ◌<◌, ◌≤◌, Bool, true, false, cond, not, ◌&&◌, ◌||◌, Option}
+use Rattle.std.proofs.Common.{◌≡◌, ℕ, zero, suc, ◌+◌, ◌==◌, ◌<◌, Bool, true, false, cond, not, ◌&&◌, ◌||◌, Option}
 use Rattle.std.proofs.Common.{nat_lt}
 use Rattle.std.proofs.Common.{if◌then◌else◌, List, [], ◌∷◌, ◌++◌, length, map, slice_get, slice_set, slice_index_or}
 use Rattle.std.proofs.Common.{All, None, Some, Ok, Err, IsTrue, refl, sym, ap, ap₂, subst, ◌∙◌, arith, eq-eqb}
@@ -13,9 +13,9 @@ use Rattle.std.specs.List.{zip}
 use Rattle.std.proofs.lemmas.Bool.{false≢true}
 use Rattle.std.proofs.lemmas.Bool.Decides.{nat_tests}
 use Rattle.std.proofs.lemmas.List.{append-nil, length-set, set-get_or}
-use Rattle.std.proofs.lemmas.List.Elements.{All-head, All-set, All-weaker}
+use Rattle.std.proofs.lemmas.List.Elements.{All-head, All-set}
 use Rattle.std.proofs.Math.Seq.{map-set_same}
-use Rattle.std.proofs.lemmas.Option.{slice_get-get_or, slice_get_within, get_or_from_slice_get}
+use Rattle.std.proofs.lemmas.Option.{slice_get-get_or, get_or_from_slice_get}
 use Rattle.tk_base.specs.declared.limits.TheConstants.{STEP_LIMIT}
 use Rattle.tk_base.specs.declared.process.Choice.{Choice}
 use Rattle.tk_base.specs.declared.process.Choice.TheVariants.{Device}
@@ -34,7 +34,7 @@ use Rattle.driver_requests.specs.Waiting.{waiting_still, without}
 use Rattle.grant_enter.specs.Homes.{Homes, ChangesOnly, nobody, own_of}
 use Rattle.kernel_model.specs.Record.{Record}
 use Rattle.tk_base.specs.declared.process.Verb.{Verb}
-use Rattle.kernel_model.specs.Turn.{Act, Alarmed, Edge, Event, Input, NoWord, Stored, Taken, Turn, Word, WriteDone}
+use Rattle.kernel_model.specs.Turn.{Act, Event}
 use Rattle.kernel_model.specs.Turn.{is_act, is_turn}
 use Rattle.kernel_model.specs.World.{Answer, Label, Stepped, World, answer_label, can_act, carried_out, done}
 use Rattle.kernel_model.specs.World.{device_step_of, is_ready, may_be_made}
@@ -48,20 +48,21 @@ use Rattle.board_turns.specs.declared.guard.ActivePmp.{ActivePmp}
 use Rattle.board_drivers.specs.Calm.{AlarmsTell, IsCalm}
 use Rattle.board_drivers.specs.Driven.{AreDriven, IsQueueOf, devices_of, ids_waiting_in}
 use Rattle.board_turns.specs.Guards.{GuardsOnly}
-use Rattle.board_core.specs.Makes.{MakesStep, shown_printed}
-use Rattle.kernel_calls.specs.Residents.{HasLost, IsResident, record_of}
+use Rattle.board_core.specs.Makes.{MakesStep, showing, shown_printed}
+use Rattle.kernel_calls.specs.Residents.{IsResident, record_of}
 use Rattle.board_turns.specs.Turning.{ChangesSlot}
-use Rattle.board_core.specs.Shows.{IsBoard, recorded, world_of, residents}
+use Rattle.board_core.specs.Shows.{IsBoard, recorded, world_of}
 use Rattle.board_drivers.specs.Tells.{DeviceTold, is_alarm, tells_one}
 use Rattle.kernel_alarms.specs.Acting.{AnswersLeaveAlarms, HasSameAlarm}
 use Rattle.board_core.proofs.SameAlarms.{same_alarms_tell}
 use Rattle.board_turns.specs.ReadySlots.{TurnsTell}
 use Rattle.board_drivers.proofs.Lines.{line_after}
-use Rattle.board_core.proofs.Changes.{a_step_later, as_many_owns, changed_records, found}
-use Rattle.board_drivers.proofs.Records.{beside, bytes_of}
+use Rattle.board_core.proofs.Boards.{and_false, has_storage}
+use Rattle.board_core.proofs.Changes.{a_step_later, as_many_owns, changed_records, found, lost_before, still_lost}
+use Rattle.board_drivers.proofs.Records.{bytes_of}
 use Rattle.board_core.proofs.Changes.{still_seated, with_step}
 use Rattle.board_core.proofs.Ready.{is_carried_out}
-use Rattle.board_drivers.proofs.Records.{lost_there, seated_there}
+use Rattle.board_drivers.proofs.Records.{seated_there}
 use Rattle.board_core.specs.PartsOf.{board_parts}
 
 -- each slot's layout stays, so whom the registers protect they protect still
@@ -89,31 +90,11 @@ still_guards guard home home_after slot only same guards = record {
     layout_of s = in_place home_after s ∙ ap (λ (es : List Bounds). slice_index_or es s nobody.layout) layouts
         ∙ sym (in_place home s)
 
-pub lost_where : (steps : ℕ) (owns : List Own) (slot : ℕ) (own : Own) → slice_get owns slot ≡ Some own
-    → All (HasLost steps) owns → own.inbox.dropped ≤ steps
-lost_where steps owns slot own was lost =
-    subst (HasLost steps) (get_or_from_slice_get owns slot own own was)
-    (lost slot own (slice_get_within owns slot own was))
-
--- each process lost at most as many upcalls more as steps were made, so one more in a step
-pub still_lost_on : (steps more slot : ℕ) (home home_after : Homes) (own : Own)
-    → home_after ≡ record home { owns = slice_set home.owns slot own } → own.inbox.dropped ≤ steps + more
-    → All (HasLost steps) home.owns → All (HasLost (steps + more)) home_after.owns
-still_lost_on steps more slot home home_after own only few lost =
-    subst (λ (h : Homes). All (HasLost (steps + more)) h.owns) (sym only)
-    (All-set (HasLost (steps + more)) home.owns slot own few
-    (All-weaker (HasLost steps) (HasLost (steps + more)) (λ o h. omega (arith, h)) home.owns lost))
-
-pub still_lost : (steps slot : ℕ) (home home_after : Homes) (own : Own)
-    → home_after ≡ record home { owns = slice_set home.owns slot own } → own.inbox.dropped ≤ steps + 1
-    → All (HasLost steps) home.owns → All (HasLost (steps + 1)) home_after.owns
-still_lost steps slot home home_after own only few lost = still_lost_on steps 1 slot home home_after own only few lost
-
 -- a device that may act is ready, below the limit of steps
 pub may_act : (w : World) (device : Dev) → w.clock.steps < STEP_LIMIT → can_act w device ≡ true
     → IsTrue (is_ready w (Device device))
 unfolding may_be_made
-may_act w device below e = subst (λ (c : Bool). IsTrue (nat_lt w.clock.steps STEP_LIMIT && c)) (sym e) under
+may_act w device below e = rw e under
   where
     under : IsTrue (nat_lt w.clock.steps STEP_LIMIT && true)
     under = grind (arith, nat_tests)
@@ -132,21 +113,12 @@ printed_shown slot a is =
     shows act bytes = record nothing { slot = Some slot; act = act; printed = record { items = bytes } }
 
     shown_so : (turn act some : Bool) → (turn || act) ≡ false → (turn || (act || some)) ≡ some
-    shown_so true act some e = absurd (false≢true (sym e))
-    shown_so false true some e = absurd (false≢true (sym e))
     shown_so false false some e = refl
+    shown_so turn act some e = absurd (false≢true (sym e))
 
     no_act : (event : Event) → IsAnswer event → act_shown slot event ≡ None
-    no_act (Turn time) e = refl
-    no_act (Alarmed now) e = refl
-    no_act (Edge button pressed) e = refl
-    no_act Taken e = refl
-    no_act WriteDone e = refl
-    no_act (Input bytes) e = refl
-    no_act (Word word) e = refl
-    no_act NoWord e = refl
-    no_act (Stored moved) e = refl
     no_act (Act verb) e = absurd (false≢true (sym e))
+    no_act event e = refl
 
     by_length : (none : Bool) → (length a.printed == 0) ≡ none
         → record nothing { slot = if none then None else Some slot; printed = record { items = a.printed } }
@@ -161,30 +133,28 @@ left_line : (queue : QueueName) (left : Bool) (ids ids' : List ProcessId) (owns 
     → ids' ≡ waiting_still left slot ids
     → IsQueueOf queue ids' (slice_set owns slot o)
 left_line queue true ids ids' owns slot own o line was waits life e =
-    subst (λ (xs : List ProcessId). IsQueueOf queue xs (slice_set owns slot o))
-    (ap (λ (b : Bool). cond b (without slot ids) ids) same ∙ sym e)
+    rw (e, ← ap (λ (b : Bool). cond b (without slot ids) ids) same)
     (line_after queue ids owns slot own o (Leaves queue ∷ []) line was
     (waits ∙ sym (ap (λ (b : Bool). cond b false (has_waiting queue own)) same)) (λ w. life))
   where
     same : is_same queue queue ≡ true
     same = eq-eqb (order_of queue) (order_of queue) refl
 left_line queue false ids ids' owns slot own o line was waits life e =
-    subst (λ (xs : List ProcessId). IsQueueOf queue xs (slice_set owns slot o)) (sym e)
-    (line_after queue ids owns slot own o [] line was waits (λ w. life))
+    rw e (line_after queue ids owns slot own o [] line was waits (λ w. life))
 
 -- a process that remains is seated a step later
 remains_seated : (flash : List ℕ) (steps : ℕ) (process : Process) (own o : Own) → Remains own o
     → IsResident flash steps (process, own) → IsResident flash (steps + 1) (process, o)
 remains_seated flash steps process own o rest s =
-    subst (λ (x : Own). IsResident flash (steps + 1) (process, x)) (sym rest) (record {
+    rw rest (record {
       own = record { object = s.own.object; object_is = s.own.object_is; lives = s.own.lives };
       turns = omega (arith, s.turns);
       restarts = omega (arith, s.restarts);
       life = omega (arith, s.life);
     })
 
-module _ (b : BoardState) (device : Dev) (slot : ℕ) (printed : List ℕ) (home : Homes) (d : Drivers)
-    (t : DeviceTold (board_parts b) device slot printed home d) (h : IsBoard b) where
+module _ {b : BoardState} (h : IsBoard b) {device : Dev} {slot : ℕ} {printed : List ℕ} {home : Homes} {d : Drivers}
+    (t : DeviceTold (board_parts b) device slot printed home d) where
   own_was : slice_get b.machine.home.owns slot ≡ Some (own_of b.machine.home slot)
   own_was = slice_get-get_or b.machine.home.owns slot nobody t.there
 
@@ -202,14 +172,11 @@ module _ (b : BoardState) (device : Dev) (slot : ℕ) (printed : List ℕ) (home
       same : (ps : List Process) (i : ℕ) (p : Process) → slice_get ps i ≡ Some p → slice_set ps i p ≡ ps
       same ps i p was = ap (slice_set ps i) (sym (get_or_from_slice_get ps i p p was)) ∙ set-get_or ps i p
 
-  few : length (residents b) ≤ length b.machine.drivers.stores.slots
-  few = beside b.processes.items b.machine.home.owns b.machine.drivers.stores.slots h.owns h.few h.machine.driven.slots
-
   told_found : slice_get (world_of b).records slot
       ≡ Some (recorded b ((t.process, own_of b.machine.home slot), bytes_of b.machine.drivers.stores.slots slot))
   unfolding told_at
-  told_found = found slot b.machine.home home b.processes.items b.processes.items told_at
-      b.machine.drivers.buttons.pressed b.machine.drivers.stores.slots few
+  told_found = found told_at
+      b.machine.drivers.buttons.pressed b.machine.drivers.stores.slots (has_storage h)
 
   -- its process alone was answered
   answered_so : DevicesAnswerOne → done (world_of b) (device_step_of (world_of b) device)
@@ -232,12 +199,8 @@ module _ (b : BoardState) (device : Dev) (slot : ℕ) (printed : List ℕ) (home
       let pressed = b.machine.drivers.buttons.pressed in
       let changed : map (record_of home.flash d.buttons.pressed) (zip (zip b.processes.items home.owns) d.stores.slots)
       ≡ slice_set w.records slot (recorded b ((t.process, own_of home slot), t.serves.bytes)) =
-      ap (λ (s : ButtonsView). map (record_of home.flash s.pressed)
-      (zip (zip b.processes.items home.owns) d.stores.slots)) t.serves.buttons
-      ∙ ap (λ (s : List (List ℕ)). map (record_of home.flash pressed) (zip (zip b.processes.items home.owns) s))
-      t.serves.stores.slots
-      ∙ changed_records slot b.machine.home home b.processes.items b.processes.items told_at pressed
-      b.machine.drivers.stores.slots t.serves.bytes in
+      rw (t.serves.buttons, t.serves.stores.slots) (changed_records told_at pressed
+      b.machine.drivers.stores.slots t.serves.bytes) in
       ap (λ (rs : List Record). with_step b rs (devices_of d) (a_step_later b.machine.moment) b.present.slot
       b.present.used)
       (changed ∙ ap (slice_set w.records slot) (sym t.serves.tells))
@@ -281,42 +244,36 @@ module _ (b : BoardState) (device : Dev) (slot : ℕ) (printed : List ℕ) (home
       (t.serves.lines queue)
 
   told_driven : AreDriven b.machine.moment.settings b.machine.moment.time home.owns d
-  told_driven = subst (λ (owns : List Own). AreDriven b.machine.moment.settings b.machine.moment.time owns d)
-      (sym told_owns) (record {
-        queues = told_line;
-        within = All-set (IsWithin b.machine.moment.settings.storage) b.machine.home.owns slot (own_of home slot)
-            (t.serves.follows.within b.machine.moment.settings.storage (h.machine.driven.within slot nobody t.there))
-            h.machine.driven.within;
-        leds = t.serves.leds ∙ h.machine.driven.leds;
-        buttons = ap (λ (s : ButtonsView). s.count) t.serves.buttons ∙ h.machine.driven.buttons;
-        size = t.serves.stores.size ∙ h.machine.driven.size;
-        slots = ap length t.serves.stores.slots ∙ length-set b.machine.drivers.stores.slots slot t.serves.bytes
-            ∙ h.machine.driven.slots;
-        ticks = t.serves.lines_ready.ticks;
-        free = t.serves.lines_ready.free;
-      })
+  told_driven = rw told_owns (record {
+    queues = told_line;
+    within = All-set (IsWithin b.machine.moment.settings.storage) b.machine.home.owns slot (own_of home slot)
+        (t.serves.follows.within b.machine.moment.settings.storage (h.machine.driven.within slot nobody t.there))
+        h.machine.driven.within;
+    leds = t.serves.leds ∙ h.machine.driven.leds;
+    buttons = ap (λ (s : ButtonsView). s.count) t.serves.buttons ∙ h.machine.driven.buttons;
+    size = t.serves.stores.size ∙ h.machine.driven.size;
+    slots = ap length t.serves.stores.slots ∙ length-set b.machine.drivers.stores.slots slot t.serves.bytes
+        ∙ h.machine.driven.slots;
+    ticks = t.serves.lines_ready.ticks;
+    free = t.serves.lines_ready.free;
+  })
 
   -- what is told of the alarms of all other processes stays true
   pub others_still : OthersTell slot (clock_at b.machine.moment.settings.start b.machine.moment.time)
       b.machine.moment.time b.machine.alarms home.owns
   others_still =
-      subst (OthersTell slot (clock_at b.machine.moment.settings.start b.machine.moment.time) b.machine.moment.time
-      b.machine.alarms) (sym told_owns)
-      (others_tell (clock_at b.machine.moment.settings.start b.machine.moment.time) b.machine.moment.time slot
-      b.machine.alarms
-      b.machine.home.owns (own_of home slot) h.machine.alarms)
+      rw told_owns (others_tell (clock_at b.machine.moment.settings.start b.machine.moment.time) b.machine.moment.time
+      slot b.machine.alarms b.machine.home.owns (own_of home slot) h.machine.alarms)
 
   -- and where the device is another one than the alarm, so does what is told of its own
   pub all_still : AnswersLeaveAlarms → is_alarm device ≡ false
       → AlarmsTell b.machine.moment b.machine.alarms home.owns
+  unfolding told_at
   all_still law other =
-      let same : HasSameAlarm (own_of b.machine.home slot) (own_of home slot) =
-      subst (HasSameAlarm (own_of b.machine.home slot)) (ap (λ (r : Record). r.own) t.serves.tells)
-      (law b.machine.moment.settings t.serves.event _ (t.serves.leaves other)) in
-      subst (AlarmsTell b.machine.moment b.machine.alarms) (sym told_owns)
-      (same_alarms_tell slot b.machine.home.owns (own_of b.machine.home slot) (own_of home slot) own_was same
+      same_alarms_tell told_at (subst (HasSameAlarm (own_of b.machine.home slot)) (ap (λ (r : Record). r.own)
+      t.serves.tells) (law b.machine.moment.settings t.serves.event _ (t.serves.leaves other)))
       (clock_at b.machine.moment.settings.start b.machine.moment.time) b.machine.moment.time b.machine.alarms
-      h.machine.alarms)
+      h.machine.alarms
 
   -- what always holds of a board holds then
   pub told_board : (calm : ℕ) (times : List (Option ℕ)) (ready : List Bool) → b.machine.moment.steps < STEP_LIMIT
@@ -335,13 +292,8 @@ module _ (b : BoardState) (device : Dev) (slot : ℕ) (printed : List ℕ) (home
   unfolding told_at
   told_board calm times ready below tell turns quiet = record {
     machine = record {
-      lost = still_lost b.machine.moment.steps slot b.machine.home home (own_of home slot) t.only
-          (omega (
-            arith,
-            t.serves.follows.dropped.not_more,
-            lost_there b.machine.moment.steps b.machine.home slot
-                h.machine.lost,
-          ))
+      lost = still_lost told_at b.machine.moment.steps 1
+          (omega (arith, t.serves.follows.dropped.not_more, lost_before told_at b.machine.moment.steps h.machine.lost))
           h.machine.lost;
       guard = still_guards b.machine.guard b.machine.home home slot t.only
           (ap (λ (o : Own). o.layout) t.serves.follows.rest) h.machine.guard;
@@ -357,55 +309,42 @@ module _ (b : BoardState) (device : Dev) (slot : ℕ) (printed : List ℕ) (home
       calm = quiet;
       alarms = tell;
     };
-    seated = still_seated slot b.machine.home home b.processes.items b.processes.items told_at b.machine.moment.steps
+    seated = still_seated told_at b.machine.moment.steps 1
         (remains_seated b.machine.home.flash b.machine.moment.steps t.process (own_of b.machine.home slot)
         (own_of home slot)
         t.serves.follows.rest (seated_there b.machine.home.flash b.machine.moment.steps b.processes.items
         b.machine.home.owns slot
         (t.process, own_of b.machine.home slot) t.was own_was h.seated)) h.seated;
-    owns = as_many_owns slot b.machine.home home b.processes.items b.processes.items told_at ∙ h.owns;
+    owns = as_many_owns told_at ∙ h.owns;
     few = h.few;
     ready = turns;
     slice = h.slice;
     used = h.used;
   }
 
--- a choice that is not ready is refused
-pub unready : (w : World) (choice : Choice) → is_ready w choice ≡ false
-    → (◌≡◌ {A = Bool} false true → IsTrue (is_ready w choice))
-    × (IsTrue (is_ready w choice) → ◌≡◌ {A = Bool} false true)
-unready w choice not_ready =
-    (λ e. absurd (false≢true e), λ h. absurd (false≢true (sym not_ready ∙ true_is (is_ready w choice) h)))
+-- a choice that may not be made, in a world that a board shows, is refused
+pub refused_so : {u v w : World} {choice : Choice} {emit : Emit} → v ≡ u → u ≡ w → is_ready u choice ≡ false
+    → MakesStep choice (showing w emit) (showing v emit) (Err (record {}))
+refused_so {u} {v} {w} {choice} {emit} stays is not_ready =
+    subst (λ (x : World). MakesStep choice (showing x emit) (showing v emit) (Err (record {}))) is (record {
+      ready = (λ e. absurd (false≢true e), λ h. absurd (false≢true (sym not_ready ∙ true_is (is_ready u choice) h)));
+      ok = tt;
+      shown = tt;
+      refused = (stays, refl);
+    })
   where
     true_is : (b : Bool) → IsTrue b → b ≡ true
     true_is true h = refl
     true_is false h = cc
 
--- and one that is ready is made
-pub ready_now : (w : World) (choice : Choice) → IsTrue (is_ready w choice)
-    → (◌≡◌ {A = Bool} true true → IsTrue (is_ready w choice)) × (IsTrue (is_ready w choice) → ◌≡◌ {A = Bool} true true)
-ready_now w choice is = (λ e. is, λ h. refl)
-
--- a board that shows a world below the limit of steps is below it
-pub below_shown : (b : BoardState) (w : World) → world_of b ≡ w → w.clock.steps < STEP_LIMIT
-    → b.machine.moment.steps < STEP_LIMIT
-below_shown b w is h = subst (λ (x : World). x.clock.steps < STEP_LIMIT) (sym is) h
-
--- a choice that may not be made, in a world that a board shows, is refused
-pub refused_so : (u v w : World) (choice : Choice) (emit : Emit) → v ≡ u → u ≡ w → is_ready u choice ≡ false
-    → MakesStep choice w v emit emit (Err (record {}))
-refused_so u v w choice emit stays is not_ready =
-    subst (λ (x : World). MakesStep choice x v emit emit (Err (record {}))) is
-    (record { ready = unready u choice not_ready; ok = tt; shown = tt; refused = (stays, refl) })
-
 -- and one that may is made
-pub made_so : (v w v' : World) (choice : Choice) (emit emit' : Emit) → v ≡ w → IsTrue (is_ready v choice)
+pub made_so : {v w v' : World} {choice : Choice} {emit emit' : Emit} → v ≡ w → IsTrue (is_ready v choice)
     → v' ≡ (carried_out v choice).after → emit' ≡ shown_by (carried_out v choice).labels
-    → MakesStep choice w v' emit emit' (Ok tt)
-made_so v w v' choice emit emit' is ready made shown =
+    → MakesStep choice (showing w emit) (showing v' emit') (Ok tt)
+made_so {v} {w} {v'} {choice} {emit} {emit'} is ready made shown =
     let steps = is_carried_out v choice ready in
-    subst (λ (x : World). MakesStep choice x v' emit emit' (Ok tt)) is (record {
-      ready = ready_now v choice ready;
+    subst (λ (x : World). MakesStep choice (showing x emit) (showing v' emit') (Ok tt)) is (record {
+      ready = (λ e. ready, λ h. refl);
       ok = made ∙ sym (ap (λ (s : Stepped). s.after) steps);
       shown = shown ∙ sym (ap (λ (s : Stepped). shown_by s.labels) steps);
       refused = tt;
@@ -414,9 +353,4 @@ made_so v w v' choice emit emit' is ready made shown =
 -- a device that may not act is not ready
 pub not_acting : (w : World) (device : Dev) → can_act w device ≡ false → is_ready w (Device device) ≡ false
 unfolding may_be_made
-not_acting w device e =
-    ap (λ (c : Bool). nat_lt w.clock.steps STEP_LIMIT && c) e ∙ never (nat_lt w.clock.steps STEP_LIMIT)
-  where
-    never : (c : Bool) → (c && false) ≡ false
-    never true = refl
-    never false = refl
+not_acting w device e = ap (λ (c : Bool). nat_lt w.clock.steps STEP_LIMIT && c) e ∙ and_false _

@@ -1,9 +1,12 @@
--- What stays, where a process in a slot has no alarm armed any more and leaves all queues: less is ready than before.
--- Whether one waits or is due is a search of a list of slots, and taking one slot from it, or its alarm, finds nobody
--- where nobody was found, by induction on the list. So what was calm is calm.
+-- What stays, where the alarm of a process in a slot is due only if it was before, or the process leaves all queues:
+-- less is ready than before. Whether one waits or is due is a search of a list of slots, and taking one slot from it,
+-- or its alarm, finds nobody where nobody was found, by induction on the list. So what was calm is calm.
+use Rattle.grant_enter.specs.Homes.{Homes}
+use Rattle.process_record.specs.declared.process.Process.{Process}
+use Rattle.board_turns.specs.Turning.{ChangesSlot}
 use Rattle.std.proofs.Common.{◌≡◌, ℕ, ◌==◌, ◌&&◌, Bool, true, false, cond, not, List, [], ◌∷◌, find, length, nat_le}
-use Rattle.std.proofs.Common.{option_and_then, option_map, slice_get, slice_set, is_some, Option, None, Some, refl}
-use Rattle.std.proofs.Common.{sym, ap, ap₂, subst, ◌∙◌}
+use Rattle.std.proofs.Common.{option_map, slice_get, slice_set, is_some, Option, None, Some, refl}
+use Rattle.std.proofs.Common.{sym, ap, ap₂, ◌∙◌}
 use Rattle.std.proofs.Common.{eqb-true, eq-eqb}
 use Rattle.std.proofs.lemmas.Bool.{false≢true}
 use Rattle.std.specs.List.{range_with_len}
@@ -85,25 +88,17 @@ gone_calm start window from until owns id old new drives calm = record {
   same = calm.same;
 }
 
--- of a process that has none armed, or lives no more, none is due
-none_due : (now : ℕ) (own : Own) → HasNoneArmed own → has_due now (Some own) ≡ false
-none_due now own none = by_lives own.lives refl
-  where
-    by_lives : (b : Bool) → own.lives ≡ b → has_due now (Some own) ≡ false
-    by_lives false is = ap (λ (b : Bool). is_some (cond b (if_due now (alarm_in own)) None)) is
-    by_lives true is =
-        ap (λ (b : Bool). is_some (cond b (if_due now (alarm_in own)) None)) is
-        ∙ ap (λ a. is_some (if_due now a)) (ap (λ (b : Bool). cond b (alarm_in own) None) (sym is) ∙ none)
+-- of a process that has none armed, or lives no more, none is due, and no ticks are left of any
+made_of_none : {X Y : Type 0} (f : Option X → Option Y) (b : Bool) (a : Option X) → f None ≡ None
+    → cond b a None ≡ None → cond b (f a) None ≡ None
+made_of_none f true a e none = ap f none ∙ e
+made_of_none f false a e none = refl
 
--- and no ticks are left of any
+pub none_due : (now : ℕ) (own : Own) → HasNoneArmed own → has_due now (Some own) ≡ false
+none_due now own none = ap is_some (made_of_none (if_due now) own.lives (alarm_in own) refl none)
+
 none_left : (now : ℕ) (own : Own) → HasNoneArmed own → ticks_left_of now own ≡ None
-none_left now own none = by_lives own.lives refl
-  where
-    by_lives : (b : Bool) → own.lives ≡ b → ticks_left_of now own ≡ None
-    by_lives false is = ap (λ (b : Bool). cond b (option_map (ticks_left now) (alarm_in own)) None) is
-    by_lives true is =
-        ap (λ (b : Bool). cond b (option_map (ticks_left now) (alarm_in own)) None) is
-        ∙ ap (λ a. option_map (ticks_left now) a) (ap (λ (b : Bool). cond b (alarm_in own) None) (sym is) ∙ none)
+none_left now own none = made_of_none (option_map (ticks_left now)) own.lives (alarm_in own) refl none
 
 find_less : (p q : ℕ → Bool) (slots : List ℕ) → ((x : ℕ) → p x ≡ false → q x ≡ false)
     → is_some (find p slots) ≡ false → is_some (find q slots) ≡ false
@@ -116,39 +111,41 @@ find_less p q (x ∷ slots) falls e = by_test (p x) refl e (find_less p q slots 
     by_test true is e later = absurd (false≢true (sym e))
     by_test false is e later = ap (λ (b : Bool). is_some (cond b (Some x) (find q slots))) (falls x is) ∙ later e
 
-module _ (slot : ℕ) (owns : List Own) (own o : Own) (was : slice_get owns slot ≡ Some own) (none : HasNoneArmed o) where
+module _ {slot : ℕ} {home home_after : Homes} {old new : List Process} (t : ChangesSlot slot home home_after old new)
+    (falls : (now : ℕ) → has_due now (Some t.before.1) ≡ false → has_due now (Some t.after.1) ≡ false) where
   -- no more is due
-  due_there : (now other : ℕ) (b : Bool) → (other == slot) ≡ b → has_due now (slice_get owns other) ≡ false
-      → has_due now (slice_get (slice_set owns slot o) other) ≡ false
+  due_there : (now other : ℕ) (b : Bool) → (other == slot) ≡ b → has_due now (slice_get home.owns other) ≡ false
+      → has_due now (slice_get (slice_set home.owns slot t.after.1) other) ≡ false
   due_there now other true e before =
-      let same : slot ≡ other = sym (eqb-true other slot e) in
-      subst (λ (n : ℕ). has_due now (slice_get (slice_set owns slot o) n) ≡ false) same
-      (ap (has_due now) (set_same owns slot own o was) ∙ none_due now o none)
+      rw (eqb-true other slot e, set_same home.owns slot t.before.1 t.after.1 t.own_was)
+      (falls now (rw (eqb-true other slot e, t.own_was) at before))
   due_there now other false e before =
-      ap (has_due now) (set_other owns slot other o (λ same. false≢true (sym e ∙ eq-eqb other slot same))) ∙ before
+      ap (has_due now) (set_other home.owns slot other t.after.1 (λ same. false≢true (sym e ∙ eq-eqb other slot same)))
+      ∙ before
 
-  less_due : (only : Option ℕ) (now : ℕ) → is_some (due_for only now owns) ≡ false
-      → is_some (due_for only now (slice_set owns slot o)) ≡ false
+  less_due : (only : Option ℕ) (now : ℕ) → is_some (due_for only now home.owns) ≡ false
+      → is_some (due_for only now (slice_set home.owns slot t.after.1)) ≡ false
   unfolding due_slot
   less_due None now e =
-      find_less (λ other. has_due now (slice_get owns other))
-      (λ other. has_due now (slice_get (slice_set owns slot o) other))
+      find_less (λ other. has_due now (slice_get home.owns other))
+      (λ other. has_due now (slice_get (slice_set home.owns slot t.after.1) other))
       (range_with_len 0 SLOT_COUNT) (λ other. due_there now other (other == slot) refl) e
-  less_due (Some only) now e = by_test (has_due now (slice_get owns only)) refl e
+  less_due (Some only) now e = by_test (has_due now (slice_get home.owns only)) refl e
     where
-      by_test : (b : Bool) → has_due now (slice_get owns only) ≡ b
+      by_test : (b : Bool) → has_due now (slice_get home.owns only) ≡ b
           → is_some (cond {A = Option ℕ} b (Some only) None) ≡ false
           → is_some
-          (cond {A = Option ℕ} (has_due now (slice_get (slice_set owns slot o) only)) (Some only) None) ≡ false
+          (cond {A = Option ℕ} (has_due now (slice_get (slice_set home.owns slot t.after.1) only)) (Some only) None)
+          ≡ false
       by_test true is e = absurd (false≢true (sym e))
       by_test false is e =
           ap (λ (b : Bool). is_some (cond {A = Option ℕ} b (Some only) None))
           (due_there now only (only == slot) refl is)
 
   -- so it stays calm
-  pub unarmed_calm : (start window from until : ℕ) (d : Drivers) → IsCalm start window from until owns d
-      → IsCalm start window from until (slice_set owns slot o) d
-  unarmed_calm start window from until d calm = record {
+  pub less_calm : (start window from until : ℕ) (d : Drivers) → IsCalm start window from until home.owns d
+      → IsCalm start window from until home_after.owns d
+  less_calm start window from until d calm = rw t.own_is (record {
     none = λ time low high. let at = calm.none time low high in elim [
       | Event ↦ at Event
       | Alarm ↦ less_due (only_at time window) (clock_at start time) (at Alarm)
@@ -158,10 +155,11 @@ module _ (slot : ℕ) (owns : List Own) (own o : Own) (was : slice_get owns slot
       | Store ↦ at Store
     ];
     same = calm.same;
-  }
+  })
 
-  -- and no ticks are left of an alarm in the slot
-  pub none_left_there : (now : ℕ) → ticks_left_in now (slice_set owns slot o) slot ≡ None
-  none_left_there now =
-      ap (λ (x : Option Own). option_and_then (ticks_left_of now) x) (set_same owns slot own o was)
-      ∙ none_left now o none
+-- no ticks are left of an alarm in a slot that has none armed
+pub none_left_there : {slot : ℕ} {home home_after : Homes} {old new : List Process}
+    (t : ChangesSlot slot home home_after old new) → HasNoneArmed t.after.1 → (now : ℕ)
+    → ticks_left_in now home_after.owns slot ≡ None
+none_left_there {slot} {home} t none now =
+    rw (t.own_is, set_same home.owns slot t.before.1 t.after.1 t.own_was) (none_left now t.after.1 none)

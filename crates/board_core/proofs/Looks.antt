@@ -20,7 +20,7 @@ use Rattle.board_devices.specs.Storage.{slot_bytes}
 use Rattle.kernel_model.specs.Record.{Record}
 use Rattle.kernel_model.specs.Named.{can_run}
 use Rattle.kernel_model.specs.Turn.{has_turn}
-use Rattle.kernel_model.specs.World.{is_ready, may_be_made}
+use Rattle.kernel_model.specs.World.{World, is_ready, may_be_made}
 use Rattle.board_core.specs.declared.state.BoardState.{BoardState}
 use Rattle.kernel_calls.specs.Residents.{Resident}
 use Rattle.board_core.specs.Shows.{IsBoard, recorded, residents, world_of}
@@ -32,12 +32,11 @@ use Rattle.driver_model.specs.Requests.{request_in}
 use Rattle.driver_model.specs.Commands.{QueueName}
 use Rattle.board_drivers.specs.Driven.{IsQueueOf, IsThere, ids_waiting_in}
 use Rattle.board_core.specs.Looks.{LivesThere}
-use Rattle.board_core.proofs.Boards.{has_storage}
-use Rattle.board_drivers.proofs.Records.{owns_shown}
+use Rattle.board_core.proofs.Boards.{has_storage, own_read}
 use Rattle.kernel_calls.proofs.Pairs.{length-firsts, zip-get}
 use Rattle.board_drivers.proofs.Records.{beside_get}
 
-module _ (b : BoardState) (board : IsBoard b) (slot : ℕ) where
+module _ {b : BoardState} (board : IsBoard b) (slot : ℕ) where
   -- the record in a slot, by what is kept for the slot
   looked : (o : Option Resident) → slice_get (residents b) slot ≡ o
       → slice_get (world_of b).records slot
@@ -45,7 +44,7 @@ module _ (b : BoardState) (board : IsBoard b) (slot : ℕ) where
   looked o is =
       slice_get-map (recorded b) (zip (residents b) b.machine.drivers.stores.slots) slot
       ∙ ap (option_map (recorded b))
-      (beside_get (residents b) b.machine.drivers.stores.slots slot (has_storage b board)
+      (beside_get (residents b) b.machine.drivers.stores.slots slot (has_storage board)
       ∙ ap (option_map (λ (r : Resident). (r, slot_bytes b.machine.drivers.stores slot))) is)
       ∙ joined o
     where
@@ -94,17 +93,17 @@ module _ (b : BoardState) (board : IsBoard b) (slot : ℕ) where
       past (x ∷ xs) (suc k) h = past xs k (omega arith)
 
   -- what is read of the record of a slot, whatever process is there
-  module _ {X : Type 0} (read : Record → X) where
-    pub read_missing : length b.processes.items ≤ slot → None ≡ option_map read (slice_get (world_of b).records slot)
-    read_missing h = ap (option_map read) (sym (missing h))
+  module _ {X : Type 0} (read : Record → X) {w : World} (view : world_of b ≡ w) where
+    pub read_missing : length b.processes.items ≤ slot → None ≡ option_map read (slice_get w.records slot)
+    read_missing h = rw (← view) (ap (option_map read) (sym (missing h)))
 
     pub read_there : (x : X) → slot < length b.processes.items
         → ((p : Process) → slice_get b.processes.items slot ≡ Some p
         → x ≡ read (recorded b ((p, own_of b.machine.home slot), slot_bytes b.machine.drivers.stores slot)))
-        → Some x ≡ option_map read (slice_get (world_of b).records slot)
+        → Some x ≡ option_map read (slice_get w.records slot)
     read_there x within is =
         let found = some_at b.processes.items slot within in
-        ap Some (is found.0 found.1) ∙ ap (option_map read) (sym (there found.0 found.1))
+        rw (← view) (ap Some (is found.0 found.1) ∙ ap (option_map read) (sym (there found.0 found.1)))
       where
         some_at : (xs : List Process) (k : ℕ) → k < length xs → (p : Process) × (slice_get xs k ≡ Some p)
         some_at [] k h = absurd (omega arith)
@@ -112,32 +111,22 @@ module _ (b : BoardState) (board : IsBoard b) (slot : ℕ) where
         some_at (p ∷ xs) (suc k) h = some_at xs k (omega (arith, h))
 
   -- of a process that was looked up in the table
-  module _ (processes : List Process) (index : ℕ) (same : processes ≡ b.processes.items) (at : index ≡ slot) where
+  module _ {w : World} (view : world_of b ≡ w) {processes : List Process} {index : ℕ}
+      (same : processes ≡ b.processes.items) (at : index ≡ slot) where
     pub process_there : (p : Process) → true ≡ nat_lt index (length processes) → p ≡ slice_index_or processes index p
-        → Some p ≡ option_map (λ (r : Record). r.process) (slice_get (world_of b).records slot)
+        → Some p ≡ option_map (λ (r : Record). r.process) (slice_get w.records slot)
     process_there p lt is =
         let within : index < length processes = grind (arith, nat_tests) in
         let here : slice_get processes index ≡ Some p = slice_get-get_or processes index p within ∙ ap Some (sym is) in
-        let shown = there p (ap (λ (ps : List Process). slice_get ps slot) (sym same)
-        ∙ ap (slice_get processes) (sym at) ∙ here) in
-        ap (option_map (λ (r : Record). r.process)) (sym shown)
+        rw (← view) (ap (option_map (λ (r : Record). r.process)) (sym (there p (rw (same, at) at here))))
 
     pub process_missing : false ≡ nat_lt index (length processes)
-        → None ≡ option_map (λ (r : Record). r.process) (slice_get (world_of b).records slot)
+        → None ≡ option_map (λ (r : Record). r.process) (slice_get w.records slot)
     process_missing lt =
         let past : length processes ≤ index = grind (arith, nat_tests) in
-        read_missing (λ (r : Record). r.process) (omega (arith, past, at, ap length same))
+        read_missing (λ (r : Record). r.process) view (omega (arith, past, at, ap length same))
 
-module _ (b : BoardState) (board : IsBoard b) where
-  -- what is the own of the process in a slot, if there is one
-  pub own_read : (slot : ℕ)
-      → slice_get b.machine.home.owns slot ≡ option_map (λ (r : Record). r.own) (slice_get (world_of b).records slot)
-  own_read slot =
-      ap (λ (owns : List Own). slice_get owns slot)
-      (sym (owns_shown b.machine.home.flash b.machine.drivers.buttons.pressed b.processes.items b.machine.home.owns
-      b.machine.drivers.stores.slots board.owns (has_storage b board)))
-      ∙ slice_get-map (λ (r : Record). r.own) (world_of b).records slot
-
+module _ {b : BoardState} (board : IsBoard b) where
   -- one that waits lives
   waits_lives : (queue : QueueName) (own : Own) → has_waiting queue own ≡ true → own.lives ≡ true
   waits_lives queue own = by_life own.lives
@@ -151,13 +140,13 @@ module _ (b : BoardState) (board : IsBoard b) where
   lives_so id own is lives life = by_record (slice_get (world_of b).records id.slot) refl
     where
       by_record : (o : Option Record) → slice_get (world_of b).records id.slot ≡ o → LivesThere (world_of b) id
-      by_record None e = absurd (no_own (sym is ∙ own_read id.slot ∙ ap (option_map (λ (r : Record). r.own)) e))
+      by_record None e = absurd (no_own (sym is ∙ own_read board id.slot ∙ ap (option_map (λ (r : Record). r.own)) e))
         where
           no_own : ◌≡◌ {A = Option Own} (Some own) None → ⊥
           no_own e = cc
       by_record (Some r) e =
           let both : ◌≡◌ {A = Option Own} (Some own) (Some r.own) =
-          sym is ∙ own_read id.slot ∙ ap (option_map (λ (x : Record). x.own)) e in
+          sym is ∙ own_read board id.slot ∙ ap (option_map (λ (x : Record). x.own)) e in
           let same : own ≡ r.own = cc in
           record {
             there = r;

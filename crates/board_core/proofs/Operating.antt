@@ -1,8 +1,8 @@
 -- An operator's act on a process that is there makes the step of the world that the board shows, and leaves a board. To
 -- let the event in changes the list of what is to come alone (`lets_in`), so the act is one on that machine
 -- (`operates_in`). One resident changed then; who waits follows by what an act leaves of requests (`KeepsLines`).
-use Rattle.std.proofs.Common.{◌≡◌, Bool, ◌<◌, ◌≤◌, ℕ, ◌+◌, cond, List, [], ◌∷◌, drop, length, map, slice_get}
-use Rattle.std.proofs.Common.{All, slice_set, Option, None, Some, IfSome, refl, sym, ap, ap₂, subst, ◌∙◌, arith}
+use Rattle.std.proofs.Common.{◌≡◌, Bool, ◌<◌, ℕ, ◌+◌, cond, List, [], ◌∷◌, drop, length, map, slice_get}
+use Rattle.std.proofs.Common.{slice_set, Option, None, Some, IfSome, refl, sym, ap, ap₂, subst, ◌∙◌, arith}
 use Rattle.std.specs.Prelude.{unwrap_or}
 use Rattle.std.specs.Option.{option_and_then, option_map}
 use Rattle.std.specs.List.{zip}
@@ -10,27 +10,24 @@ use Rattle.std.specs.Str.{bytes_eq}
 use Rattle.std.proofs.lemmas.List.{append-nil, length-map}
 use Rattle.std.proofs.lemmas.List.Elements.{All-set}
 use Rattle.std.proofs.lemmas.List.Quantifiers.{position-Some}
-use Rattle.std.proofs.lemmas.Option.{slice_get_within, get_or_from_slice_get}
 use Rattle.tk_base.specs.declared.limits.TheConstants.{STEP_LIMIT}
 use Rattle.tk_base.specs.declared.process.Choice.TheVariants.{Device}
 use Rattle.tk_base.specs.declared.process.Dev.TheVariants as dev
-use Rattle.tk_base.specs.declared.process.ProcessId.{ProcessId}
 use Rattle.tk_base.specs.declared.process.Verb.{Verb}
 use Rattle.tbf_headers.specs.Meaning.{header_reading}
-use Rattle.script_text.specs.Settings.{Act, EventKind, Input, Press, Release, ScriptEvent}
+use Rattle.script_text.specs.Settings.{Act, EventKind, ScriptEvent}
 use Rattle.board_devices.specs.Arriving.{act_of, change_by_first, first_act, pressed_after_first}
 use Rattle.board_devices.specs.Arriving.{with_first_arrived}
 use Rattle.board_devices.specs.Buttons.{ButtonsView}
 use Rattle.board_devices.specs.Clock.{clock_at}
 use Rattle.alarm_capsule.proofs.KeptTimes.{others_tell}
-use Rattle.alarm_capsule.specs.Times.{OthersTell}
 use Rattle.process_model.specs.Own.{Own}
 use Rattle.process_record.specs.declared.process.Process.{Process}
 use Rattle.process_record.specs.declared.summary.SlotLine.{SlotLine}
 use Rattle.process_record.specs.Lines.{name_text, slot_named}
 use Rattle.driver_model.specs.Commands.{QueueName, leaving_all}
 use Rattle.driver_model.specs.Lines.{IsWithin}
-use Rattle.grant_enter.specs.Homes.{Homes, nobody}
+use Rattle.grant_enter.specs.Homes.{Homes}
 use Rattle.kernel_model.specs.Record.{Record, slot_line_of}
 use Rattle.kernel_model.specs.Turn.{apply, operated}
 use Rattle.kernel_model.specs.World.{DeviceAnswer, Devices, Stepped, answering, arrived}
@@ -38,32 +35,31 @@ use Rattle.kernel_model.specs.Parts.{acting_on, acts_of}
 use Rattle.kernel_model.specs.World.{carried_out}
 use Rattle.kernel_model.specs.World.{device_step_of, done, listed, operating, telling_nobody}
 use Rattle.kernel_model.specs.Parts.{slot_of_name}
-use Rattle.kernel_model.specs.World.{World}
 use Rattle.kernel_model.specs.Shown.{shown_by}
 use Rattle.kernel_model.specs.Laws.{CanStartAgain, DevicesAnswerOne, KeepsLines, one_answered}
 use Rattle.kernel_model.proofs.Comes.{restart_keeps}
 use Rattle.kernel_model.proofs.Lines.{keeps_ended, keeps_restarted}
 use Rattle.kernel_model.proofs.Steps.{of_operated}
 use Rattle.board_drivers.specs.declared.drivers.Drivers.{Drivers}
-use Rattle.board_drivers.specs.Calm.{AlarmsTell, IsCalm}
+use Rattle.board_drivers.specs.Calm.{AlarmsTell}
 use Rattle.board_drivers.proofs.Lanes.{few_still, same_free, same_lanes, same_ticks}
-use Rattle.board_devices.specs.Storage.{StoredSlots}
 use Rattle.board_drivers.specs.Driven.{AreDriven, IsQueueOf, devices_of, ids_waiting_in}
 use Rattle.kernel_calls.specs.Residents.{IsResident, id_of, record_of}
 use Rattle.board_drivers.specs.Tells.{Arrives, owns_told}
 use Rattle.board_drivers.proofs.Lines.{line_after}
-use Rattle.board_drivers.proofs.Records.{bytes_of, owns_shown, seated_there}
+use Rattle.board_drivers.proofs.Records.{bytes_of, seated_there}
 use Rattle.board_drivers.proofs.Routing.{drives_shown}
 use Rattle.board_turns.specs.declared.machine.Machine.{Machine}
 use Rattle.board_turns.specs.Operating.{IsActedOn, verb_acts}
 use Rattle.board_turns.specs.Turning.{StepsInSlot}
 use Rattle.board_core.specs.declared.state.BoardState.{BoardState}
-use Rattle.board_core.specs.Makes.{act_meant, shown_act}
+use Rattle.board_core.specs.Makes.{shown_act}
 use Rattle.board_core.specs.Shows.{IsBoard, world_of}
-use Rattle.board_core.proofs.Boards.{has_storage}
-use Rattle.board_core.proofs.Changes.{a_step_later, as_many, as_many_owns, found, kept_records}
+use Rattle.board_core.proofs.Boards.{has_storage, owns_in_world}
+use Rattle.board_core.proofs.Changes.{a_step_later, as_many, found, kept_records, lost_before, owns_after, still_lost}
+use Rattle.board_core.proofs.Changes.{within_before}
+use Rattle.board_turns.specs.Machines.{IsCalmUntil, KeepsOtherAlarms}
 use Rattle.board_core.proofs.Changes.{still_seated, with_step}
-use Rattle.board_core.proofs.Devices.{lost_where, still_lost}
 use Rattle.board_core.proofs.TurnLines.{can_start_again}
 use Rattle.board_turns.specs.ReadySlots.{TurnsTell}
 
@@ -84,15 +80,12 @@ pub act_comes : (arrivals : List ScriptEvent) (rs : List Record) (slot : ℕ) (v
 act_comes [] rs slot verb meant = absurd (cc)
 act_comes (event ∷ rest) rs slot verb meant = by_kind event.kind refl meant
   where
-    the_same : (s : ℕ) (v : Verb) → ◌≡◌ {A = Option (ℕ × Verb)} (Some (s, v)) (Some (slot, verb))
-        → ◌≡◌ {A = ℕ × Verb} (s, v) (slot, verb)
-    the_same s v e = cc
-
     by_slot : (v : Verb) (name : List ℕ) (o : Option ℕ) → slot_of_name name rs ≡ o → event.kind ≡ Act v name
         → option_map {U = ℕ × Verb} (λ (s : ℕ). (s, v)) o ≡ Some (slot, verb) → ActComes (event ∷ rest) rs slot verb
     by_slot v name None is kind e = absurd (cc)
     by_slot v name (Some s) is kind e =
-        subst (λ (x : ℕ × Verb). ActComes (event ∷ rest) rs x.0 x.1) (the_same s v e) (record {
+        let same : ◌≡◌ {A = ℕ × Verb} (s, v) (slot, verb) = cc in
+        subst (λ (x : ℕ × Verb). ActComes (event ∷ rest) rs x.0 x.1) same (record {
           time = event.time;
           name = name;
           rest = rest;
@@ -105,16 +98,8 @@ act_comes (event ∷ rest) rs slot verb meant = by_kind event.kind refl meant
         option_map {U = ℕ × Verb} (λ (s : ℕ). (s, act.0)) (slot_of_name act.1 rs))
         (act_of kind) ≡ Some (slot, verb)
         → ActComes (event ∷ rest) rs slot verb
-    by_kind (Input bytes) is e = absurd (cc)
-    by_kind (Press button) is e = absurd (cc)
-    by_kind (Release button) is e = absurd (cc)
     by_kind (Act v name) is e = by_slot v name (slot_of_name name rs) refl is e
-
-pub comes_shown : (b : BoardState) (w : World) (slot : ℕ) (verb : Verb) → world_of b ≡ w → act_meant w ≡ Some
-    (slot, verb)
-    → ActComes b.machine.drivers.arrivals (world_of b).records slot verb
-comes_shown b w slot verb is meant =
-    act_comes b.machine.drivers.arrivals (world_of b).records slot verb (ap act_meant is ∙ meant)
+    by_kind kind is e = absurd (cc)
 
 -- the machine once an act is let in, and before it is done
 abbrev pub let_in : Machine → List ScriptEvent → Machine
@@ -164,15 +149,14 @@ named_within name (r ∷ rs) slot is =
     omega (arith, found.0, length-map (r ∷ rs) slot_line_of)
 
 -- .. so it is one of the table's
-pub act_within : (b : BoardState) (slot : ℕ) (verb : Verb) → IsBoard b
+pub act_within : {b : BoardState} {slot : ℕ} {verb : Verb} → IsBoard b
     → ActComes b.machine.drivers.arrivals (world_of b).records slot verb → slot < length b.processes.items
-act_within b slot verb h c =
+act_within {b} {slot} h c =
     omega (
       arith,
       named_within c.name (world_of b).records slot c.means,
       length-map (world_of b).records (λ (r : Record). r.own),
-      ap length (owns_shown b.machine.home.flash b.machine.drivers.buttons.pressed b.processes.items
-          b.machine.home.owns b.machine.drivers.stores.slots h.owns (has_storage b h)),
+      ap length (owns_in_world h),
       h.owns,
     )
 
@@ -192,18 +176,17 @@ act_drops verb r =
     of_operated (λ ended s. s.own.inbox.dropped ≡ r.own.inbox.dropped) r refl (λ held. refl) (λ lives. refl)
     (restart_keeps r) verb
 
-module _ (b : BoardState) (slot : ℕ) (verb : Verb) (c : ActComes b.machine.drivers.arrivals (world_of b).records slot
-    verb)
-    (x : Machine) (processes : List Process)
-    (t : OperatesOnce b slot verb c.rest x processes) (h : IsBoard b) where
+module _ {b : BoardState} {slot : ℕ} {verb : Verb} (h : IsBoard b)
+    (c : ActComes b.machine.drivers.arrivals (world_of b).records slot verb) {x : Machine} {processes : List Process}
+    (t : OperatesOnce b slot verb c.rest x processes) where
   -- the record before the act
   abbrev pub acted_on : Record
   acted_on = record_of b.machine.home.flash b.machine.drivers.buttons.pressed
       (t.at.before, bytes_of b.machine.drivers.stores.slots slot)
 
   was_there : slice_get (world_of b).records slot ≡ Some acted_on
-  was_there = found slot b.machine.home x.home b.processes.items processes t.at b.machine.drivers.buttons.pressed
-      b.machine.drivers.stores.slots (has_storage b h)
+  was_there = found t.at b.machine.drivers.buttons.pressed
+      b.machine.drivers.stores.slots (has_storage h)
 
   -- the devices once it is let in, and what is told
   abbrev devices_in : Devices
@@ -247,12 +230,8 @@ module _ (b : BoardState) (slot : ℕ) (verb : Verb) (c : ActComes b.machine.dri
       let records : map (record_of x.home.flash x.drivers.buttons.pressed)
       (zip (zip processes x.home.owns) x.drivers.stores.slots)
       ≡ slice_set w.records slot (operated verb acted_on) =
-      ap (λ (s : ButtonsView). map (record_of x.home.flash s.pressed)
-      (zip (zip processes x.home.owns) x.drivers.stores.slots)) t.does.drives.buttons
-      ∙ ap (λ (s : _). map (record_of x.home.flash pressed) (zip (zip processes x.home.owns) s.slots))
-      t.does.drives.bytes
-      ∙ kept_records slot b.machine.home x.home b.processes.items processes t.at pressed b.machine.drivers.stores.slots
-      ∙ ap (slice_set w.records slot) (sym tells) in
+      rw (t.does.drives.buttons, t.does.drives.bytes, tells)
+      (kept_records t.at pressed b.machine.drivers.stores.slots) in
       ap (λ (rs : List Record). with_step b rs (devices_of x.drivers) m b.present.slot b.present.used) records
       ∙ ap (λ (ds : Devices). with_step b (slice_set w.records slot (operated verb acted_on)) ds m b.present.slot
       b.present.used)
@@ -267,8 +246,7 @@ module _ (b : BoardState) (slot : ℕ) (verb : Verb) (c : ActComes b.machine.dri
       → shown_act slot verb printed ≡ shown_by (carried_out (world_of b) (Device dev.Event)).labels
   unfolding carried_out shown_by
   operated_shown law printed lists =
-      let is : printed ≡ listed verb slot acted_on =
-      subst (λ (o : Option Record). IfSome o (λ r. printed ≡ listed verb slot r)) was_there lists in
+      let is = rw was_there at lists in
       ap (shown_act slot verb) (is ∙ sym (append-nil (listed verb slot acted_on)))
       ∙ sym (ap (λ (s : Stepped). shown_by s.labels) (acts_so law))
 
@@ -280,9 +258,7 @@ module _ (b : BoardState) (slot : ℕ) (verb : Verb) (c : ActComes b.machine.dri
   own_is = ap (λ (r : Record). r.own) tells
 
   keeps : KeepsLines b.machine.moment.settings.storage t.at.before.1 t.at.after.1 (verb_acts verb t.at.before.0)
-  keeps = subst (λ (o : Own). KeepsLines b.machine.moment.settings.storage t.at.before.1 o
-      (verb_acts verb t.at.before.0)) own_is
-      (act_keeps b.machine.moment.settings.storage verb acted_on
+  keeps = rw own_is at (act_keeps b.machine.moment.settings.storage verb acted_on
       (can_start_again t.at.before.0.object.address t.at.before.1.layout (header_reading acted_on.object)
       seat.own.object.application))
 
@@ -291,52 +267,39 @@ module _ (b : BoardState) (slot : ℕ) (verb : Verb) (c : ActComes b.machine.dri
 
   line_is : (queue : QueueName)
       → IsQueueOf queue (ids_waiting_in x.drivers queue) (slice_set b.machine.home.owns slot t.at.after.1)
-  line_is queue =
-      subst (λ (xs : List ProcessId). IsQueueOf queue xs (slice_set b.machine.home.owns slot t.at.after.1))
-      (sym (t.does.drives.queues queue))
+  line_is queue = rw (t.does.drives.queues queue)
       (line_after queue (ids_waiting_in b.machine.drivers queue) b.machine.home.owns slot t.at.before.1 t.at.after.1
       (verb_acts verb t.at.before.0) (h.machine.driven.queues queue) t.at.own_was (keeps.lines queue)
       (keeps.life queue))
 
   -- who waits has a request then, and no other
   pub operated_driven : AreDriven b.machine.moment.settings b.machine.moment.time x.home.owns x.drivers
-  operated_driven = subst (λ (y : Homes). AreDriven b.machine.moment.settings b.machine.moment.time y.owns x.drivers)
-      (sym t.at.own_is)
-      (record {
-        queues = line_is;
-        within = All-set (IsWithin b.machine.moment.settings.storage) b.machine.home.owns slot t.at.after.1
-            (keeps.within before_within) h.machine.driven.within;
-        leds = t.does.drives.lit ∙ h.machine.driven.leds;
-        buttons = ap (λ (s : ButtonsView). s.count) t.does.drives.buttons ∙ h.machine.driven.buttons;
-        size = ap (λ (s : _). s.size) t.does.drives.bytes ∙ h.machine.driven.size;
-        slots = ap (λ (s : _). length s.slots) t.does.drives.bytes ∙ h.machine.driven.slots;
-        ticks = same_ticks b.machine.drivers x.drivers t.does.drives.lines h.machine.driven.ticks;
-        free = same_free b.machine.moment.time b.machine.drivers x.drivers t.does.drives.lines h.machine.driven.free;
-      })
-    where
-      before_within : IsWithin b.machine.moment.settings.storage t.at.before.1
-      before_within =
-          subst (IsWithin b.machine.moment.settings.storage)
-          (get_or_from_slice_get b.machine.home.owns slot t.at.before.1 nobody t.at.own_was)
-          (h.machine.driven.within slot nobody (slice_get_within b.machine.home.owns slot t.at.before.1 t.at.own_was))
+  operated_driven = rw t.at.own_is (record {
+    queues = line_is;
+    within = All-set (IsWithin b.machine.moment.settings.storage) b.machine.home.owns slot t.at.after.1
+        (keeps.within (within_before t.at b.machine.moment.settings.storage h.machine.driven.within))
+        h.machine.driven.within;
+    leds = t.does.drives.lit ∙ h.machine.driven.leds;
+    buttons = ap (λ (s : ButtonsView). s.count) t.does.drives.buttons ∙ h.machine.driven.buttons;
+    size = ap (λ (s : _). s.size) t.does.drives.bytes ∙ h.machine.driven.size;
+    slots = ap (λ (s : _). length s.slots) t.does.drives.bytes ∙ h.machine.driven.slots;
+    ticks = same_ticks b.machine.drivers x.drivers t.does.drives.lines h.machine.driven.ticks;
+    free = same_free b.machine.moment.time b.machine.drivers x.drivers t.does.drives.lines h.machine.driven.free;
+  })
 
   -- what is told of the alarms of all other processes stays true
-  pub others_unmoved : OthersTell slot (clock_at b.machine.moment.settings.start b.machine.moment.time)
-      b.machine.moment.time b.machine.alarms x.home.owns
-  others_unmoved =
-      let now = clock_at b.machine.moment.settings.start b.machine.moment.time in
-      subst (λ (y : Homes). OthersTell slot now b.machine.moment.time b.machine.alarms y.owns) (sym t.at.own_is)
-      (others_tell now b.machine.moment.time slot b.machine.alarms b.machine.home.owns t.at.after.1 h.machine.alarms)
+  pub others_unmoved : KeepsOtherAlarms slot (record b.machine { home = x.home })
+  others_unmoved = rw t.at.own_is (others_tell (clock_at b.machine.moment.settings.start b.machine.moment.time)
+      b.machine.moment.time slot b.machine.alarms b.machine.home.owns t.at.after.1 h.machine.alarms)
 
 -- A board whose tables, registers and drivers are then these: after the act it is one again.
-module _ (b a : BoardState) (slot : ℕ) (verb : Verb)
+module _ {b : BoardState} (a : BoardState) {slot : ℕ} {verb : Verb} (h : IsBoard b)
     (c : ActComes b.machine.drivers.arrivals (world_of b).records slot verb)
-    (t : OperatesOnce b slot verb c.rest a.machine a.processes.items) (h : IsBoard b) where
+    (t : OperatesOnce b slot verb c.rest a.machine a.processes.items) where
   pub operated_board : (calm : ℕ) (times : List (Option ℕ)) (ready : List Bool) → b.machine.moment.steps < STEP_LIMIT
       → AlarmsTell b.machine.moment times a.machine.home.owns
       → TurnsTell ready (zip a.processes.items a.machine.home.owns)
-      → IsCalm b.machine.moment.settings.start b.machine.moment.window b.machine.moment.time calm a.machine.home.owns
-      a.machine.drivers
+      → IsCalmUntil (record a.machine { moment = b.machine.moment }) calm
       → IsBoard (record b {
         machine = record a.machine {
           moment = a_step_later b.machine.moment;
@@ -348,30 +311,22 @@ module _ (b a : BoardState) (slot : ℕ) (verb : Verb)
       })
   operated_board calm times ready below tell turns quiet = record {
     machine = record {
-      lost = still_lost b.machine.moment.steps slot b.machine.home a.machine.home t.at.after.1 t.at.own_is
-          (omega (
-            arith,
-            drops_none b slot verb c a.machine a.processes.items t h,
-            lost_where b.machine.moment.steps b.machine.home.owns slot t.at.before.1 t.at.own_was h.machine.lost,
-          )) h.machine.lost;
+      lost = still_lost t.at b.machine.moment.steps 1
+          (omega (arith, drops_none h c t, lost_before t.at b.machine.moment.steps h.machine.lost)) h.machine.lost;
       guard = t.leaves.guard;
-      driven = operated_driven b slot verb c a.machine a.processes.items t h;
+      driven = operated_driven h c t;
       lanes = same_lanes b.machine.moment.window b.machine.drivers a.machine.drivers t.does.drives.lines
           t.does.drives.words t.does.drives.bytes h.machine.lanes;
-      served = few_still b.machine.moment.steps (b.machine.moment.steps + 1) a.machine.drivers.stores.served
-          (omega arith)
-          (subst (λ (s : StoredSlots). All (λ count. count ≤ b.machine.moment.steps) s.served) (sym t.does.drives.bytes)
-          h.machine.served);
+      served = rw t.does.drives.bytes (few_still b.machine.moment.steps (b.machine.moment.steps + 1)
+          b.machine.drivers.stores.served (omega arith) h.machine.served);
       steps = omega (arith, below);
       time = omega (arith, h.machine.time);
       calm = quiet;
       alarms = tell;
     };
-    seated = still_seated slot b.machine.home a.machine.home b.processes.items a.processes.items t.at
-        b.machine.moment.steps t.leaves.seated h.seated;
-    owns = as_many_owns slot b.machine.home a.machine.home b.processes.items a.processes.items t.at ∙ h.owns
-        ∙ as_many slot b.machine.home a.machine.home b.processes.items a.processes.items t.at;
-    few = omega (arith, as_many slot b.machine.home a.machine.home b.processes.items a.processes.items t.at, h.few);
+    seated = still_seated t.at b.machine.moment.steps 1 t.leaves.seated h.seated;
+    owns = owns_after t.at h.owns;
+    few = omega (arith, as_many t.at, h.few);
     ready = turns;
     slice = h.slice;
     used = h.used;

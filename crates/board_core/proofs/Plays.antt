@@ -21,7 +21,7 @@ use Rattle.kernel_model.specs.Shown.{shown_by}
 use Rattle.kernel_model.proofs.Labels.{shown_by-printed}
 use Rattle.kernel_model.specs.Replay.{after_all}
 use Rattle.kernel_model.specs.Choices.{Throughout, are_ready, labels_of_all, printed_by_all}
-use Rattle.board_core.specs.Plays.{FailedAfter, ChoicesMade, PlayedAll, StoppedAt}
+use Rattle.board_core.specs.Plays.{FailedAfter, ChoicesMade, PlayedAll, StoppedAt, playing}
 
 -- a choice more, after others
 after-more : (w : World) (cs : List Choice) (c : Choice) → after_all w (cs ++ c ∷ []) ≡ after (after_all w cs) c
@@ -118,7 +118,8 @@ module _ {K : Type 0} {tells : K → SinkFacts} {old new : World} {choices : Lis
     -- the sink failed after it
     pub failed : WritesCompose tells → (then : World) (later : K) (step : Emit) → is_ready new c ≡ true
         → then ≡ after new c → step ≡ shown_by (labels new c) → IsAccountedFor new c
-        → WrotePart tells now later step.printed.items → FailedAfter tells old then choices out later
+        → WrotePart tells now later step.printed.items
+        → FailedAfter tells choices (playing old out) (playing then later)
     failed law then later step r e s one w = record {
       before = i;
       within = h;
@@ -139,7 +140,7 @@ module _ {K : Type 0} {tells : K → SinkFacts} {old new : World} {choices : Lis
     }
 
     -- it was not ready
-    pub stopped : is_ready new c ≡ false → StoppedAt tells old new choices out now i
+    pub stopped : is_ready new c ≡ false → StoppedAt tells choices (playing old out) (playing new now) i
     stopped r = record {
       choice = c;
       there = slice_get-get_or choices i c h ∙ ap Some is;
@@ -149,7 +150,7 @@ module _ {K : Type 0} {tells : K → SinkFacts} {old new : World} {choices : Lis
     }
 
   -- all were made
-  pub whole : length choices ≤ i → PlayedAll tells old new choices out now
+  pub whole : length choices ≤ i → PlayedAll tells choices (playing old out) (playing new now)
   whole h =
       let all : take i choices ≡ choices = take_all i choices h in
       record {

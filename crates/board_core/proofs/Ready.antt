@@ -34,10 +34,9 @@ use Rattle.std.proofs.lemmas.List.Elements.{All-weaker}
 use Rattle.board_drivers.specs.declared.drivers.Drivers.{Drivers}
 use Rattle.board_drivers.specs.declared.moment.Moment.{Moment}
 use Rattle.board_drivers.specs.declared.served.Served.{Served}
-use Rattle.board_core.specs.Makes.{MakesStep, ready_in}
+use Rattle.board_core.specs.Makes.{MakesStep, ready_in, showing}
 use Rattle.board_core.specs.Shows.{IsBoard, residents, world_of}
-use Rattle.board_core.proofs.Boards.{has_storage}
-use Rattle.board_drivers.proofs.Records.{owns_shown}
+use Rattle.board_core.proofs.Boards.{owns_in_world}
 
 six : {event alarm uart receive random store e a u v r s : Bool} → event ≡ e → alarm ≡ a → uart ≡ u → receive ≡ v
     → random ≡ r → store ≡ s → event ∷ alarm ∷ uart ∷ receive ∷ random ∷ store ∷ [] ≡ e ∷ a ∷ u ∷ v ∷ r ∷ s ∷ []
@@ -53,30 +52,21 @@ calm_ready m owns d calm =
 pub ready_at : (ready : Dev → Bool) (device : Dev)
     → ready device ≡ place_is_ready (map ready device_order) (device_place device)
 ready_at ready dev.Event = refl
-ready_at ready dev.Alarm = refl
-ready_at ready dev.Uart = refl
-ready_at ready dev.Receive = refl
-ready_at ready dev.Random = refl
-ready_at ready dev.Store = refl
+ready_at ready device = refl
 
-module _ (b : BoardState) (board : IsBoard b) where
-  -- what the owns of the world that a board shows are
-  pub owns_in_world : owns_in (world_of b) ≡ b.machine.home.owns
-  owns_in_world =
-      owns_shown b.machine.home.flash b.machine.drivers.buttons.pressed b.processes.items b.machine.home.owns
-      b.machine.drivers.stores.slots board.owns (has_storage b board)
-
+module _ {b : BoardState} (board : IsBoard b) where
   -- what there is to do for the devices, for those who are served
   pub work_shown : (served : Served) → work_of_served b.machine.moment served b.machine.home.owns b.machine.drivers
       ≡ work_at served.only b.machine.moment.time (now_in (world_of b)) (owns_in (world_of b)) (world_of b).devices
   work_shown served =
-      ap (λ (owns : List Own). work_of_served b.machine.moment served owns b.machine.drivers) (sym owns_in_world)
+      ap (λ (owns : List Own). work_of_served b.machine.moment served owns b.machine.drivers)
+      (sym (owns_in_world board))
 
   -- when the alarm of the process in a slot becomes due
   pub due_shown : (slot : ℕ) → due_time_for b.machine.moment (record { only = Some slot }) b.machine.home.owns
       ≡ due_time (world_of b) slot
   due_shown slot =
-      ap (due_time_for b.machine.moment (record { only = Some slot })) (sym owns_in_world)
+      ap (due_time_for b.machine.moment (record { only = Some slot })) (sym (owns_in_world board))
 
   -- the same by the ticks that are left
   pub due_by : (slot tick : ℕ) (left : Option ℕ)
@@ -90,11 +80,12 @@ module _ (b : BoardState) (board : IsBoard b) where
 
   -- and for those who are served then
   pub next_shown : (work_then b.machine.moment b.machine.home.owns b.machine.drivers).next ≡ (work_of (world_of b)).next
-  next_shown = ap (λ (owns : List Own). (work_then b.machine.moment owns b.machine.drivers).next) (sym owns_in_world)
+  next_shown =
+      ap (λ (owns : List Own). (work_then b.machine.moment owns b.machine.drivers).next) (sym (owns_in_world board))
 
   -- which device steps are ready
   pub devices_shown : ready_in b.machine.moment b.machine.home.owns b.machine.drivers ≡ ready_devices (world_of b)
-  devices_shown = ap (λ (owns : List Own). ready_in b.machine.moment owns b.machine.drivers) (sym owns_in_world)
+  devices_shown = ap (λ (owns : List Own). ready_in b.machine.moment owns b.machine.drivers) (sym (owns_in_world board))
 
   -- as long as it is calm no device step is ready
   pub calm_shown : IsCalmAt b.machine.moment.settings.start b.machine.moment.window b.machine.moment.time
@@ -159,12 +150,12 @@ passed_board law b n small below h =
 -- the world after so many ticks
 pub passes : (b : BoardState) (w : World) (ticks n : ℕ) (before after_it : Emit) → world_of b ≡ w → n ≡ ticks
     → IsTrue (is_ready w (Pass ticks)) → after_it ≡ nothing
-    → MakesStep (Pass ticks) w (world_of
+    → MakesStep (Pass ticks) (showing w before) (showing (world_of
     (record b {
       machine = record b.machine {
         moment = record b.machine.moment { time = b.machine.moment.time + n; steps = b.machine.moment.steps + 1 };
       };
-    })) before after_it
+    })) after_it)
     (Ok tt)
 unfolding carried_out shown_by
 passes b w ticks n before after_it view is ready hidden =

@@ -9,17 +9,16 @@ use Rattle.kernel_model.specs.Accounts.{IsAccountedFor}
 use Rattle.kernel_model.specs.Replay.{RecordIsReplay}
 use Rattle.kernel_model.specs.World.{World, is_ready, may_be_made}
 use Rattle.board_opening.proofs.Alone.{step_replayed}
-use Rattle.board_core.specs.Makes.{MakesStep, Steps}
+use Rattle.board_core.specs.Makes.{MakesStep, Showing, Steps, showing}
 use Rattle.board_core.proofs.Devices.{refused_so}
 
 -- of a choice that is known, which a board makes or refuses
-pub steps_so : {old new : World} {choice known : Choice} {before after_it : Emit} {result : Result Unit NotReady}
-    → RecordIsReplay → IsAccountedFor old choice → choice ≡ known → MakesStep known old new before after_it result
-    → Steps choice old new before after_it result
-steps_so {old} {new} {choice} {known} {before} {after_it} {result} law accounted is makes = record {
-  makes = subst (λ (c : Choice). MakesStep c old new before after_it result) (sym is) makes;
+pub steps_so : {old new : Showing} {choice known : Choice} {result : Result Unit NotReady} → RecordIsReplay
+    → IsAccountedFor old.world choice → choice ≡ known → MakesStep known old new result → Steps choice old new result
+steps_so {old} {new} {choice} {known} {result} law accounted is makes = record {
+  makes = subst (λ (c : Choice). MakesStep c old new result) (sym is) makes;
   accounted = accounted;
-  records = step_replayed old new choice known result law is makes.ok;
+  records = step_replayed old.world new.world choice known result law is makes.ok;
 }
 
 -- at the limit of steps none is ready
@@ -28,7 +27,6 @@ at_limit w choice h = ap (λ (b : Bool). b && may_be_made w choice) (le-ltb w.cl
 
 -- so each is refused there
 pub refused_at_limit : {u w : World} {choice : Choice} {emit : Emit} → RecordIsReplay → IsAccountedFor w choice → u ≡ w
-    → STEP_LIMIT ≤ u.clock.steps → Steps choice w w emit emit (Err (record {}))
+    → STEP_LIMIT ≤ u.clock.steps → Steps choice (showing w emit) (showing w emit) (Err (record {}))
 refused_at_limit {u} {w} {choice} {emit} law accounted is h =
-    steps_so law accounted refl (refused_so w w w choice emit refl refl
-    (at_limit w choice (subst (λ (x : World). STEP_LIMIT ≤ x.clock.steps) is h)))
+    steps_so law accounted refl (refused_so refl refl (at_limit w choice (rw is at h)))

@@ -3,7 +3,7 @@
 -- way, up to the calm's end; so the slot has each next turn, in its slice or beyond it where it is alone, and the laws
 -- of the round robin make a stretch of the turns.
 use Rattle.board_devices.specs.Clock.{clock_at}
-use Rattle.alarm_capsule.proofs.KeptTimes.{all_later, kept_tell}
+use Rattle.alarm_capsule.proofs.KeptTimes.{all_later}
 use Rattle.driver_model.specs.Laws.{TimeBringsNearer}
 use Rattle.std.proofs.Common.{◌≡◌, ℕ, zero, suc, ◌+◌, ◌-◌, ◌%◌, ◌<◌, ◌≤◌, Bool, true, false, List, [], ◌∷◌, length, map}
 use Rattle.std.proofs.Common.{◌||◌, cond, find, is_some, slice_get, slice_set, All, Option, None, Some, refl, sym, ap}
@@ -27,10 +27,9 @@ use Rattle.tk_base.specs.declared.process.Choice.TheVariants.{Run, Device, Pass}
 use Rattle.tk_base.specs.declared.process.Dev.{Dev}
 use Rattle.partition_turns.specs.Windows.{window_end}
 use Rattle.partition_turns.proofs.Found.{find_range-none}
-use Rattle.turn_scheduler.specs.Parts.{place_is_ready}
 use Rattle.turn_scheduler.specs.RoundRobin.{choice, device_order, next_slot, ready_device, used_after}
 use Rattle.process_record.specs.declared.process.State.{State}
-use Rattle.process_record.specs.declared.process.State.TheVariants.{Running, Yielded, Faulted, Terminated}
+use Rattle.process_record.specs.declared.process.State.TheVariants.{Running}
 use Rattle.driver_model.specs.Lines.{IsWithin}
 use Rattle.grant_enter.specs.Homes.{Homes, nobody}
 use Rattle.kernel_model.specs.declared.settings.Settings.{Settings}
@@ -47,7 +46,6 @@ use Rattle.kernel_model.specs.Parts.{work_of}
 use Rattle.kernel_model.specs.Named.{can_run}
 use Rattle.kernel_model.proofs.Places.{slice_get-set_other}
 use Rattle.kernel_laws.specs.Alone.{IsAlone, OneAloneGoesOn, OneAloneIsNext, used_through}
-use Rattle.kernel_laws.proofs.OneRun.{told_ready}
 use Rattle.kernel_laws.proofs.Turns.{turn_is_free, turn_is_let, turn_is_ready}
 use Rattle.board_drivers.specs.Calm.{AlarmsTell, HasCome, IsCalm, ServesNobody, only_of, work_then}
 use Rattle.board_core.specs.declared.state.BoardState.{BoardState}
@@ -64,15 +62,17 @@ use Rattle.board_turns.specs.Quiet.{Quietly}
 use Rattle.board_turns.specs.Turning.{StepsInSlot}
 use Rattle.board_drivers.proofs.Calm.{kept_calm, later_calm}
 use Rattle.board_drivers.proofs.Lanes.{later_free}
-use Rattle.board_core.proofs.Changes.{as_many, as_many_owns, found, kept_records, still_seated_on}
-use Rattle.board_drivers.proofs.Records.{beside, bytes_of}
+use Rattle.board_core.proofs.Changes.{as_many, found, kept_records, lost_before, owns_after, still_lost, still_seated}
+use Rattle.board_drivers.proofs.Records.{bytes_of}
 use Rattle.board_core.proofs.Changes.{resident_was, residents_after, with_step}
-use Rattle.board_core.proofs.Devices.{lost_where, still_lost_on}
 use Rattle.board_drivers.proofs.Lines.{line_after}
 use Rattle.kernel_calls.proofs.Pairs.{get-firsts}
 use Rattle.board_drivers.proofs.Records.{reads_shown}
-use Rattle.board_core.proofs.Boards.{next_in_calm, resident_at, turns_shown}
-use Rattle.board_core.proofs.Ready.{calm_ready, devices_shown, next_shown, owns_in_world}
+use Rattle.board_core.proofs.Boards.{has_storage, next_in_calm, owns_in_world, run_shown}
+use Rattle.board_core.proofs.SameAlarms.{same_alarms_calm, same_alarms_tell}
+use Rattle.driver_model.specs.Alarm.{alarm_in}
+use Rattle.kernel_alarms.specs.Acting.{HasSameAlarm}
+use Rattle.board_core.proofs.Ready.{calm_ready, devices_shown, next_shown}
 use Rattle.board_turns.proofs.Quiet.{own_after, none_more, kept_own}
 use Rattle.board_turns.specs.declared.machine.Machine.{Machine}
 use Rattle.upcall_queue.specs.Pending.{due}
@@ -103,13 +103,8 @@ ram_driven settings time later slot owns d own ram was passes h = record {
 served_by_none : (a b c d e f : Bool) → ready_device (a ∷ b ∷ c ∷ d ∷ e ∷ f ∷ []) ≡ None
     → (d ≡ false) × (e ≡ false) × (f ≡ false)
 unfolding ready_device
-served_by_none true b c d e f none = cc
-served_by_none false true c d e f none = cc
-served_by_none false false true d e f none = cc
-served_by_none false false false true e f none = cc
-served_by_none false false false false true f none = cc
-served_by_none false false false false false true none = cc
 served_by_none false false false false false false none = (refl, refl, refl)
+served_by_none a b c d e f none = cc
 
 -- the moment some turns later
 abbrev pub turns_later : ℕ → Moment → Moment
@@ -165,8 +160,8 @@ chosen_slot w slot f =
         → option_or (option_map Device o) (option_or (option_map Run q) (option_map (λ n. Pass (n - w.clock.time)) at))
         ≡ Some (Run slot)
         → next_slot (ready_slots w) w.present.slot w.present.used w.pace.slice ≡ Some slot
-    by_both (Some device) q at e h = cc
     by_both None (Some other) at e h = let same : other ≡ slot = cc in e ∙ ap Some same
+    by_both (Some device) q at e h = cc
     by_both None None (Some n) e h = cc
     by_both None None None e h = cc
 
@@ -211,19 +206,23 @@ module _ (b : BoardState) (board : IsBoard b) where
       sym (slice_get-map (λ (r : Record). r.process) (world_of b).records slot)
       ∙ ap (λ (ps : List Process). slice_get ps slot)
       (reads_shown (λ (r : Record). r.process) (λ (r : Resident). r.0) b.machine.home.flash
-      b.machine.drivers.buttons.pressed (residents b) b.machine.drivers.stores.slots
-      (beside b.processes.items b.machine.home.owns b.machine.drivers.stores.slots
-      board.owns board.few
-      board.machine.driven.slots) (λ p. refl))
+      b.machine.drivers.buttons.pressed (residents b) b.machine.drivers.stores.slots (has_storage board) (λ p. refl))
       ∙ slice_get-map (λ (r : Resident). r.0) (residents b) slot
       ∙ sym (get-firsts b.processes.items b.machine.home.owns slot board.owns)
 
+  -- a slot that has a record is one of the slots
+  slot_within : (slot : ℕ) (r : Record) → slice_get (world_of b).records slot ≡ Some r → slot < SLOT_COUNT
+  slot_within slot r is =
+      omega (
+        arith,
+        board.few,
+        slice_get_within b.processes.items slot r.process (sym (process_there slot)
+            ∙ ap (option_map (λ (r : Record). r.process)) is),
+      )
+
   -- what is kept of which slots can have a turn, in the world
   table_shown : (slot : ℕ) → slice_index_or b.machine.ready slot false ≡ can_run (slice_get (world_of b).records slot)
-  table_shown slot =
-      board.ready slot ∙ resident_at (residents b) slot
-      ∙ ap (λ (table : List Bool). place_is_ready table slot) (sym (turns_shown b board))
-      ∙ told_ready (world_of b).records slot
+  table_shown slot = board.ready slot ∙ sym (run_shown board slot)
 
   -- where one slot can, and it has the next turn, no other can
   pub alone_shown : (slot : ℕ) → next (world_of b) ≡ Some (Run slot) → (how_many b.machine.ready == 1) ≡ true
@@ -235,13 +234,7 @@ module _ (b : BoardState) (board : IsBoard b) where
   -- while a stretch goes on something is left to do
   left_there : GoesOn (world_of b) → is_left (world_of b) ≡ true
   left_there g =
-      something_left (world_of b) g.slot
-      (omega (
-        arith,
-        board.few,
-        slice_get_within b.processes.items g.slot g.before.process (sym (process_there g.slot)
-            ∙ ap (option_map (λ (r : Record). r.process)) g.is_there),
-      ))
+      something_left (world_of b) g.slot (slot_within g.slot g.before g.is_there)
       (turn_is_ready (world_of b) g.slot g.chosen)
 
   -- a board of which nobody is served at once, and no device step is to come by now, has one that is ready
@@ -250,8 +243,8 @@ module _ (b : BoardState) (board : IsBoard b) where
       → HasCome b.machine.moment.time (work_then b.machine.moment b.machine.home.owns b.machine.drivers).next) → ⊥
   nothing_comes g law comes =
       let none = chosen_in_calm (world_of b) g.slot g.chosen in
-      let idle = served_by_none _ _ _ _ _ _ (ap ready_device (devices_shown b board) ∙ none) in
-      not_both b.machine.moment.window _ (sym (next_shown b board)) (law (world_of b) none)
+      let idle = served_by_none _ _ _ _ _ _ (ap ready_device (devices_shown board) ∙ none) in
+      not_both b.machine.moment.window _ (sym (next_shown board)) (law (world_of b) none)
       (comes (record { receive = idle.0; random = idle.1; store = idle.2 }))
     where
       not_yet : (at : Option ℕ) → Lies b.machine.moment.time at → HasCome b.machine.moment.time at → ⊥
@@ -287,10 +280,6 @@ module _ (b : BoardState) (board : IsBoard b) where
 
   module _ (slot k most used : ℕ) {end : TurnEnd} (present : Option ℕ) (x : Machine) (processes : List Process)
       (q : StepsInSlot k slot b.machine x b.processes.items processes (Quietly k most end b.machine.home.flash)) where
-    few : length (residents b) ≤ length b.machine.drivers.stores.slots
-    few = beside b.processes.items b.machine.home.owns b.machine.drivers.stores.slots board.owns board.few
-        board.machine.driven.slots
-
     abbrev pressed : ℕ
     pressed = b.machine.drivers.buttons.pressed
 
@@ -305,15 +294,15 @@ module _ (b : BoardState) (board : IsBoard b) where
     after = recorded b (q.at.after, bytes_of b.machine.drivers.stores.slots slot)
 
     was_there : slice_get (world_of b).records slot ≡ Some before
-    was_there = found slot b.machine.home x.home b.processes.items processes q.at b.machine.drivers.buttons.pressed
-        b.machine.drivers.stores.slots few
+    was_there = found q.at b.machine.drivers.buttons.pressed
+        b.machine.drivers.stores.slots (has_storage board)
 
     -- what is each process's own on the way
     owns_then : (j : ℕ)
         → owns_in (after_stretch j (world_of b) slot (after_instructions j before))
         ≡ slice_set b.machine.home.owns slot (after_instructions j before).own
     owns_then j = map-set (λ (r : Record). r.own) (world_of b).records slot (after_instructions j before)
-        ∙ ap (λ (owns : List Own). slice_set owns slot (after_instructions j before).own) (owns_in_world b board)
+        ∙ ap (λ (owns : List Own). slice_set owns slot (after_instructions j before).own) (owns_in_world board)
 
     -- on the way no device step is ready
     none_acts : b.machine.moment.time + k ≤ b.machine.calm → NoneActs k (world_of b) slot before
@@ -349,7 +338,7 @@ module _ (b : BoardState) (board : IsBoard b) where
     world_then = world_after_ticks k
 
     records_then : world_then.records ≡ slice_set (world_of b).records slot after
-    records_then = kept_records slot b.machine.home x.home b.processes.items processes q.at
+    records_then = kept_records q.at
         b.machine.drivers.buttons.pressed b.machine.drivers.stores.slots
 
     -- the record there after the turns
@@ -371,9 +360,7 @@ module _ (b : BoardState) (board : IsBoard b) where
 
     state_is : (s : State) → is_running s ≡ true → s ≡ Running
     state_is Running e = refl
-    state_is Yielded e = cc
-    state_is Faulted e = cc
-    state_is (Terminated code) e = cc
+    state_is s e = cc
 
     -- no turns leave the world as it was
     none_left : k ≡ 0 → present ≡ b.present.slot → used ≡ b.present.used → world_then ≡ world_of b
@@ -406,12 +393,7 @@ module _ (b : BoardState) (board : IsBoard b) where
       free = turn_is_free (world_of b) slot before was_there f
 
       within : slot < SLOT_COUNT
-      within = omega (
-        arith,
-        board.few,
-        slice_get_within b.processes.items slot before.process (sym (process_there slot)
-            ∙ ap (option_map (λ (r : Record). r.process)) was_there),
-      )
+      within = slot_within slot before was_there
 
       -- in one slice each turn counts
       in_slice : last ≡ b.present.slice → 0 < k → used ≡ first + k
@@ -565,55 +547,40 @@ module _ (b : BoardState) (board : IsBoard b) where
     kept : q.at.after.1 ≡ record q.at.before.1 { ram = q.at.after.1.ram }
     kept = kept_own k most end b.machine.home.flash q.at.before q.at.after q.does
 
-    many : length b.processes.items ≡ length processes
-    many = as_many slot b.machine.home x.home b.processes.items processes q.at
-
     -- what always holds of a board holds after them
     pub still : StillHolds b k x.home processes
     still = record {
-      seated = still_seated_on slot b.machine.home x.home b.processes.items processes q.at b.machine.moment.steps k
-          q.leaves.seated board.seated;
-      lost = still_lost_on b.machine.moment.steps k slot b.machine.home x.home q.at.after.1 q.at.own_is
+      seated = still_seated q.at b.machine.moment.steps k q.leaves.seated board.seated;
+      lost = still_lost q.at b.machine.moment.steps k
           (omega (
             arith,
             ap (λ (o : Own). o.inbox.dropped) kept,
-            lost_where b.machine.moment.steps b.machine.home.owns slot q.at.before.1 q.at.own_was board.machine.lost,
+            lost_before q.at b.machine.moment.steps board.machine.lost,
           )) board.machine.lost;
-      owns = as_many_owns slot b.machine.home x.home b.processes.items processes q.at ∙ board.owns ∙ many;
-      few = omega (arith, many, board.few);
-      driven = subst (λ (h : Homes). AreDriven b.machine.moment.settings (b.machine.moment.time + k) h.owns
-          b.machine.drivers) (sym q.at.own_is)
-          (subst (λ (o : Own). AreDriven b.machine.moment.settings (b.machine.moment.time + k)
-          (slice_set b.machine.home.owns slot o) b.machine.drivers)
-          (sym kept)
+      owns = owns_after q.at board.owns;
+      few = omega (arith, as_many q.at, board.few);
+      driven = rw q.at.own_is (subst (λ (o : Own). AreDriven b.machine.moment.settings (b.machine.moment.time + k)
+          (slice_set b.machine.home.owns slot o) b.machine.drivers) (sym kept)
           (ram_driven b.machine.moment.settings b.machine.moment.time (b.machine.moment.time + k) slot
-          b.machine.home.owns b.machine.drivers q.at.before.1
-          q.at.after.1.ram q.at.own_was (omega arith) board.machine.driven));
-      calm = subst (λ (h : Homes). IsCalm b.machine.moment.settings.start b.machine.moment.window
-          (b.machine.moment.time + k) b.machine.calm h.owns
-          b.machine.drivers)
-          (sym q.at.own_is)
-          (kept_calm b.machine.moment.settings.start b.machine.moment.window (b.machine.moment.time + k) b.machine.calm
-          slot b.machine.home.owns
-          b.machine.drivers q.at.before.1
-          q.at.after.1 q.at.own_was (ap (λ (o : Own). o.grants) kept) (ap (λ (o : Own). o.lives) kept)
+          b.machine.home.owns b.machine.drivers q.at.before.1 q.at.after.1.ram q.at.own_was (omega arith)
+          board.machine.driven));
+      calm = same_alarms_calm q.at same_alarm b.machine.moment.settings.start b.machine.moment.window
+          (b.machine.moment.time + k) b.machine.calm b.machine.drivers
           (later_calm b.machine.moment.settings.start b.machine.moment.window b.machine.moment.time
-          (b.machine.moment.time + k) b.machine.calm
-          b.machine.home.owns b.machine.drivers
-          (omega arith) board.machine.calm));
+          (b.machine.moment.time + k) b.machine.calm b.machine.home.owns b.machine.drivers (omega arith)
+          board.machine.calm);
       alarms = λ law.
-          subst (λ (h : Homes). AlarmsTell (turns_later k b.machine.moment) b.machine.alarms h.owns) (sym q.at.own_is)
-          (kept_tell (clock_at b.machine.moment.settings.start (b.machine.moment.time + k))
-          (b.machine.moment.time + k) slot b.machine.alarms b.machine.home.owns q.at.before.1 q.at.after.1 q.at.own_was
-          (ap (λ (o : Own). o.grants) kept) (ap (λ (o : Own). o.lives) kept)
-          (all_later law b.machine.moment.settings.start b.machine.moment.time k b.machine.alarms b.machine.home.owns
-          board.machine.alarms));
-      ready = subst (TurnsTell b.machine.ready)
-          (sym (residents_after slot b.machine.home x.home b.processes.items processes q.at))
-          (still_ready slot b.machine.ready (residents b) q.at.before q.at.after
-          (resident_was slot b.machine.home x.home b.processes.items processes q.at) turns_as_before board.ready);
+          same_alarms_tell q.at same_alarm (clock_at b.machine.moment.settings.start (b.machine.moment.time + k))
+          (b.machine.moment.time + k) b.machine.alarms (all_later law b.machine.moment.settings.start
+          b.machine.moment.time k b.machine.alarms b.machine.home.owns board.machine.alarms);
+      ready = rw (residents_after q.at) (still_ready slot b.machine.ready (residents b) q.at.before q.at.after
+          (resident_was q.at) turns_as_before board.ready);
     }
       where
+        -- instructions leave grants and lives, so also the alarm
+        same_alarm : HasSameAlarm q.at.before.1 q.at.after.1
+        same_alarm = (ap alarm_in kept, ap (λ (o : Own). o.lives) kept)
+
         left : record_of b.machine.home.flash 0 (q.at.after, [])
             ≡ after_instructions k (record_of b.machine.home.flash 0 (q.at.before, []))
         left = q.does.leads 0 []

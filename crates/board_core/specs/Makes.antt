@@ -18,22 +18,29 @@ use Rattle.board_drivers.specs.declared.drivers.Drivers.{Drivers}
 use Rattle.board_drivers.specs.declared.moment.Moment.{Moment}
 use Rattle.board_drivers.specs.Calm.{work_then}
 
+-- what a board shows: its world, and what its last step told
+pub record Showing : Type 0 where
+  pub world : World
+  pub emit : Emit
+
+-- a world, and what the step to it told
+abbrev pub showing : World → Emit → Showing
+showing w e = record { world = w; emit = e }
+
 -- A choice that may be made is made: the world is the next one, and what it tells is shown. Any other is refused, and
 -- nothing changes.
-pub record MakesStep (choice : Choice) (old new : World) (before after_it : Emit)
-    (result : Result Unit NotReady) : Type 0 where
-  pub ready : IsOk result ↔ IsTrue (is_ready old choice)
-  pub ok : OnOk result (new ≡ after old choice)
-  pub shown : OnOk result (after_it ≡ shown_by (labels old choice))
-  pub refused : OnErr result ((new ≡ old) × (after_it ≡ before))
+pub record MakesStep (choice : Choice) (old new : Showing) (result : Result Unit NotReady) : Type 0 where
+  pub ready : IsOk result ↔ IsTrue (is_ready old.world choice)
+  pub ok : OnOk result (new.world ≡ after old.world choice)
+  pub shown : OnOk result (new.emit ≡ shown_by (labels old.world choice))
+  pub refused : OnErr result ((new.world ≡ old.world) × (new.emit ≡ old.emit))
 
 -- So a board steps; made or refused, the step is accounted for, and where it is made each record is the replay of what
 -- its process did in it, or was told.
-pub record Steps (choice : Choice) (old new : World) (before after_it : Emit)
-    (result : Result Unit NotReady) : Type 0 where
-  pub makes : MakesStep choice old new before after_it result
-  pub accounted : IsAccountedFor old choice
-  pub records : OnOk result (IsReplayed old new (choice ∷ []))
+pub record Steps (choice : Choice) (old new : Showing) (result : Result Unit NotReady) : Type 0 where
+  pub makes : MakesStep choice old new result
+  pub accounted : IsAccountedFor old.world choice
+  pub records : OnOk result (IsReplayed old.world new.world (choice ∷ []))
 
 -- what a step shows that printed bytes for a slot's process
 abbrev pub shown_printed : ℕ → List ℕ → Emit

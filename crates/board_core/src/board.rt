@@ -15,7 +15,7 @@ ghost use Rattle.board_opening.specs.Opening.{opening};
 ghost use Rattle.board_devices.specs.Arriving.{is_time};
 ghost use Rattle.board_drivers.specs.Tells.{tells_one};
 ghost use Rattle.board_core.specs.KnownEnds.{IsKnownOfChoice};
-ghost use Rattle.board_core.specs.Makes.{MakesStep, Steps, act_meant};
+ghost use Rattle.board_core.specs.Makes.{MakesStep, Steps, act_meant, showing};
 
 use crate::left::time_ahead;
 use crate::lines::summary;
@@ -166,7 +166,7 @@ impl Board {
     #[inline(never)]
     fn arrive(&mut self, emit: &mut Emit) -> Result<(), NotReady>
         requires { self.old.clock.steps < STEP_LIMIT }
-        ensures { MakesStep (Device Event) self.old self.new emit.old emit.new result }
+        ensures { MakesStep (Device Event) (showing self.old emit.old) (showing self.new emit.new) result }
     {
         devices_answer_one();
         lines_follow_answers();
@@ -199,7 +199,7 @@ impl Board {
     fn tell(&mut self, device: Dev, emit: &mut Emit) -> Result<(), NotReady>
         requires tells { tells_one device ≡ true }
         requires limit { self.old.clock.steps < STEP_LIMIT }
-        ensures { MakesStep (Device device) self.old self.new emit.old emit.new result }
+        ensures { MakesStep (Device device) (showing self.old emit.old) (showing self.new emit.new) result }
     {
         devices_answer_one();
         answers_leave_alarms();
@@ -229,7 +229,7 @@ impl Board {
     #[inline(never)]
     fn pass(&mut self, ticks: u32, emit: &mut Emit) -> Result<(), NotReady>
         requires { self.old.clock.steps < STEP_LIMIT }
-        ensures { MakesStep (Pass ticks) self.old self.new emit.old emit.new result }
+        ensures { MakesStep (Pass ticks) (showing self.old emit.old) (showing self.new emit.new) result }
     {
         if !self.may_pass(ticks) {
             return Err(NotReady);
@@ -268,7 +268,7 @@ impl Board {
     /// on it, and as it was where the step is none of these.
     #[inline(always)]
     pub fn step(&mut self, choice: Choice, emit: &mut Emit) -> Result<(), NotReady>
-        ensures { Steps choice self.old self.new emit.old emit.new result }
+        ensures { Steps choice (showing self.old emit.old) (showing self.new emit.new) result }
     {
         self.step_with_end(choice, TurnEnd::Went, emit)
     }
@@ -285,7 +285,7 @@ impl Board {
         emit: &mut Emit,
     ) -> Result<(), NotReady>
         requires { IsKnownOfChoice self.old end choice }
-        ensures { Steps choice self.old self.new emit.old emit.new result }
+        ensures { Steps choice (showing self.old emit.old) (showing self.new emit.new) result }
     {
         self.owns_are_whole();
         steps_are_accounted_for();

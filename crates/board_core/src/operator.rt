@@ -5,7 +5,7 @@ ghost use Rattle.tk_base.specs.declared.process.Choice.TheVariants.{Device};
 ghost use Rattle.tk_base.specs.declared.process.Dev.TheVariants.{Event};
 ghost use Rattle.board_devices.specs.Arriving.{is_time};
 ghost use Rattle.kernel_model.specs.World.{listed};
-ghost use Rattle.board_core.specs.Makes.{MakesStep, act_meant};
+ghost use Rattle.board_core.specs.Makes.{MakesStep, act_meant, showing};
 ghost use Rattle.board_core.specs.Shows.{IsBoard, world_of};
 
 use crate::lines::summary;
@@ -58,8 +58,8 @@ pub(crate) fn operate(
         ≡ true }
     requires meant { act_meant (world_of state.old) ≡ Some (slot, verb) }
     ensures board { IsBoard state.new }
-    ensures step { MakesStep (Device Event) (world_of state.old) (world_of state.new) emit.old
-        emit.new result }
+    ensures step { MakesStep (Device Event) (showing (world_of state.old) emit.old)
+        (showing (world_of state.new) emit.new) result }
 {
     devices_answer_one();
     lines_follow_answers();

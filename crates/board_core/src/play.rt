@@ -1,6 +1,6 @@
 //! Choices from outside, one after another.
 ghost use Rattle.board_core.specs.Following.{ProcessesFollowTheirOwnEvents};
-ghost use Rattle.board_core.specs.Plays.{Plays};
+ghost use Rattle.board_core.specs.Plays.{Plays, playing};
 
 use crate::board::Board;
 use kernel_histories::each_edge_comes_once;
@@ -32,7 +32,8 @@ impl Board {
     /// that. No memory is taken. Clause `each` says of each process by itself what the choices lead to
     /// ([`processes_follow_their_own_events`]).
     pub fn play<K: Sink>(&mut self, choices: &[Choice], out: &mut K) -> Result<(), PlayEnd>
-        ensures plays { Plays K.tells self.old self.new choices.now out.old out.new result }
+        ensures plays { Plays K.tells choices.now (playing self.old out.old) (playing self.new out.new)
+            result }
         ensures each { ProcessesFollowTheirOwnEvents }
     {
         writes_compose::<K>();

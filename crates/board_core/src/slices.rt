@@ -64,7 +64,13 @@ impl PresentSlot {
             return;
         }
         self.slot = Some(slot);
-        self.used = (before + made - 1) % self.slice + 1;
+        let used = before + made;
+        if used <= self.slice {
+            // Mostly it is not over yet, and a division takes longer than this question.
+            self.used = used;
+            return;
+        }
+        self.used = (used - 1) % self.slice + 1;
     }
 
     /// A slot had a turn.

@@ -3,7 +3,7 @@ ghost use Rattle.std.specs.Prelude.{◌≡◌, ◌<◌};
 ghost use Rattle.tk_base.specs.declared.limits.TheConstants.{STEP_LIMIT};
 ghost use Rattle.tk_base.specs.declared.process.Choice.TheVariants.{Run};
 ghost use Rattle.board_core.specs.KnownEnds.{IsKnownOfChoice};
-ghost use Rattle.board_core.specs.Makes.{MakesStep};
+ghost use Rattle.board_core.specs.Makes.{MakesStep, showing};
 ghost use Rattle.board_core.specs.Shows.{IsBoard, world_of};
 
 use crate::shown::clear;
@@ -29,8 +29,8 @@ pub(crate) fn make_turn(
     requires limit { (world_of state.old).clock.steps < STEP_LIMIT }
     requires known { IsKnownOfChoice (world_of state.old) end (Run slot) }
     ensures board { IsBoard state.new }
-    ensures step { MakesStep (Run slot) (world_of state.old) (world_of state.new) emit.old emit.new
-        result }
+    ensures step { MakesStep (Run slot) (showing (world_of state.old) emit.old)
+        (showing (world_of state.new) emit.new) result }
 {
     grants_change_at_calls();
     turns_keep_lines();

@@ -5,7 +5,7 @@ use Rattle.std.proofs.Common.{◌≡◌, ℕ, not}
 use Rattle.std.proofs.Common.{List, [], slice_set, Option, None}
 use Rattle.std.proofs.Common.{slice_index_or}
 use Rattle.std.proofs.Common.{Some, Result, Ok, Err, is_ok, is_some, OnErr, refl, sym, ap}
-use Rattle.std.proofs.Common.{subst, ◌∙◌}
+use Rattle.std.proofs.Common.{◌∙◌}
 use Rattle.std.proofs.lemmas.List.{set-get_or}
 use Rattle.arrayvec.specs.ArrayVec.{ArrayVec}
 use Rattle.tk_base.specs.declared.process.Dev.{Dev}
@@ -45,20 +45,18 @@ use Rattle.board_drivers.proofs.Serving.{stores, serves_stored, serves_alarmed, 
 -- what a device did, by which device it is
 pub acted_by : (b : BoardParts) (device is : Dev) (o : Result Answer NotReady) (printed : List ℕ) (home : Homes)
     (d : Drivers) → device ≡ is → Acted b is o printed home d → Acted b device o printed home d
-acted_by b device is o printed home d e acted = subst (λ (x : Dev). Acted b x o printed home d) (sym e) acted
+acted_by b device is o printed home d e acted = rw e acted
 
 -- nothing was printed
 acted_silent : (b : BoardParts) (device : Dev) (o : Result Answer NotReady) (home : Homes) (d : Drivers)
     (printed : List ℕ)
     → printed ≡ [] → Acted b device o [] home d → Acted b device o printed home d
-acted_silent b device o home d printed empty acted =
-    subst (λ (xs : List ℕ). Acted b device o xs home d) (sym empty) acted
+acted_silent b device o home d printed empty acted = rw empty acted
 
 -- what holds of the slot that a board serves alone, and of its lane, holds of those that equal them
 at_lane : (P : Option ℕ → ℕ → Type 0) (b : BoardParts) (only : Option ℕ) (lane : ℕ) → only ≡ only_on b
     → lane ≡ lane_on b → P (only_on b) (lane_on b) → P only lane
-at_lane P b only lane is_only is_lane p =
-    subst (P only) (sym is_lane) (subst (λ (o : Option ℕ). P o (lane_on b)) (sym is_only) p)
+at_lane P b only lane is_only is_lane p = rw (is_lane, is_only) p
 
 -- What each device does where it is to act: it serves the first of those that wait, or may not act, and then nothing
 -- changes.
@@ -102,24 +100,14 @@ pub acts_sent : (b : BoardParts) (h : AreBoardParts b) (o : Result Answer NotRea
     → (only : Option ℕ) (lane : ℕ) (here : SerialLine) → only ≡ only_on b → lane ≡ lane_on b
     → here ≡ line_at lane b.drivers.uarts → ActsSent b o home capsule line before printed here only lane
 acts_sent b h o home capsule line printed lines events law lent before empty only lane here is_only is_lane is_here =
-    subst (λ (l : SerialLine). ActsSent b o home capsule line before printed l only lane) (sym is_here)
-    (at_lane (λ only lane. ActsSent b o home capsule line before printed (line_at lane b.drivers.uarts) only lane) b
-    only
-    lane is_only is_lane (λ can answers uart reads.
-    subst (λ (xs : List ProcessId). Acted b Uart o printed.items home (record b.drivers {
-      console = record { writes = capsule.writes; reads = xs };
-      uarts = with_line b line;
-    })) (sym reads)
-    (subst (λ (l : SerialLine). Acted b Uart o printed.items home (record b.drivers {
-      console = record { writes = capsule.writes; reads = b.drivers.console.reads };
-      uarts = with_line b l;
-    })) (sym uart)
-    (acts_on b h (sends b) before
+    rw is_here (at_lane (λ only lane. ActsSent b o home capsule line before printed (line_at lane b.drivers.uarts) only
+    lane) b only lane is_only is_lane (λ can answers uart reads.
+    rw (reads, uart) (acts_on b h (sends b) before
     (ap (λ (xs : List ℕ). record b.drivers { uarts = with_line b (sending_at b.moment.time xs (line_on b)) }) empty
     ∙ ap (λ (ls : List SerialLine). record b.drivers { uarts = ls })
     (set-get_or b.drivers.uarts (lane_on b) no_line))
     (serves_sent b h lines events law lent) o home capsule.writes printed
-    (can_send (only_on b) b.drivers.console.writes (line_on b) b.moment.time ∙ sym can) answers))))
+    (can_send (only_on b) b.drivers.console.writes (line_on b) b.moment.time ∙ sym can) answers)))
 
 abbrev ActsReceived : (b : BoardParts) (o : Result Answer NotReady) (home : Homes) (capsule : ConsoleCapsule)
     (line : SerialLine) (printed : List ℕ) → SerialLine → Option ℕ → ℕ → Type 0
@@ -138,19 +126,13 @@ pub acts_received : (b : BoardParts) (h : AreBoardParts b) (o : Result Answer No
     → (only : Option ℕ) (lane : ℕ) (here : SerialLine) → only ≡ only_on b → lane ≡ lane_on b
     → here ≡ line_at lane b.drivers.uarts → ActsReceived b o home capsule line printed here only lane
 acts_received b h o home capsule line lines events printed empty only lane here is_only is_lane is_here =
-    subst (λ (l : SerialLine). ActsReceived b o home capsule line printed l only lane) (sym is_here)
-    (at_lane (λ only lane. ActsReceived b o home capsule line printed (line_at lane b.drivers.uarts) only lane) b only
-    lane is_only is_lane (λ can answers writes.
-    acted_silent b Receive o home _ printed empty
-    (subst (λ (xs : List ProcessId). Acted b Receive o [] home (record b.drivers {
-      console = record { writes = xs; reads = capsule.reads };
-      uarts = with_line b line;
-    })) (sym writes)
-    (acts_on b h (receives b) (line_on b)
+    rw is_here (at_lane (λ only lane. ActsReceived b o home capsule line printed (line_at lane b.drivers.uarts) only
+    lane) b only lane is_only is_lane (λ can answers writes.
+    rw (empty, writes) (acts_on b h (receives b) (line_on b)
     (ap (λ (ls : List SerialLine). record b.drivers { uarts = ls })
     (set-get_or b.drivers.uarts (lane_on b) no_line))
     (serves_received b h lines events) o home capsule.reads line
-    (can_give (only_on b) b.drivers.console.reads (line_on b) ∙ sym can) answers))))
+    (can_give (only_on b) b.drivers.console.reads (line_on b) ∙ sym can) answers)))
 
 abbrev ActsDrawn : (b : BoardParts) (o : Result Answer NotReady) (home : Homes) (capsule : RandomCapsule)
     (words : List ℕ) (printed : List ℕ) → List ℕ → Option ℕ → ℕ → Type 0
@@ -168,12 +150,9 @@ pub acts_drawn : (b : BoardParts) (h : AreBoardParts b) (o : Result Answer NotRe
     → (only : Option ℕ) (lane : ℕ) (here : List ℕ) → only ≡ only_on b → lane ≡ lane_on b
     → here ≡ slice_index_or b.drivers.words lane [] → ActsDrawn b o home capsule words printed here only lane
 acts_drawn b h o home capsule words lines events printed empty only lane here is_only is_lane is_here =
-    subst (λ (ws : List ℕ). ActsDrawn b o home capsule words printed ws only lane) (sym is_here)
-    (at_lane (λ only lane. ActsDrawn b o home capsule words printed (slice_index_or b.drivers.words lane []) only lane)
-    b
-    only lane is_only is_lane (λ none answers.
-    acted_silent b Random o home _ printed empty
-    (acts_on b h (draws b) (words_on b)
+    rw is_here (at_lane (λ only lane. ActsDrawn b o home capsule words printed (slice_index_or b.drivers.words lane [])
+    only lane) b only lane is_only is_lane (λ none answers.
+    rw empty (acts_on b h (draws b) (words_on b)
     (ap (λ (ws : List (List ℕ)). record b.drivers { words = ws })
     (set-get_or b.drivers.words (lane_on b) []))
     (serves_drawn b h lines events) o home capsule.waiting words
@@ -194,8 +173,7 @@ pub acts_stored : (b : BoardParts) (h : AreBoardParts b) (o : Result Answer NotR
     → LinesFollowAnswers → ReadsOwnFlash → Lent b.home → (printed : List ℕ) → printed ≡ []
     → (only : Option ℕ) → only ≡ only_on b → ActsStored b o home capsule bytes printed only
 acts_stored b h o home capsule bytes lines law lent printed empty only is_only =
-    subst (ActsStored b o home capsule bytes printed) (sym is_only)
-    (λ none answers. acted_silent b Store o home _ printed empty
+    rw is_only (λ none answers. rw empty
     (acts_on b h (stores b) b.drivers.stores refl (serves_stored b h lines law lent)
     o home capsule.waiting bytes (waited_for (only_on b) (storage_to b.drivers.stores b.home) b.drivers.storage.waiting
     b.drivers.stores b.home o capsule.waiting bytes home none answers) answers))

@@ -1,10 +1,10 @@
 -- No device step is ready before the nearest time at which one becomes so, nor before the window's end, where nobody is
 -- served at once. Device by device: its test at a later time is false by that time alone, since what it has does not
 -- change. Time, a change of one own that leaves its alarm, and drivers of which nothing is asked keep the calm.
-use Rattle.std.proofs.Common.{zero, suc, ◌*◌, ◌/◌}
+use Rattle.std.proofs.Common.{zero, suc}
 use Rattle.std.proofs.Common.{◌≡◌, ℕ, ◌+◌, ◌-◌, ◌%◌, ◌^◌, ◌<◌, ◌≤◌, ◌==◌, Bool, true, false, cond, not, ◌&&◌, nat_le}
 use Rattle.std.proofs.Common.{if◌then◌else◌, List, [], ◌∷◌, length, map, find, slice_get, slice_set, is_some}
-use Rattle.std.proofs.Common.{option_and_then, Option, None, Some, IfSome, min, refl, sym, ap, ap₂, subst, ◌∙◌, arith}
+use Rattle.std.proofs.Common.{option_and_then, Option, None, Some, IfSome, min, refl, sym, ap, ap₂, ◌∙◌, arith}
 use Rattle.std.specs.List.{range_with_len}
 use Rattle.std.specs.Option.{option_map}
 use Rattle.std.proofs.Math.Seq.{map-set_same}
@@ -110,8 +110,7 @@ calm_for : (only : Option ℕ) (start from time : ℕ) (owns : List Own) (d : Dr
 calm_for only start from time owns d next law serves is low more =
     let alarm = option_map (λ n. from + n) (left_for only (clock_at start from) owns) in
     let sends = sending_time only (devices_of d) in
-    let all = before_both time (first_arrival_time d.arrivals) (nearer alarm sends)
-    (subst (λ (o : Option ℕ). IfSome o (λ at. time < at)) is more) in
+    let all = before_both time (first_arrival_time d.arrivals) (nearer alarm sends) (rw is at more) in
     let others = before_both time alarm sends all.1 in
     elim [
       | Event ↦ no_arrival time d.arrivals all.0
@@ -142,11 +141,8 @@ pub calm_since : (start window from time : ℕ) (owns : List Own) (d : Drivers) 
     → until ≡ nearer next (end_at from window)
     → from ≤ time → IfSome until (λ at. time < at) → IsCalmAt start window time owns d
 calm_since start window from time owns d next until windows law serves is first low more =
-    let both = before_both time next (end_at from window)
-    (subst (λ (o : Option ℕ). IfSome o (λ at. time < at)) first more) in
-    subst (λ (only : Option ℕ). (device : Dev)
-    → (work_at only time (clock_at start time) owns (devices_of d)).ready device ≡ false)
-    (sym (only_lasts windows time from window low both.1))
+    let both = before_both time next (end_at from window) (rw first at more) in
+    rw (only_lasts windows time from window low both.1)
     (calm_for (only_at from window) start from time owns d next law serves is low both.0)
 
 -- nor does the window change before
@@ -155,7 +151,7 @@ pub same_since : (window from time : ℕ) (next until : Option ℕ) → WindowsA
     → only_at time window ≡ only_at from window
 same_since window from time next until windows first low more =
     only_lasts windows time from window low
-    (before_both time next (end_at from window) (subst (λ (o : Option ℕ). IfSome o (λ at. time < at)) first more)).1
+    (before_both time next (end_at from window) (rw first at more)).1
 
 -- it is calm as long as no time passes
 pub calm_now : (start window time : ℕ) (owns : List Own) (d : Drivers) → IsCalm start window time time owns d

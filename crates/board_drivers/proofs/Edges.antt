@@ -3,11 +3,12 @@
 -- leaves life, requests and what drivers keep, so lines, alarms and seats stay true.
 use Rattle.std.proofs.Common.{◌≡◌, ℕ, zero, suc, ◌+◌, ◌^◌, ◌<◌, ◌≤◌, Bool, true, false}
 use Rattle.std.proofs.Common.{if◌then◌else◌, List, [], ◌∷◌, drop, length, map, slice_get, slice_index_or, All}
-use Rattle.std.proofs.Common.{Option, None, Some, refl, sym, ap, ap₂, subst, ◌∙◌, arith}
+use Rattle.std.proofs.Common.{Option, None, Some, refl, sym, ap, ap₂, ◌∙◌, arith}
 use Rattle.std.specs.List.{AllByRecursion, zip}
 use Rattle.std.specs.Option.{option_map}
-use Rattle.std.proofs.lemmas.Bool.{false≢true}
+use Rattle.std.proofs.lemmas.Bool.{cond_both, false≢true}
 use Rattle.std.proofs.lemmas.List.Elements.{All-map, All-weaker}
+use Rattle.std.proofs.lemmas.Option.{slice_get-map}
 use Rattle.tk_base.specs.Bits.{bit_of}
 use Rattle.tk_base.specs.declared.limits.TheConstants.{BYTE_TICKS_LIMIT, SENDING_LIMIT, STEP_LIMIT}
 use Rattle.tk_base.specs.declared.process.Dev.TheVariants as dev
@@ -27,7 +28,6 @@ use Rattle.driver_model.specs.Lines.{IsWithin, has_waiting}
 use Rattle.driver_model.specs.Steps.{own_after, scheduling, silently}
 use Rattle.grant_enter.specs.Homes.{Homes, nobody, own_of}
 use Rattle.kernel_model.specs.Record.{Record}
-use Rattle.kernel_model.specs.Parts.{edge_known}
 use Rattle.kernel_model.specs.Shown.{shown_by}
 use Rattle.kernel_model.specs.Laws.{DevicesAnswerOne, edge_heard}
 use Rattle.kernel_model.specs.World.{Devices, Stepped, World, arrived, coming_in, device_step_of, done}
@@ -72,12 +72,9 @@ told_follows lines (Some edge) own = lines.edges edge.0 edge.1 own
 pub told_grants : (change : Option (ℕ × Bool)) (own : Own) → (told_of change own).grants ≡ own.grants
 unfolding edged
 told_grants None own = refl
-told_grants (Some edge) own = by_test (edge.0 ∷ bit_of edge.1 ∷ 0 ∷ []) (is_told edge.0 own)
-  where
-    by_test : (args : List ℕ) (b : Bool)
-        → (own_after (if b then scheduling buttons 0 args own else silently own)).grants ≡ own.grants
-    by_test args true = refl
-    by_test args false = refl
+told_grants (Some edge) own =
+    cond_both (is_told edge.0 own) (scheduling buttons 0 (edge.0 ∷ bit_of edge.1 ∷ 0 ∷ []) own) (silently own)
+    (λ step. (own_after step).grants ≡ own.grants) (λ told. refl) (λ not. refl)
 
 -- where nobody lives, nobody is told
 told_nobody : (change : Option (ℕ × Bool)) → told_of change nobody ≡ nobody
@@ -106,7 +103,7 @@ told_slot change owns slot =
 told_all : (P Q : Own → Type 0) (change : Option (ℕ × Bool)) (owns : List Own)
     → ((own : Own) → P own → Q (told_of change own)) → All P owns → All Q (owns_told change owns)
 told_all P Q change owns so all =
-    subst (All Q) (sym (owns_each change owns))
+    rw owns_each
     (All-map Q (told_of change) owns (All-weaker P (λ own. Q (told_of change own)) so owns all))
 
 -- and each process with its own
@@ -125,7 +122,7 @@ told_pairs change ps owns = ap (zip ps) (owns_each change owns) ∙ each ps owns
 remains_resident : (flash : List ℕ) (steps : ℕ) (process : Process) (own o : Own) → Remains own o
     → IsResident flash steps (process, own) → IsResident flash (steps + 1) (process, o)
 remains_resident flash steps process own o rest s =
-    subst (λ (x : Own). IsResident flash (steps + 1) (process, x)) (sym rest) (record {
+    rw rest (record {
       own = record { object = s.own.object; object_is = s.own.object_is; lives = s.own.lives };
       turns = omega (arith, s.turns);
       restarts = omega (arith, s.restarts);
@@ -159,19 +156,8 @@ told_queue lines change queue ids owns line = record {
 told_tells : LinesFollowAnswers → (change : Option (ℕ × Bool)) (now time : ℕ) (times : List (Option ℕ))
     (owns : List Own) → AllTell now time times owns → AllTell now time times (owns_told change owns)
 told_tells lines change now time times owns tell slot =
-    subst (TellsAlarm now time (slice_index_or times slot None)) (sym (there owns slot))
-    (by_slot (slice_get owns slot) (tell slot))
+    rw (owns_each, slice_get-map) (by_slot (slice_get owns slot) (tell slot))
   where
-    there_in : (xs : List Own) (i : ℕ)
-        → slice_get (map (told_of change) xs) i ≡ option_map (told_of change) (slice_get xs i)
-    there_in [] i = refl
-    there_in (x ∷ xs) zero = refl
-    there_in (x ∷ xs) (suc i) = there_in xs i
-
-    there : (xs : List Own) (i : ℕ)
-        → slice_get (owns_told change xs) i ≡ option_map (told_of change) (slice_get xs i)
-    there xs i = ap (λ (os : List Own). slice_get os i) (owns_each change xs) ∙ there_in xs i
-
     by_slot : (o : Option Own) → TellsAlarm now time (slice_index_or times slot None) o
         → TellsAlarm now time (slice_index_or times slot None) (option_map (told_of change) o)
     by_slot None t = t
@@ -190,8 +176,7 @@ heard flash mask button state true e (p ∷ ps) [] slots = refl
 heard flash mask button state true e (p ∷ ps) (own ∷ owns) [] = refl
 heard flash mask button state true e (p ∷ ps) (own ∷ owns) (bytes ∷ slots) =
     ap₂ (λ (r : Record) (rs : List Record). r ∷ rs)
-    (ap (λ (b : Bool). if b then edge_known button state (record_of flash mask ((p, own), bytes))
-    else record_of flash mask ((p, own), bytes)) e)
+    (rw e)
     (heard flash mask button state true e ps owns slots)
 heard flash mask button state false e ps owns slots = each (zip (zip ps owns) slots)
   where
@@ -200,7 +185,7 @@ heard flash mask button state false e ps owns slots = each (zip (zip ps owns) sl
     each [] = refl
     each (r ∷ rs) =
         ap₂ (λ (x : Record) (xs : List Record). x ∷ xs)
-        (ap (λ (b : Bool). if b then edge_known button state (record_of flash mask r) else record_of flash mask r) e)
+        (rw e)
         (each rs)
 
 -- the records once something came in
@@ -225,12 +210,11 @@ records_then : (flash : List ℕ) (mask : ℕ) (kind : EventKind) (ps : List Pro
     (slots : List (List ℕ))
     → records_by kind (map (record_of flash mask) (zip (zip ps owns) slots))
     ≡ map (record_of flash (pressed_after kind mask)) (zip (zip ps (owns_told (change_by kind mask) owns)) slots)
-records_then flash mask (Input bytes) ps owns slots = refl
 records_then flash mask (Press button) ps owns slots =
     heard flash mask button true (differs mask button true) refl ps owns slots
 records_then flash mask (Release button) ps owns slots =
     heard flash mask button false (differs mask button false) refl ps owns slots
-records_then flash mask (Act verb name) ps owns slots = refl
+records_then flash mask other ps owns slots = refl
 
 -- the world a step later, with other records and devices
 abbrev later_with : World → List Record → Devices → World
@@ -271,9 +255,7 @@ lines_keep : (P : SerialLine → Type 0) → ((bytes : List ℕ) (line : SerialL
     → (kind : EventKind) (lines : List SerialLine) → All P lines → All P (lines_after kind lines)
 lines_keep P keeps (Input bytes) lines all =
     All-map P (with_input bytes) lines (All-weaker P (λ line. P (with_input bytes line)) (keeps bytes) lines all)
-lines_keep P keeps (Press button) lines all = all
-lines_keep P keeps (Release button) lines all = all
-lines_keep P keeps (Act verb name) lines all = all
+lines_keep P keeps other lines all = all
 
 pub first_keeps : (P : SerialLine → Type 0)
     → ((bytes : List ℕ) (line : SerialLine) → P line → P (with_input bytes line))
@@ -285,9 +267,7 @@ first_keeps P keeps (event ∷ events) lines all = lines_keep P keeps event.kind
 lines_length : (kind : EventKind) (lines : List SerialLine) → length (lines_after kind lines) ≡ length lines
 lines_length (Input bytes) [] = refl
 lines_length (Input bytes) (line ∷ lines) = ap suc (lines_length (Input bytes) lines)
-lines_length (Press button) lines = refl
-lines_length (Release button) lines = refl
-lines_length (Act verb name) lines = refl
+lines_length other lines = refl
 
 pub first_length : (events : List ScriptEvent) (lines : List SerialLine)
     → length (with_first_arrived events lines) ≡ length lines
@@ -335,7 +315,7 @@ module _ (b : BoardParts) where
   by_arrival : (P : Homes → Drivers → Type 0) (home : Homes) (d : Drivers) → Arrives b.home b.drivers home d
       → P home_then drivers_then → P home d
   by_arrival P home d came p =
-      subst (λ (h : Homes). P h d) (sym came.memory) (subst (λ (x : Drivers). P home_then x) (sym came.drivers) p)
+      rw (came.memory, came.drivers) p
 
   -- What comes in makes the world that these parts make then, ..
   pub world_arrived : DevicesAnswerOne → (home : Homes) (d : Drivers) → Arrives b.home b.drivers home d
@@ -418,8 +398,7 @@ module _ (b : BoardParts) where
       })
     where
       seated : All (IsResident b.home.flash (b.moment.steps + 1)) (zip b.processes (owns_told change b.home.owns))
-      seated = subst (All (IsResident b.home.flash (b.moment.steps + 1)))
-          (sym (told_pairs change b.processes b.home.owns))
+      seated = rw told_pairs
           (All-map (IsResident b.home.flash (b.moment.steps + 1)) (λ (r : Resident). (r.0, told_of change r.1))
           (zip b.processes b.home.owns)
           (All-weaker (IsResident b.home.flash b.moment.steps)
@@ -432,8 +411,7 @@ module _ (b : BoardParts) where
       → (slot : ℕ) → Remains (own_of b.home slot) (own_of home slot)
   arrived_remains lines home d came slot =
       by_arrival (λ home d. Remains (own_of b.home slot) (own_of home slot)) home d came
-      (subst (Remains (own_of b.home slot)) (sym (told_slot change b.home.owns slot))
-      (told_follows lines change (own_of b.home slot)).rest)
+      (rw told_slot (told_follows lines change (own_of b.home slot)).rest)
 
   -- and the times that are kept of alarms tell of them still
   pub arrived_alarms : LinesFollowAnswers → (home : Homes) (d : Drivers) → Arrives b.home b.drivers home d

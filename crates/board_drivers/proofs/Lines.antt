@@ -1,10 +1,11 @@
 -- Those that wait in a line are those with a request, after what a turn or a device's step asks. Each act puts its
 -- process at the end, takes it out, or leaves the line, so whether a slot waits follows the acts by induction, and all
 -- other slots wait as before; who waits is still there (`line_after`).
-use Rattle.std.proofs.Common.{◌≡◌, ◌≢◌, ◌<◌, ℕ, ◌==◌, ◌||◌, Bool, true, false, not, cond, List, [], ◌∷◌, ◌++◌, length}
+use Rattle.std.proofs.Common.{◌≡◌, ◌≢◌, ◌<◌, ℕ, ◌==◌, ◌||◌, Bool, true, false, not, List, [], ◌∷◌, ◌++◌, length}
 use Rattle.std.proofs.Common.{slice_get, slice_set, slice_index_or, Some, refl, sym, ap, subst, ◌∙◌, arith, eqb-true}
 use Rattle.std.specs.List.{AllByRecursion}
-use Rattle.std.proofs.lemmas.Bool.{false≢true}
+use Rattle.std.proofs.Common.{inl, inr}
+use Rattle.std.proofs.lemmas.Bool.{cases_Bool, cases_eq, cond_both, eq-eqb, false≢true}
 use Rattle.std.proofs.lemmas.Bool.Decides.{nat_tests}
 use Rattle.std.proofs.lemmas.List.{get_or-set_same, get_or-set_other, length-set}
 use Rattle.std.proofs.lemmas.Option.{slice_get_within, get_or_from_slice_get}
@@ -23,77 +24,62 @@ other_number : (m n : ℕ) → m ≢ n → (m == n) ≡ false
 other_number m n apart = grind (arith, nat_tests)
 
 none_or : (b : Bool) → (b || false) ≡ b
-none_or true = refl
-none_or false = refl
+none_or b = grind arith
+
+or_true : (b : Bool) → (b || true) ≡ true
+or_true b = grind arith
 
 -- one more that waits
 waits_more : (slot : ℕ) (ids : List ProcessId) (id : ProcessId)
     → waits slot (ids ++ id ∷ []) ≡ (waits slot ids || (id.slot == slot))
 waits_more slot [] id = none_or (id.slot == slot)
-waits_more slot (x ∷ ids) id = by_first (x.slot == slot) (waits_more slot ids id)
+waits_more slot (x ∷ ids) id =
+    rw (waits_more slot ids id) (assoc (x.slot == slot) (waits slot ids) (id.slot == slot))
   where
-    by_first : (b : Bool) → waits slot (ids ++ id ∷ []) ≡ (waits slot ids || (id.slot == slot))
-        → (b || waits slot (ids ++ id ∷ [])) ≡ ((b || waits slot ids) || (id.slot == slot))
-    by_first true e = refl
-    by_first false e = e
+    assoc : (a b c : Bool) → (a || (b || c)) ≡ ((a || b) || c)
+    assoc true b c = refl
+    assoc false b c = refl
 
 -- and one less
 waits_less_itself : (slot : ℕ) (ids : List ProcessId) → waits slot (without slot ids) ≡ false
 waits_less_itself slot [] = refl
-waits_less_itself slot (x ∷ ids) = by_first (x.slot == slot) refl (waits_less_itself slot ids)
-  where
-    by_first : (b : Bool) → (x.slot == slot) ≡ b → waits slot (without slot ids) ≡ false
-        → waits slot (cond (not b) (x ∷ without slot ids) (without slot ids)) ≡ false
-    by_first true e later = later
-    by_first false e later = ap (λ (c : Bool). c || waits slot (without slot ids)) e ∙ later
+waits_less_itself slot (x ∷ ids) = elim (cases_Bool (x.slot == slot)) [
+  | inl is ↦ rw is (waits_less_itself slot ids)
+  | inr not ↦ rw (not, not) (waits_less_itself slot ids)
+]
 
 waits_less_other : (slot other : ℕ) (ids : List ProcessId) → other ≢ slot
     → waits other (without slot ids) ≡ waits other ids
 waits_less_other slot other [] apart = refl
-waits_less_other slot other (x ∷ ids) apart = by_first (x.slot == slot) refl (waits_less_other slot other ids apart)
-  where
-    by_first : (b : Bool) → (x.slot == slot) ≡ b → waits other (without slot ids) ≡ waits other ids
-        → waits other (cond (not b) (x ∷ without slot ids) (without slot ids)) ≡ ((x.slot == other) || waits other ids)
-    by_first true e later =
-        let same : x.slot ≡ slot = eqb-true x.slot slot e in
-        let no_other : (x.slot == other) ≡ false = other_number x.slot other (λ is. apart (sym is ∙ same)) in
-        later ∙ sym (ap (λ (c : Bool). c || waits other ids) no_other)
-    by_first false e later = ap (λ (c : Bool). (x.slot == other) || c) later
-
-or_true : (b : Bool) → (b || true) ≡ true
-or_true true = refl
-or_true false = refl
+waits_less_other slot other (x ∷ ids) apart = elim (cases_eq x.slot slot) [
+  | inl same ↦
+      let no_other : (x.slot == other) ≡ false = other_number x.slot other (λ is. apart (sym is ∙ same)) in
+      rw (eq-eqb x.slot slot same, no_other) (waits_less_other slot other ids apart)
+  | inr differ ↦ rw (other_number x.slot slot differ, waits_less_other slot other ids apart) refl
+]
 
 -- whether its process waits after an act, and whether another one does
 own_by_act : (here : QueueName) (id : ProcessId) (ids : List ProcessId) (act : BoardRequest)
     → waits id.slot (after_act here id ids act) ≡ waits_by here act (waits id.slot ids)
-own_by_act here id ids (Waits line) = by_line (is_same line here)
-  where
-    by_line : (b : Bool) → waits id.slot (cond b (ids ++ id ∷ []) ids) ≡ cond b true (waits id.slot ids)
-    by_line true = waits_more id.slot ids id ∙ ap (λ (c : Bool). waits id.slot ids || c) (same_number id.slot)
-        ∙ or_true (waits id.slot ids)
-    by_line false = refl
-own_by_act here id ids (Leaves line) = by_line (is_same line here)
-  where
-    by_line : (b : Bool) → waits id.slot (cond b (without id.slot ids) ids) ≡ cond b false (waits id.slot ids)
-    by_line true = waits_less_itself id.slot ids
-    by_line false = refl
+own_by_act here id ids (Waits line) = elim (cases_Bool (is_same line here)) [
+  | inl is ↦ rw (is, waits_more id.slot ids id, same_number id.slot) (or_true (waits id.slot ids))
+  | inr not ↦ rw not refl
+]
+own_by_act here id ids (Leaves line) = elim (cases_Bool (is_same line here)) [
+  | inl is ↦ rw is (waits_less_itself id.slot ids)
+  | inr not ↦ rw not refl
+]
 own_by_act here id ids (Lights led switch) = refl
 
 other_by_act : (here : QueueName) (id : ProcessId) (other : ℕ) (ids : List ProcessId) (act : BoardRequest)
     → other ≢ id.slot → waits other (after_act here id ids act) ≡ waits other ids
-other_by_act here id other ids (Waits line) apart = by_line (is_same line here)
-  where
-    by_line : (b : Bool) → waits other (cond b (ids ++ id ∷ []) ids) ≡ waits other ids
-    by_line true = waits_more other ids id
-        ∙ ap (λ (c : Bool). waits other ids || c) (other_number id.slot other (λ is. apart (sym is)))
-        ∙ none_or (waits other ids)
-    by_line false = refl
-other_by_act here id other ids (Leaves line) apart = by_line (is_same line here)
-  where
-    by_line : (b : Bool) → waits other (cond b (without id.slot ids) ids) ≡ waits other ids
-    by_line true = waits_less_other id.slot other ids apart
-    by_line false = refl
+other_by_act here id other ids (Waits line) apart =
+    cond_both (is_same line here) (ids ++ id ∷ []) ids (λ xs. waits other xs ≡ waits other ids)
+    (λ is. rw (waits_more other ids id, other_number id.slot other (λ is. apart (sym is))) (none_or (waits other ids)))
+    (λ not. refl)
+other_by_act here id other ids (Leaves line) apart =
+    cond_both (is_same line here) (without id.slot ids) ids (λ xs. waits other xs ≡ waits other ids)
+    (λ is. waits_less_other id.slot other ids apart) (λ not. refl)
 other_by_act here id other ids (Lights led switch) apart = refl
 
 own_after : (here : QueueName) (id : ProcessId) (ids : List ProcessId) (acts : List BoardRequest)
@@ -118,25 +104,17 @@ all_more P (x ∷ ids) id p all = (all.0, all_more P ids id p all.1)
 all_less : (P : ProcessId → Type 0) (slot : ℕ) (ids : List ProcessId) → AllByRecursion P ids
     → AllByRecursion P (without slot ids)
 all_less P slot [] all = tt
-all_less P slot (x ∷ ids) all = by_first (not (x.slot == slot)) (all_less P slot ids all.1)
-  where
-    by_first : (b : Bool) → AllByRecursion P (without slot ids)
-        → AllByRecursion P (cond b (x ∷ without slot ids) (without slot ids))
-    by_first true later = (all.0, later)
-    by_first false later = later
+all_less P slot (x ∷ ids) all =
+    cond_both (not (x.slot == slot)) (x ∷ without slot ids) (without slot ids) (AllByRecursion P)
+    (λ is. (all.0, all_less P slot ids all.1)) (λ not. all_less P slot ids all.1)
 
 all_by_act : (P : ProcessId → Type 0) (here : QueueName) (id : ProcessId) (ids : List ProcessId) (act : BoardRequest)
     → P id → AllByRecursion P ids → AllByRecursion P (after_act here id ids act)
-all_by_act P here id ids (Waits line) p all = by_line (is_same line here)
-  where
-    by_line : (b : Bool) → AllByRecursion P (cond b (ids ++ id ∷ []) ids)
-    by_line true = all_more P ids id p all
-    by_line false = all
-all_by_act P here id ids (Leaves line) p all = by_line (is_same line here)
-  where
-    by_line : (b : Bool) → AllByRecursion P (cond b (without id.slot ids) ids)
-    by_line true = all_less P id.slot ids all
-    by_line false = all
+all_by_act P here id ids (Waits line) p all =
+    cond_both (is_same line here) (ids ++ id ∷ []) ids (AllByRecursion P) (λ is. all_more P ids id p all) (λ not. all)
+all_by_act P here id ids (Leaves line) p all =
+    cond_both (is_same line here) (without id.slot ids) ids (AllByRecursion P) (λ is. all_less P id.slot ids all)
+    (λ not. all)
 all_by_act P here id ids (Lights led switch) p all = all
 
 all_after : (P : ProcessId → Type 0) (here : QueueName) (id : ProcessId) (ids : List ProcessId)

@@ -5,6 +5,7 @@ use Rattle.std.proofs.Common.{◌≡◌, inl, inr, ℕ, ◌==◌, Bool, true, fa
 use Rattle.std.proofs.Common.{Option, Some, Ok, option_map, unwrap_or, refl, sym, ap, subst, ◌∙◌}
 use Rattle.std.specs.List.{AllByRecursion}
 use Rattle.std.specs.Option.{option_map}
+use Rattle.std.proofs.lemmas.Bool.{cond_both}
 use Rattle.tk_base.specs.declared.call.CallRule.{CallRule}
 use Rattle.tk_base.specs.declared.call.CallRule.TheVariants.{NoCommand}
 use Rattle.tk_base.specs.declared.call.CallRule.TheVariants.{Range}
@@ -33,13 +34,10 @@ rows_keep : (own : Own) (rows : List (ℕ × Commanded)) (number : ℕ) → AllB
     (λ row. own_after row.1.step ≡ own) rows
     → own_after (by_number (λ o. rows) number own).step ≡ own
 rows_keep own [] number all = refl
-rows_keep own (row ∷ rows) number all = by_test (row.0 == number) (rows_keep own rows number all.1)
-  where
-    by_test : (b : Bool) → own_after (by_number (λ o. rows) number own).step ≡ own
-        → own_after (unwrap_or (option_map (λ r. r.1) (cond b (Some row) (find (λ row. row.0 == number) rows)))
-        (refusing NoCommand own)).step ≡ own
-    by_test true others = all.0
-    by_test false others = others
+rows_keep own (row ∷ rows) number all =
+    cond_both (row.0 == number) (Some row) (find (λ row. row.0 == number) rows)
+    (λ found. own_after (unwrap_or (option_map (λ r. r.1) found) (refusing NoCommand own)).step ≡ own)
+    (λ is. all.0) (λ not. rows_keep own rows number all.1)
 
 -- so do the commands to the LEDs
 pub leds_keep : (count number led : ℕ) (own : Own)
@@ -104,34 +102,30 @@ by_list P acts [] of all = absurd of
 by_list P acts (xs ∷ lists) (inl is) all = subst P (sym is) all.0
 by_list P acts (xs ∷ lists) (inr of) all = by_list P acts lists of all.1
 
--- where the drivers differ in who waits alone
-record OthersStay (d d' : Drivers) : Type 0 where
-  leds : d'.leds ≡ d.leds
-  buttons : d'.buttons ≡ d.buttons
-  lines : d'.uarts ≡ d.uarts
-  arrivals : d'.arrivals ≡ d.arrivals
-  words : d'.words ≡ d.words
-  bytes : d'.stores ≡ d.stores
-
-lists_drive : (id : ProcessId) (acts : List BoardRequest) (d d' : Drivers) → OthersStay d d'
-    → lit_after acts (bits_of d.leds) ≡ bits_of d.leds
-    → ((queue : QueueName) → ids_waiting_in d' queue ≡ queue_after queue id (ids_waiting_in d queue) acts)
-    → Drives id acts d d'
-lists_drive id acts d d' stay unlit queues = record {
-  queues = queues;
-  leds = ap bits_of stay.leds ∙ sym unlit;
-  lit = ap length stay.leds;
-  buttons = stay.buttons;
-  lines = stay.lines;
-  arrivals = stay.arrivals;
-  words = stay.words;
-  bytes = stay.bytes;
-}
-
 module _ (id : ProcessId) (d : Drivers) where
   -- the alarm and the buttons, which ask for nothing
   pub unasked_drives : (acts : List BoardRequest) → acts ≡ [] → Drives id acts d d
   unasked_drives acts none = subst (λ (acts : List BoardRequest). Drives id acts d d) (sym none) (drives_nothing id d)
+
+  -- where the drivers differ in who waits alone
+  waiting_drives : (writes reads randoms stores : List ProcessId) (acts : List BoardRequest)
+      → lit_after acts (bits_of d.leds) ≡ bits_of d.leds → writes ≡ queue_after Writes id d.console.writes acts
+      → reads ≡ queue_after Reads id d.console.reads acts → randoms ≡ queue_after Randoms id d.random.waiting acts
+      → stores ≡ queue_after Stores id d.storage.waiting acts → Drives id acts d (record d {
+        console = record { writes = writes; reads = reads };
+        random = record { waiting = randoms };
+        storage = record { waiting = stores };
+      })
+  waiting_drives writes reads randoms stores acts unlit w r n s = record {
+    queues = elim [ Writes ↦ w | Reads ↦ r | Randoms ↦ n | Stores ↦ s ];
+    leds = sym unlit;
+    lit = refl;
+    buttons = refl;
+    lines = refl;
+    arrivals = refl;
+    words = refl;
+    bytes = refl;
+  }
 
   -- the console
   pub console_drives : (writes reads : List ProcessId) (acts : List BoardRequest)
@@ -139,86 +133,40 @@ module _ (id : ProcessId) (d : Drivers) where
       → writes ≡ queue_after Writes id d.console.writes acts → reads ≡ queue_after Reads id d.console.reads acts
       → Drives id acts d (record d { console = record { writes = writes; reads = reads } })
   console_drives writes reads acts of =
+      let asks = λ (acts : List BoardRequest). waiting_drives writes reads d.random.waiting d.storage.waiting acts in
       by_list (λ acts. writes ≡ queue_after Writes id d.console.writes acts
       → reads ≡ queue_after Reads id d.console.reads acts
       → Drives id acts d (record d { console = record { writes = writes; reads = reads } })) acts
       ([] ∷ (Waits Writes ∷ []) ∷ (Waits Reads ∷ []) ∷ (Leaves Reads ∷ []) ∷ []) of (
-        λ w r. lists_drive id [] d _ stay refl (elim [ Writes ↦ w | Reads ↦ r | Randoms ↦ refl | Stores ↦ refl ]),
+        λ w r. asks [] refl w r refl refl,
         (
-          λ w r. lists_drive id (Waits Writes ∷ []) d _ stay refl (elim [
-            | Writes ↦ w
-            | Reads ↦ r
-            | Randoms ↦ refl
-            | Stores ↦ refl
-          ]),
+          λ w r. asks (Waits Writes ∷ []) refl w r refl refl,
           (
-            λ w r. lists_drive id (Waits Reads ∷ []) d _ stay refl (elim [
-              | Writes ↦ w
-              | Reads ↦ r
-              | Randoms ↦ refl
-              | Stores ↦ refl
-            ]),
-            (
-              λ w r. lists_drive id (Leaves Reads ∷ []) d _ stay refl (elim [
-                | Writes ↦ w
-                | Reads ↦ r
-                | Randoms ↦ refl
-                | Stores ↦ refl
-              ]),
-              tt,
-            ),
+            λ w r. asks (Waits Reads ∷ []) refl w r refl refl,
+            (λ w r. asks (Leaves Reads ∷ []) refl w r refl refl, tt),
           ),
         ),
       )
-    where
-      stay : OthersStay d (record d { console = record { writes = writes; reads = reads } })
-      stay = record { leds = refl; buttons = refl; lines = refl; arrivals = refl; words = refl; bytes = refl }
 
   -- the source of random bytes
   pub random_drives : (randoms : List ProcessId) (acts : List BoardRequest)
       → OneOf acts ([] ∷ (Waits Randoms ∷ []) ∷ []) → randoms ≡ queue_after Randoms id d.random.waiting acts
       → Drives id acts d (record d { random = record { waiting = randoms } })
   random_drives randoms acts of =
+      let asks = waiting_drives d.console.writes d.console.reads randoms d.storage.waiting in
       by_list (λ acts. randoms ≡ queue_after Randoms id d.random.waiting acts
       → Drives id acts d (record d { random = record { waiting = randoms } })) acts ([] ∷ (Waits Randoms ∷ []) ∷ [])
-      of (
-        λ r. lists_drive id [] d _ stay refl (elim [ Writes ↦ refl | Reads ↦ refl | Randoms ↦ r | Stores ↦ refl ]),
-        (
-          λ r. lists_drive id (Waits Randoms ∷ []) d _ stay refl (elim [
-            | Writes ↦ refl
-            | Reads ↦ refl
-            | Randoms ↦ r
-            | Stores ↦ refl
-          ]),
-          tt,
-        ),
-      )
-    where
-      stay : OthersStay d (record d { random = record { waiting = randoms } })
-      stay = record { leds = refl; buttons = refl; lines = refl; arrivals = refl; words = refl; bytes = refl }
+      of (λ r. asks [] refl refl refl r refl, (λ r. asks (Waits Randoms ∷ []) refl refl refl r refl, tt))
 
   -- the storage
   pub storage_drives : (stores : List ProcessId) (acts : List BoardRequest) → OneOf acts ([] ∷ (Waits Stores ∷ []) ∷ [])
       → stores ≡ queue_after Stores id d.storage.waiting acts
       → Drives id acts d (record d { storage = record { waiting = stores } })
   storage_drives stores acts of =
+      let asks = waiting_drives d.console.writes d.console.reads d.random.waiting stores in
       by_list (λ acts. stores ≡ queue_after Stores id d.storage.waiting acts
       → Drives id acts d (record d { storage = record { waiting = stores } })) acts ([] ∷ (Waits Stores ∷ []) ∷ [])
-      of (
-        λ r. lists_drive id [] d _ stay refl (elim [ Writes ↦ refl | Reads ↦ refl | Randoms ↦ refl | Stores ↦ r ]),
-        (
-          λ r. lists_drive id (Waits Stores ∷ []) d _ stay refl (elim [
-            | Writes ↦ refl
-            | Reads ↦ refl
-            | Randoms ↦ refl
-            | Stores ↦ r
-          ]),
-          tt,
-        ),
-      )
-    where
-      stay : OthersStay d (record d { storage = record { waiting = stores } })
-      stay = record { leds = refl; buttons = refl; lines = refl; arrivals = refl; words = refl; bytes = refl }
+      of (λ s. asks [] refl refl refl refl s, (λ s. asks (Waits Stores ∷ []) refl refl refl refl s, tt))
 
   -- the LEDs
   pub leds_drive : (lit : List Bool) (led : ℕ) (acts : List BoardRequest)
@@ -229,13 +177,10 @@ module _ (id : ProcessId) (d : Drivers) where
       by_list (λ acts. bits_of lit ≡ lit_after acts (bits_of d.leds) → length lit ≡ length d.leds
       → Drives id acts d (record d { leds = lit })) acts
       ([] ∷ (Lights led On ∷ []) ∷ (Lights led Off ∷ []) ∷ (Lights led Toggle ∷ []) ∷ []) of (
-        λ b n. switched [] (λ queue. refl) b n,
+        switched [] (λ queue. refl),
         (
-          λ b n. switched (Lights led On ∷ []) (λ queue. refl) b n,
-          (
-            λ b n. switched (Lights led Off ∷ []) (λ queue. refl) b n,
-            (λ b n. switched (Lights led Toggle ∷ []) (λ queue. refl) b n, tt),
-          ),
+          switched (Lights led On ∷ []) (λ queue. refl),
+          (switched (Lights led Off ∷ []) (λ queue. refl), (switched (Lights led Toggle ∷ []) (λ queue. refl), tt)),
         ),
       )
     where

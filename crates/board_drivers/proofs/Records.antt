@@ -1,8 +1,10 @@
 -- The records of a board: each process, with what is its own, beside the storage of its slot.
 use Rattle.std.proofs.Common.{◌≡◌, ℕ, zero, suc, ◌≤◌, List, [], ◌∷◌, length, map, slice_get, slice_set, slice_index_or}
-use Rattle.std.proofs.Common.{refl, sym, ap, ◌∙◌, arith, Some, ◌<◌, Bool, true, false, nat_lt, All, subst}
+use Rattle.std.proofs.Common.{refl, sym, ap, ◌∙◌, arith, Some, ◌<◌, All, subst}
 use Rattle.std.specs.List.{zip}
 use Rattle.std.specs.Option.{option_map}
+use Rattle.std.proofs.Common.{inl, inr}
+use Rattle.std.proofs.lemmas.Bool.{cases_lt}
 use Rattle.std.proofs.lemmas.List.{set-get_or}
 use Rattle.kernel_model.specs.Record.{Record}
 use Rattle.kernel_calls.specs.Residents.{Resident, record_of, HasLost, IsResident}
@@ -11,7 +13,6 @@ use Rattle.std.proofs.lemmas.Option.{slice_get-map, slice_get_within, get_or_fro
 use Rattle.tk_base.specs.declared.limits.TheConstants.{SLOT_COUNT}
 use Rattle.process_model.specs.Own.{Own}
 use Rattle.process_record.specs.declared.process.Process.{Process}
-use Rattle.std.proofs.lemmas.Bool.Decides.{nat_tests}
 use Rattle.grant_enter.specs.Homes.{Homes, nobody, own_of}
 
 -- that of a slot
@@ -72,11 +73,8 @@ lost_there steps home slot lost = of_each home.owns slot lost
 
     of_each : (owns : List Own) (k : ℕ) → All (HasLost steps) owns
         → (slice_index_or owns k nobody).inbox.dropped ≤ steps
-    of_each owns k all = by_place (nat_lt k (length owns)) refl
-      where
-        by_place : (b : Bool) → nat_lt k (length owns) ≡ b → (slice_index_or owns k nobody).inbox.dropped ≤ steps
-        by_place true e = all k nobody (let h : k < length owns = grind (arith, nat_tests) in h)
-        by_place false e = let h : length owns ≤ k = grind (arith, nat_tests) in omega (arith, past owns k h)
+    of_each owns k all =
+        elim (cases_lt k (length owns)) [ inl h ↦ all k nobody h | inr h ↦ omega (arith, past owns k h) ]
 
 -- there is one at each place of a list
 pub found_at : {X : Type 0} (xs : List X) (i : ℕ) → i < length xs → (x : X) × (slice_get xs i ≡ Some x)

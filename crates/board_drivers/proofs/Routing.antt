@@ -1,8 +1,10 @@
 -- What the drivers show after what a turn asks of them is what the world routes.
-use Rattle.std.proofs.Common.{◌≡◌, ℕ, ◌==◌, Bool, true, false, not, cond, List, [], ◌∷◌, ◌++◌, refl, sym, ap, ◌∙◌}
+use Rattle.std.proofs.Common.{◌≡◌, ℕ, ◌==◌, not, cond, List, [], ◌∷◌, ◌++◌, refl, sym, ap, ◌∙◌}
+use Rattle.std.proofs.Common.{inl, inr}
+use Rattle.std.proofs.lemmas.Bool.{cases_Bool}
 use Rattle.std.proofs.lemmas.List.{map-append}
 use Rattle.tk_base.specs.declared.process.ProcessId.{ProcessId}
-use Rattle.driver_model.specs.Commands.{BoardRequest, Waits, Leaves, Lights, QueueName, Writes, Reads, Randoms, Stores}
+use Rattle.driver_model.specs.Commands.{BoardRequest, Waits, Leaves, Lights, QueueName, Writes}
 use Rattle.driver_model.specs.Commands.{is_same}
 use Rattle.tk_base.specs.Bits.{bits_of}
 use Rattle.driver_model.specs.Leds.{lit_after, lit_by}
@@ -27,28 +29,21 @@ slots_after here slot slots (act ∷ acts) = slots_after here slot (slots_by_act
 pub slots_without : (slot : ℕ) (ids : List ProcessId)
     → slots_of (without slot ids) ≡ world.queue_without slot (slots_of ids)
 slots_without slot [] = refl
-slots_without slot (id ∷ ids) = by_first (not (id.slot == slot)) (slots_without slot ids)
-  where
-    by_first : (b : Bool) → slots_of (without slot ids) ≡ world.queue_without slot (slots_of ids)
-        → slots_of (cond b (id ∷ without slot ids) (without slot ids))
-        ≡ cond b (id.slot ∷ world.queue_without slot (slots_of ids)) (world.queue_without slot (slots_of ids))
-    by_first true e = ap (λ (xs : List ℕ). id.slot ∷ xs) e
-    by_first false e = e
+slots_without slot (id ∷ ids) = elim (cases_Bool (id.slot == slot)) [
+  | inl is ↦ rw is (slots_without slot ids)
+  | inr not ↦ rw (not, slots_without slot ids) refl
+]
 
 slots_act : (here : QueueName) (id : ProcessId) (ids : List ProcessId) (act : BoardRequest)
     → slots_of (after_act here id ids act) ≡ slots_by_act here id.slot (slots_of ids) act
-slots_act here id ids (Waits line) = by_line (is_same line here)
-  where
-    by_line : (b : Bool) → slots_of (cond b (ids ++ id ∷ []) ids) ≡ cond b (slots_of ids ++ id.slot ∷ []) (slots_of ids)
-    by_line true = map-append (λ (x : ProcessId). x.slot) ids (id ∷ [])
-    by_line false = refl
-slots_act here id ids (Leaves line) = by_line (is_same line here)
-  where
-    by_line : (b : Bool)
-        → slots_of (cond b (without id.slot ids) ids)
-        ≡ cond b (world.queue_without id.slot (slots_of ids)) (slots_of ids)
-    by_line true = slots_without id.slot ids
-    by_line false = refl
+slots_act here id ids (Waits line) = elim (cases_Bool (is_same line here)) [
+  | inl is ↦ rw is (map-append (λ (x : ProcessId). x.slot) ids (id ∷ []))
+  | inr not ↦ rw not refl
+]
+slots_act here id ids (Leaves line) = elim (cases_Bool (is_same line here)) [
+  | inl is ↦ rw is (slots_without id.slot ids)
+  | inr not ↦ rw not refl
+]
 slots_act here id ids (Lights led switch) = refl
 
 slots_acts : (here : QueueName) (id : ProcessId) (ids : List ProcessId) (acts : List BoardRequest)
@@ -62,9 +57,7 @@ slots_acts here id ids (act ∷ acts) =
 -- what is put into the table by a queue's name is found there
 pub slots_by : (slots : QueueName → List ℕ) (queue : QueueName) → slots_in queue (waiting_by slots) ≡ slots queue
 slots_by slots Writes = refl
-slots_by slots Reads = refl
-slots_by slots Randoms = refl
-slots_by slots Stores = refl
+slots_by slots other = refl
 
 -- devices that hold the same
 pub devices_same : (d e : Devices) → ((queue : QueueName) → slots_in queue d.waiting ≡ slots_in queue e.waiting)
@@ -89,13 +82,9 @@ by_act slot act d = record d {
 
 acted_is : (slot : ℕ) (act : BoardRequest) (d : Devices) → acted slot act d ≡ by_act slot act d
 acted_is slot (Waits Writes) d = refl
-acted_is slot (Waits Reads) d = refl
-acted_is slot (Waits Randoms) d = refl
-acted_is slot (Waits Stores) d = refl
+acted_is slot (Waits other) d = refl
 acted_is slot (Leaves Writes) d = refl
-acted_is slot (Leaves Reads) d = refl
-acted_is slot (Leaves Randoms) d = refl
-acted_is slot (Leaves Stores) d = refl
+acted_is slot (Leaves other) d = refl
 acted_is slot (Lights led switch) d = refl
 
 -- and one after another

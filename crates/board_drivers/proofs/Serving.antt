@@ -6,7 +6,7 @@ use Rattle.std.proofs.Common.{◌≡◌, ℕ, zero, suc, ◌+◌, ◌*◌, ◌^�
 use Rattle.std.proofs.Common.{if◌then◌else◌, List, [], ◌∷◌, drop, take, length, slice_get, slice_set, Option, None}
 use Rattle.std.proofs.Common.{◌%◌, ◌||◌, is_none, nat_lt, slice_index_or}
 use Rattle.std.proofs.Common.{Some, Result, Ok, Err, is_ok, is_some, All, IfSome, OnErr, unwrap_or, refl, sym, ap, ap₂}
-use Rattle.std.proofs.Common.{subst, ◌∙◌, arith, eq-eqb}
+use Rattle.std.proofs.Common.{◌∙◌, arith, eq-eqb}
 use Rattle.std.specs.List.{AllByRecursion}
 use Rattle.std.specs.Option.{option_map}
 use Rattle.std.proofs.lemmas.Bool.{false≢true}
@@ -41,7 +41,6 @@ use Rattle.driver_model.specs.Console.{received, sending, sent, taken, taking, w
 use Rattle.driver_model.specs.Console.{write_done}
 use Rattle.driver_model.specs.Requests.{RequestAnswered, unanswered, waiting_in}
 use Rattle.driver_model.specs.Steps.{DriverStep, own_after}
-use Rattle.driver_model.specs.Told.{drawn_told, received_told, sent_told, stored_told}
 use Rattle.driver_model.specs.Alarm.{answered, due_for}
 use Rattle.driver_model.specs.Random as random
 use Rattle.driver_model.specs.Storage as storage
@@ -49,7 +48,7 @@ use Rattle.random_capsule.specs.Answers.{random_answer_to as random_to}
 use Rattle.storage_capsule.specs.Answers.{answer_to as storage_to}
 use Rattle.storage_capsule.specs.Serving.{store_fails_next, storage_stored}
 use Rattle.grant_values.specs.declared.storage.StorageRequest.{StorageRequest}
-use Rattle.driver_requests.specs.Answers.{Answered, AnswersFirst, kinds}
+use Rattle.driver_requests.specs.Answers.{Answered, AnswersFirst}
 use Rattle.driver_requests.specs.Asking.{MayBeTold, in_life}
 use Rattle.driver_requests.specs.Waiting.{first_of, waiting_still}
 use Rattle.console_capsule.specs.Answers.{cannot_give, cannot_send, received_by, sending_at, write_answered}
@@ -61,9 +60,9 @@ use Rattle.kernel_model.specs.Record.{flash_of}
 use Rattle.kernel_model.specs.Parts.{written_over}
 use Rattle.kernel_alarms.specs.Acting.{leaves_alarm}
 use Rattle.kernel_model.specs.Laws.{queue_after_answer}
-use Rattle.kernel_model.specs.World.{DeviceAnswer, Devices, World, answering, can_act, random_step}
+use Rattle.kernel_model.specs.World.{DeviceAnswer, Devices, answering, can_act, random_step}
 use Rattle.kernel_model.specs.Parts.{drawn_event, alarmed}
-use Rattle.kernel_model.specs.World.{WaitingSlots, may_serve, owns_in}
+use Rattle.kernel_model.specs.World.{may_serve, owns_in}
 use Rattle.kernel_model.specs.Named.{lane_by}
 use Rattle.kernel_model.specs.Parts.{is_waited_for}
 use Rattle.kernel_model.specs.World.{receive_step, serving, storing, transmitting}
@@ -79,40 +78,13 @@ use Rattle.board_drivers.proofs.Routing.{slots_without}
 use Rattle.board_drivers.proofs.Waiting.{first_in_lane, first_is, first_slot, lane_there, waits_if_first}
 use Rattle.board_drivers.specs.Parts.{AreBoardParts, BoardParts, world_shown}
 
--- those that wait after an answer, as the world has them
-slots_left : (completed : Bool) (slot : ℕ) (ids : List ProcessId)
-    → slots_of (waiting_still completed slot ids) ≡ queue_after_answer completed slot (slots_of ids)
-slots_left true slot ids = slots_without slot ids
-slots_left false slot ids = refl
-
--- and those that wait in each queue
+-- those that wait in each queue after an answer, as the world has them
 each_left : (same completed : Bool) (slot : ℕ) (ids : List ProcessId)
     → slots_of (waiting_still (same && completed) slot ids)
     ≡ (if same then queue_after_answer completed slot (slots_of ids) else slots_of ids)
-each_left true completed slot ids = slots_left completed slot ids
+each_left true true slot ids = slots_without slot ids
+each_left true false slot ids = refl
 each_left false completed slot ids = refl
-
--- the deed of a device for the first of those that wait in a queue and may be served, by those that wait afterwards
-first_deed : (deed : ℕ → Record → DeviceAnswer) (w : World) (only : Option ℕ) (here : QueueName)
-    (before after : QueueName → List ProcessId) (id : ProcessId) (r : Record) (completed : Bool)
-    (shown : WaitingSlots → DeviceAnswer)
-    → first_of only (before here) ≡ Some id → slice_get w.records id.slot ≡ Some r
-    → ((queue : QueueName)
-    → after queue ≡ waiting_still (queue_left_by here completed queue) id.slot (before queue))
-    → deed id.slot r ≡ shown (waiting_by (λ queue. if is_same here queue
-    then queue_after_answer completed id.slot (slots_of (before queue)) else slots_of (before queue)))
-    → serving w.records deed (slice_get (may_serve only (slots_of (before here))) 0)
-    ≡ Some (answering id.slot (shown (waiting_by (λ queue. slots_of (after queue)))))
-first_deed deed w only here before after id r completed shown e f left does =
-    ap (serving w.records deed) (first_slot only (before here) ∙ ap (option_map (λ (x : ProcessId). x.slot)) e)
-    ∙ ap (option_map (λ (x : Record). answering id.slot (deed id.slot x))) f
-    ∙ ap (λ (a : DeviceAnswer). Some (answering id.slot a)) (does ∙ sym (ap shown lists))
-  where
-    lists : ◌≡◌ {A = WaitingSlots} (waiting_by (λ queue. slots_of (after queue))) (waiting_by (λ queue. if is_same
-        here queue
-        then queue_after_answer completed id.slot (slots_of (before queue)) else slots_of (before queue)))
-    lists = λ i. waiting_by (λ queue.
-        (ap slots_of (left queue) ∙ each_left (is_same here queue) completed id.slot (before queue)) i)
 
 -- a count that is far from its last value
 counted_next : (n : ℕ) → n < 2 ^ 32 → counted n ≡ n + 1
@@ -121,8 +93,7 @@ counted_next n h = omega (arith, h)
 -- the UART can send, and can give what came in
 pub can_send : (only : Option ℕ) (ids : List ProcessId) (line : SerialLine) (time : ℕ)
     → (is_waited_for (may_serve only (slots_of ids)) && nat_le line.free time) ≡ not (cannot_send only ids line time)
-can_send only ids line time =
-    ap (λ (b : Bool). b && nat_le line.free time) (waits_if_first only ids) ∙ by_first (first_of only ids)
+can_send only ids line time = rw (waits_if_first only ids) (by_first (first_of only ids))
   where
     by_first : (o : Option ProcessId)
         → (is_some o && nat_le line.free time) ≡ not (is_none o || nat_lt time line.free)
@@ -131,13 +102,9 @@ can_send only ids line time =
 
 pub can_give : (only : Option ℕ) (ids : List ProcessId) (line : SerialLine)
     → (is_waited_for (may_serve only (slots_of ids)) && not (length line.ring == 0)) ≡ not (cannot_give only ids line)
-can_give only ids line =
-    ap (λ (b : Bool). b && not (length line.ring == 0)) (waits_if_first only ids) ∙ by_first (first_of only ids)
-  where
-    by_first : (o : Option ProcessId)
-        → (is_some o && not (length line.ring == 0)) ≡ not (is_none o || length line.ring == 0)
-    by_first None = refl
-    by_first (Some id) = refl
+can_give only ids line = rw (waits_if_first only ids) (elim (first_of only ids) as (λ o.
+    (is_some o && not (length line.ring == 0)) ≡ not (is_none o || length line.ring == 0))
+    [ None ↦ refl | Some id ↦ refl ])
 
 -- some wait that may be served exactly where one was answered
 pub waited_for : {D : Type 0} (only : Option ℕ) (answer_to : ProcessId → Answered D) (ids : List ProcessId) (x : D)
@@ -169,6 +136,10 @@ with_line b line = slice_set b.drivers.uarts (lane_on b) line
 abbrev pub with_words : BoardParts → List ℕ → List (List ℕ)
 with_words b words = slice_set b.drivers.words (lane_on b) words
 
+-- what a device does that tells a process something
+abbrev telling : Event → List ℕ → Devices → DeviceAnswer
+telling event printed devices = record { answer = record { event = event; printed = printed }; devices = devices }
+
 module _ (b : BoardParts) (h : AreBoardParts b) (id : ProcessId) (is_there : IsThere b.home.owns id) where
   own : Own
   own = own_of b.home id.slot
@@ -196,8 +167,7 @@ module _ (b : BoardParts) (h : AreBoardParts b) (id : ProcessId) (is_there : IsT
   its_process_was = process_there.1
 
   pub its_object : HasObject (length b.home.flash) (own_of b.home id.slot).object (own_of b.home id.slot).layout
-  its_object = subst (λ (o : _). HasObject (length b.home.flash) o (own_of b.home id.slot).layout)
-      (sym its_seat.own.object_is) its_seat.own.object.lies
+  its_object = rw its_seat.own.object_is its_seat.own.object.lies
 
   pub its_record_was : slice_get (world_shown b).records id.slot ≡ Some its_record
   its_record_was =
@@ -239,6 +209,27 @@ module _ (b : BoardParts) (h : AreBoardParts b) (id : ProcessId) (is_there : IsT
     slots = sym (set-get_or b.drivers.stores.slots id.slot []);
   }
 
+  -- the deed of a device for the first of a line, where that leaves these drivers
+  first_deed : (deed : ℕ → Record → DeviceAnswer) (here : QueueName) (completed : Bool) (event : Event)
+      (printed : List ℕ) (d : Drivers) → first_of (only_on b) (ids_waiting_in b.drivers here) ≡ Some id
+      → ((queue : QueueName) → ids_waiting_in d queue
+      ≡ waiting_still (queue_left_by here completed queue) id.slot (ids_waiting_in b.drivers queue))
+      → deed id.slot its_record ≡ telling event printed (record (devices_of d) {
+        waiting = waiting_by (λ queue. let slots = slots_of (ids_waiting_in b.drivers queue) in
+            if is_same here queue then queue_after_answer completed id.slot slots else slots);
+      })
+      → serving (world_shown b).records deed (slice_get (may_serve (only_on b)
+      (slots_of (ids_waiting_in b.drivers here))) 0) ≡ Some (answering id.slot (telling event printed (devices_of d)))
+  first_deed deed here completed event printed d e left does =
+      ap (serving (world_shown b).records deed) (first_slot (only_on b) (ids_waiting_in b.drivers here)
+      ∙ ap (option_map (λ (x : ProcessId). x.slot)) e)
+      ∙ ap (option_map (λ (x : Record). answering id.slot (deed id.slot x))) its_record_was
+      ∙ ap (λ (a : DeviceAnswer). Some (answering id.slot a)) (does ∙ (λ i. telling event printed (record
+      (devices_of d) {
+        waiting = waiting_by (λ queue. sym (ap slots_of (left queue)
+            ∙ each_left (is_same here queue) completed id.slot (ids_waiting_in b.drivers queue)) i);
+      })))
+
   -- what a device did for a process is what it told it
   pub told_by : (device : Dev) (printed : List ℕ) (o : Own) (home : Homes) (d : Drivers)
       → ChangesOnly id.slot b.home home → own_of home id.slot ≡ o → can_act (world_shown b) device ≡ true
@@ -249,7 +240,7 @@ module _ (b : BoardParts) (h : AreBoardParts b) (id : ProcessId) (is_there : IsT
     there = is_there.0;
     only = only;
     may = may;
-    serves = subst (λ (x : Own). DeviceServes b its_process device id.slot printed x d) (sym is) serves;
+    serves = rw is serves;
   }
 
 -- each buffer that a process holds may be lent
@@ -317,21 +308,12 @@ acts_on b h is x before serves (Ok answer) home ids y may answers =
     (waiters_there b h is.here) in
     let a = is.answer_to id in
     told_by b h id there is.device (is.prints y) (own_after a.step) home (is.after ids y) answers.5 answers.2 may
-    (subst (λ (xs : List ProcessId). DeviceServes b (its_process b h id there) is.device id.slot (is.prints y)
-    (own_after a.step)
-    (is.after xs y)) (sym answers.4)
-    (subst (λ (z : _). DeviceServes b (its_process b h id there) is.device id.slot (is.prints z) (own_after a.step)
-    (is.after (waiting_still a.completed id.slot (ids_waiting_in b.drivers is.here)) z)) (sym answers.3)
-    (serves id there answers.0)))
+    (rw (answers.4, answers.3) (serves id there answers.0))
 
 -- a process in the life that it is in
 in_its_life : {X : Type 0} (life : ℕ) (own : Own) (there gone : X) → own.life ≡ life
     → in_life life own there gone ≡ there
-in_its_life life own there gone is = ap (λ (b : Bool). if b then there else gone) (eq-eqb own.life life is)
-
--- what a device does that tells a process something
-abbrev telling : Event → List ℕ → Devices → DeviceAnswer
-telling event printed devices = record { answer = record { event = event; printed = printed }; devices = devices }
+in_its_life life own there gone is = rw (eq-eqb own.life life is) refl
 
 -- what the UART tells of a write, and the source of a word, leaves an alarm
 sent_leaves : (done : Bool) → leaves_alarm (if done then WriteDone else Taken) ≡ true
@@ -419,15 +401,8 @@ serves_sent b h lines events law lent id is_there first =
     in_its_life id.life own _ (unanswered [] own) is_there.1
     ∙ sent_of_own b.home.flash own law (its_object b h id is_there) (lent id.slot is_there.0)
     ∙ ap (λ (o : _). sent (object_byte o (object_in b.home.flash o)) own) (its_seat b h id is_there).own.object_is in
-    subst (λ (x : RequestAnswered (List ℕ)). ServesFirst b h id is_there (sends b)
-    (record {
-      kind = sent_told kinds x;
-      step = x.step;
-      device = record { items = x.moved };
-      completed =
-          x.completed;
-    })) (sym same)
-    (record {
+    let ids = waiting_still s.completed id.slot b.drivers.console.writes in
+    rw same (record {
       left = queue_left_by Writes s.completed;
       follows = lines.writes (flash_of r) own;
       lines = elim [ Writes ↦ refl | Reads ↦ refl | Randoms ↦ refl | Stores ↦ refl ];
@@ -441,15 +416,8 @@ serves_sent b h lines events law lent id is_there first =
       stores = stores_stay b h id is_there;
       event = if s.completed then WriteDone else Taken;
       leaves = λ other. sent_leaves s.completed;
-      deed = first_deed (transmitting (lane_on b) b.moment.time (devices_of b.drivers)) (world_shown b) (only_on b)
-          Writes (ids_waiting_in b.drivers) (ids_waiting_in ((sends b).after
-          (waiting_still s.completed id.slot b.drivers.console.writes) (record { items = s.moved }))) id r
-          s.completed (λ (slots : WaitingSlots). telling (if s.completed then WriteDone else Taken) s.moved
-          (record (devices_of b.drivers) {
-            waiting = slots;
-            lines = with_line b (sending_at b.moment.time s.moved (line_on b));
-          }))
-          first (its_record_was b h id is_there)
+      deed = first_deed b h id is_there (transmitting (lane_on b) b.moment.time (devices_of b.drivers)) Writes
+          s.completed _ s.moved ((sends b).after ids (record { items = s.moved })) first
           (elim [ Writes ↦ refl | Reads ↦ refl | Randoms ↦ refl | Stores ↦ refl ]) refl;
       tells = sent_applied b.moment.settings s.completed r s.step (events.writes (flash_of r) own);
     })
@@ -480,36 +448,22 @@ serves_received b h lines events id is_there first =
     let r : Record = its_record b h id is_there in
     let ring : List ℕ = (line_on b).ring in
     let s : RequestAnswered (List ℕ) = received ring own in
-    subst (λ (x : RequestAnswered (List ℕ)). ServesFirst b h id is_there (receives b)
-    (record {
-      kind = received_told kinds x;
-      step = x.step;
-      device = record (line_on b) { ring = drop (length x.moved) ring };
-      completed = x.completed;
-    })) (sym (in_its_life id.life own s (unanswered [] own) is_there.1))
-    (record {
+    let ids = waiting_still s.completed id.slot b.drivers.console.reads in
+    let line = record (line_on b) { ring = drop (length s.moved) ring } in
+    rw (in_its_life id.life own s (unanswered [] own) is_there.1) (record {
       left = queue_left_by Reads s.completed;
       follows = lines.reads ring own;
       lines = elim [ Writes ↦ refl | Reads ↦ refl | Randoms ↦ refl | Stores ↦ refl ];
       leds = refl;
       buttons = refl;
-      lines_ready = uart_changes b h id is_there (record (line_on b) { ring = drop (length s.moved) ring }) refl
-          (λ ticks free. free);
+      lines_ready = uart_changes b h id is_there line refl (λ ticks free. free);
       words_left = refl;
       bytes = bytes_of b.drivers.stores.slots id.slot;
       stores = stores_stay b h id is_there;
       event = Input s.moved;
       leaves = λ other. refl;
-      deed = first_deed (receive_step (lane_on b) (devices_of b.drivers)) (world_shown b) (only_on b) Reads
-          (ids_waiting_in b.drivers) (ids_waiting_in ((receives b).after
-          (waiting_still s.completed id.slot b.drivers.console.reads)
-          (record (line_on b) { ring = drop (length s.moved) ring }))) id r
-          s.completed (λ (slots : WaitingSlots). telling (Input s.moved) []
-          (record (devices_of b.drivers) {
-            waiting = slots;
-            lines = with_line b (record (line_on b) { ring = drop (length s.moved) ring });
-          }))
-          first (its_record_was b h id is_there)
+      deed = first_deed b h id is_there (receive_step (lane_on b) (devices_of b.drivers)) Reads s.completed _ []
+          ((receives b).after ids line) first
           (elim [ Writes ↦ refl | Reads ↦ refl | Randoms ↦ refl | Stores ↦ refl ]) refl;
       tells = input_applied b.moment.settings s.moved r s.step (events.reads ring own);
     })
@@ -540,34 +494,22 @@ serves_drawn b h lines events id is_there first =
     let words : List ℕ = words_on b in
     let word : Option ℕ = slice_get words 0 in
     let s : RequestAnswered (Option ℕ) = random.answered word own in
-    subst (λ (x : RequestAnswered (Option ℕ)). ServesFirst b h id is_there (draws b)
-    (record {
-      kind = drawn_told kinds x.moved;
-      step = x.step;
-      device = random.words_after x.moved words;
-      completed = x.completed;
-    })) (sym (in_its_life id.life own s (unanswered None own) is_there.1))
-    (record {
+    let ids = waiting_still s.completed id.slot b.drivers.random.waiting in
+    let rest = random.words_after s.moved words in
+    rw (in_its_life id.life own s (unanswered None own) is_there.1) (record {
       left = queue_left_by Randoms s.completed;
       follows = lines.randoms word own;
       lines = elim [ Writes ↦ refl | Reads ↦ refl | Randoms ↦ refl | Stores ↦ refl ];
       leds = refl;
       buttons = refl;
       lines_ready = uarts_stay b h id is_there;
-      words_left = length-set b.drivers.words (lane_on b) (random.words_after s.moved words);
+      words_left = length-set b.drivers.words (lane_on b) rest;
       bytes = bytes_of b.drivers.stores.slots id.slot;
       stores = stores_stay b h id is_there;
       event = drawn_event s.moved;
       leaves = λ other. drawn_leaves s.moved;
-      deed = first_deed (random_step (lane_on b) (devices_of b.drivers)) (world_shown b) (only_on b) Randoms
-          (ids_waiting_in b.drivers) (ids_waiting_in ((draws b).after
-          (waiting_still s.completed id.slot b.drivers.random.waiting) (random.words_after s.moved words))) id r
-          s.completed (λ (slots : WaitingSlots). telling (drawn_event s.moved) []
-          (record (devices_of b.drivers) {
-            waiting = slots;
-            words = with_words b (random.words_after s.moved words);
-          }))
-          first (its_record_was b h id is_there)
+      deed = first_deed b h id is_there (random_step (lane_on b) (devices_of b.drivers)) Randoms s.completed _ []
+          ((draws b).after ids rest) first
           (elim [ Writes ↦ refl | Reads ↦ refl | Randoms ↦ refl | Stores ↦ refl ]) refl;
       tells = drawn_applied b.moment.settings s.moved r s.step (events.randoms word own);
     })
@@ -671,16 +613,7 @@ serves_stored b h lines law lent id is_there first =
     let s' : StoredSlots = if a.completed then storage_stored id.slot a.moved s else s in
     let kept = kept_beside s id.slot a.completed a.moved in
     let served = served_then s id.slot lane a.completed a.moved lane_is few in
-    subst (λ (x : RequestAnswered (Option (ℕ × List ℕ))). ServesFirst b h id is_there (stores b)
-    (record {
-      kind = stored_told kinds (store_fails_next id.slot s);
-      step = x.step;
-      device =
-          if x.completed then storage_stored id.slot x.moved s else s;
-      completed = x.completed;
-    }))
-    (sym same)
-    (record {
+    rw same (record {
       left = queue_left_by Stores a.completed;
       follows = lines.stores fails (flash_of r) bytes own;
       lines = elim [ Writes ↦ refl | Reads ↦ refl | Randoms ↦ refl | Stores ↦ refl ];
@@ -691,36 +624,16 @@ serves_stored b h lines law lent id is_there first =
       bytes = written_over bytes a.moved;
       stores = record {
         size = kept.0;
-        lanes = ap length served ∙ length-set s.served lane (if a.completed then count + 1 else count);
-        counts = subst (All (λ n. n ≤ b.moment.steps + 1)) (sym served)
-            (All-set (λ n. n ≤ b.moment.steps + 1) s.served lane (if a.completed then count + 1 else count)
-            (one_more a.completed count b.moment.steps counted_few)
-            (All-weaker (λ n. n ≤ b.moment.steps) (λ n. n ≤ b.moment.steps + 1) (λ n few. omega (arith, few))
-            s.served h.served));
-        slots =
-            slots_after s id.slot a.completed a.moved (not_written fails (flash_of r) bytes own);
+        lanes = ap length served ∙ length-set s.served lane _;
+        counts = rw served (All-set (λ n. n ≤ b.moment.steps + 1) s.served lane _
+            (one_more a.completed count b.moment.steps counted_few) (stores_stay b h id is_there).counts);
+        slots = slots_after s id.slot a.completed a.moved (not_written fails (flash_of r) bytes own);
       };
       event = Stored (not fails);
       leaves = λ other. refl;
-      deed = first_deed (storing lane (devices_of b.drivers)) (world_shown b) (only_on b) Stores
-          (ids_waiting_in b.drivers) (ids_waiting_in ((stores b).after
-          (waiting_still a.completed id.slot b.drivers.storage.waiting) s')) id r
-          a.completed (λ (slots : WaitingSlots). telling (Stored (not fails)) []
-          (record (devices_of b.drivers) {
-            waiting = slots;
-            served = slice_set s.served lane (if a.completed then count + 1 else count);
-          }))
-          first (its_record_was b h id is_there)
-          (elim [ Writes ↦ refl | Reads ↦ refl | Randoms ↦ refl | Stores ↦ refl ]) refl
-          ∙ ap (λ (a : DeviceAnswer). Some (answering id.slot a)) (ap₂ (λ (ns faults : List ℕ). telling (Stored
-          (not fails)) []
-          (record (devices_of b.drivers) {
-            waiting = waiting_by (λ queue. slots_of (ids_waiting_in ((stores b).after
-                (waiting_still a.completed id.slot b.drivers.storage.waiting) s') queue));
-            served = ns;
-            faults = faults;
-          }))
-          (sym served) (sym kept.1));
+      deed = first_deed b h id is_there (storing lane (devices_of b.drivers)) Stores a.completed _ []
+          ((stores b).after (waiting_still a.completed id.slot b.drivers.storage.waiting) s') first
+          (elim [ Writes ↦ refl | Reads ↦ refl | Randoms ↦ refl | Stores ↦ refl ]) (rw (served, kept.1) refl);
       tells = stored_applied b.moment.settings fails r;
     })
   where

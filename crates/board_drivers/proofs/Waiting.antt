@@ -1,8 +1,10 @@
 -- Who waits first for a device, of those that may be served.
-use Rattle.std.proofs.Common.{◌≡◌, ℕ, zero, suc, ◌%◌, ◌==◌, ◌<◌, Bool, true, false, cond, if◌then◌else◌, List, [], ◌∷◌}
-use Rattle.std.proofs.Common.{find, slice_get, is_some, Option, None, Some, refl, sym, ap, subst, ◌∙◌, arith}
+use Rattle.std.proofs.Common.{◌≡◌, ℕ, zero, suc, ◌%◌, ◌==◌, ◌<◌, List, [], ◌∷◌}
+use Rattle.std.proofs.Common.{slice_get, is_some, Option, None, Some, refl, sym, ap, subst, ◌∙◌, arith}
 use Rattle.std.specs.List.{AllByRecursion}
 use Rattle.std.specs.Option.{option_map}
+use Rattle.std.proofs.Common.{inl, inr}
+use Rattle.std.proofs.lemmas.Bool.{cases_Bool, eqb-true}
 use Rattle.std.proofs.lemmas.Bool.Decides.{nat_tests}
 use Rattle.tk_base.specs.declared.limits.TheConstants.{SLOT_COUNT}
 use Rattle.tk_base.specs.declared.process.ProcessId.{ProcessId}
@@ -22,27 +24,19 @@ pub first_is : (P : ProcessId → Type 0) (only : Option ℕ) (ids : List Proces
 first_is P None [] id e all = cc
 first_is P None (x ∷ ids) id e all = subst P (the_one x id e) all.0
 first_is P (Some only) [] id e all = cc
-first_is P (Some only) (x ∷ ids) id e all =
-    by_test (x.slot == only) e (λ later. first_is P (Some only) ids id later all.1)
-  where
-    by_test : (b : Bool) → cond b (Some x) (find (λ y. y.slot == only) ids) ≡ Some id
-        → (find (λ y. y.slot == only) ids ≡ Some id → P id) → P id
-    by_test true e later = subst P (the_one x id e) all.0
-    by_test false e later = later e
+first_is P (Some only) (x ∷ ids) id e all = elim (cases_Bool (x.slot == only)) [
+  | inl is ↦ subst P (the_one x id (rw is at e)) all.0
+  | inr not ↦ first_is P (Some only) ids id (rw not at e) all.1
+]
 
 -- it is in the slot that alone is served, if one is
 first_in_slot : (only : ℕ) (ids : List ProcessId) (id : ProcessId) → first_of (Some only) ids ≡ Some id
     → id.slot ≡ only
 first_in_slot only [] id e = cc
-first_in_slot only (x ∷ ids) id e =
-    by_test (x.slot == only) refl e (λ later. first_in_slot only ids id later)
-  where
-    by_test : (b : Bool) → (x.slot == only) ≡ b → cond b (Some x) (find (λ y. y.slot == only) ids) ≡ Some id
-        → (find (λ y. y.slot == only) ids ≡ Some id → id.slot ≡ only) → id.slot ≡ only
-    by_test true is e later =
-        let here : x.slot ≡ only = grind (arith, nat_tests) in
-        sym (ap (λ (y : ProcessId). y.slot) (the_one x id e)) ∙ here
-    by_test false is e later = later e
+first_in_slot only (x ∷ ids) id e = elim (cases_Bool (x.slot == only)) [
+  | inl is ↦ sym (ap (λ (y : ProcessId). y.slot) (the_one x id (rw is at e))) ∙ eqb-true x.slot only is
+  | inr not ↦ first_in_slot only ids id (rw not at e)
+]
 
 -- so its own lane is the one by which it is served
 pub first_in_lane : (time window : ℕ) (ids : List ProcessId) (id : ProcessId)
@@ -62,16 +56,10 @@ pub first_slot : (only : Option ℕ) (ids : List ProcessId)
 first_slot None [] = refl
 first_slot None (id ∷ ids) = refl
 first_slot (Some only) [] = refl
-first_slot (Some only) (id ∷ ids) = by_test (id.slot == only) (first_slot (Some only) ids)
-  where
-    by_test : (b : Bool)
-        → slice_get (may_serve (Some only) (slots_of ids)) 0
-        ≡ option_map (λ (id : ProcessId). id.slot) (first_of (Some only) ids)
-        → slice_get (if b then id.slot ∷ may_serve (Some only) (slots_of ids)
-        else may_serve (Some only) (slots_of ids)) 0
-        ≡ option_map (λ (id : ProcessId). id.slot) (cond b (Some id) (first_of (Some only) ids))
-    by_test true later = refl
-    by_test false later = later
+first_slot (Some only) (id ∷ ids) = elim (cases_Bool (id.slot == only)) [
+  | inl is ↦ rw is refl
+  | inr not ↦ rw not (first_slot (Some only) ids)
+]
 
 -- some wait that may be served exactly where there is a first
 pub waits_if_first : (only : Option ℕ) (ids : List ProcessId)

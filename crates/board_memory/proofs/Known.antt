@@ -1,9 +1,10 @@
 -- Instructions of flash that are known.
-use Rattle.std.proofs.Common.{◌≡◌, ◌≢◌, ℕ, ◌+◌, ◌-◌, ◌*◌, ◌%◌, ◌^◌, ◌<◌, ◌≤◌, ◌==◌, Bool, true, false, if◌then◌else◌}
+use Rattle.std.proofs.Common.{◌≡◌, ℕ, ◌+◌, ◌-◌, ◌*◌, ◌%◌, ◌^◌, ◌<◌, ◌≤◌, ◌==◌, Bool, true, false, if◌then◌else◌}
 use Rattle.std.proofs.Common.{List, length, take, drop, nat_lt, get_or-take, get_or-drop, slice_set, slice_index_or}
 use Rattle.std.proofs.Common.{Option, Some, None, Result, Ok, IfSome}
-use Rattle.std.proofs.Common.{refl, sym, ap, subst, ◌∙◌, arith, eqb-true, eq-eqb}
-use Rattle.std.proofs.lemmas.Bool.{false≢true}
+use Rattle.std.proofs.Common.{refl, sym, ap, subst, ◌∙◌, arith}
+use Rattle.std.proofs.Common.{inl, inr}
+use Rattle.std.proofs.lemmas.Bool.{cases_eq, cond_both}
 use Rattle.std.proofs.lemmas.Bool.Decides.{nat_tests}
 use Rattle.std.proofs.lemmas.List.{get_or_default, get_or-set_same, get_or-set_other, length-set, length-take-le}
 use Rattle.std.proofs.lemmas.List.{length-drop}
@@ -30,28 +31,20 @@ known_put flash entries k entry before tells = record {
   long = length-set entries k entry ∙ before.long;
   each = λ i other below.
       let within : i < length entries = omega (arith, below, length-set entries k entry) in
-      by_place i other within (i == k) refl;
-} where
-  by_place : (i : ℕ) (other : Entry) → i < length entries → (here : Bool) → (i == k) ≡ here
-      → TellsStanding flash (2 * i) (slice_index_or (slice_set entries k entry) i other)
-  by_place i other within true e =
-      let same : k ≡ i = sym (eqb-true i k e) in
-      subst (λ (n : ℕ). TellsStanding flash (2 * n) (slice_index_or (slice_set entries k entry) n other)) same
-      (subst (λ (x : Entry). TellsStanding flash (2 * k) x)
-      (sym (get_or-set_same entries k entry other (subst (λ (n : ℕ). n < length entries) (sym same) within))) tells)
-  by_place i other within false e =
-      let apart : i ≢ k = λ same. false≢true (sym e ∙ eq-eqb i k same) in
-      subst (λ (x : Entry). TellsStanding flash (2 * i) x) (sym (get_or-set_other entries k i entry other apart))
-      (before.each i other within)
+      elim (cases_eq i k) [
+        | inl same ↦
+            let here : k < length entries = omega (arith, within, same) in
+            rw (same, get_or-set_same entries k entry other here) tells
+        | inr apart ↦ rw (get_or-set_other entries k i entry other apart) (before.each i other within)
+      ];
+}
 
 -- an entry reaches three parcels at most
 at_most_six : (instr : Option Instr) (size : ℕ) → IfSome instr (λ _. size ≤ 4) → reach_of instr size ≤ 6
 at_most_six None size small = omega (arith)
-at_most_six (Some instr) size small = by_way (goes_straight instr)
-  where
-    by_way : (way : Bool) → (if way then size + 2 else size) ≤ 6
-    by_way true = omega (arith, small)
-    by_way false = omega (arith, small)
+at_most_six (Some instr) size small =
+    cond_both (goes_straight instr) (size + 2) size (λ n. n ≤ 6) (λ is. omega (arith, small))
+    (λ not. omega (arith, small))
 
 of_four : (flash : List ℕ) (at : ℕ) (instr : Option Instr) (size : ℕ) → IfSome instr (λ i. StandsIn flash at i size)
     → IfSome instr (λ _. size ≤ 4)
@@ -80,15 +73,11 @@ known_part flash entries start from count long last before d e all place lies sh
       fits = rw long_part short;
       tells = λ k other below.
           let within : k < count = omega (arith, below, long_part) in
-          subst (λ (x : Entry). TellsStanding flash (start - FLASH_START + 2 * k) x) (sym (at_place k other within))
-          (subst (λ (p : ℕ). TellsStanding flash p (slice_index_or entries (from + k) other)) (even k)
-          (all.each (from + k) other (omega (arith, within, lies))));
+          rw (at_place k other within, ← even k) (all.each (from + k) other (omega (arith, within, lies)));
       reaches = λ k other below.
           let within : k < count = omega (arith, below, long_part) in
           let reach = reaches k other within in
-          subst (λ (x : Entry). 2 * k + entry_reach x ≤ 2 * length (take count (drop from entries)))
-          (sym (at_place k other within))
-          (omega (arith, reach, long_part));
+          rw (at_place k other within) (omega (arith, reach, long_part));
     } where
       long_part : length (take count (drop from entries)) ≡ count
       long_part = length-take-le count (drop from entries) (rw (length-drop from entries) (omega (arith, lies)))

@@ -6,7 +6,7 @@ use Rattle.std.proofs.lemmas.Bool.Decides.{nat_tests}
 use Rattle.tk_base.specs.declared.access.Access.{Access}
 use Rattle.tk_base.specs.declared.access.Access.TheVariants.{Fetch, Load, Store}
 use Rattle.tk_base.specs.declared.access.Width.{Width}
-use Rattle.tk_base.specs.declared.access.Width.TheVariants.{Byte, Half, Word}
+use Rattle.tk_base.specs.declared.access.Width.TheVariants.{Byte}
 use Rattle.tk_base.specs.declared.access.Rule.{Rule}
 use Rattle.tk_base.specs.declared.access.Rule.TheVariants.{Misaligned}
 use Rattle.tk_base.specs.declared.access.TheConstants.{FLASH_START, RAM_START}
@@ -24,8 +24,7 @@ use Rattle.board_memory.proofs.Stores.{writes}
 -- an access covers a byte at least
 covers : (width : Width) → 0 < width_bytes width
 covers Byte = omega (arith)
-covers Half = omega (arith)
-covers Word = omega (arith)
+covers other = omega (arith)
 
 -- what a window permits is permitted in its words
 permitted : (pmp : List Entry) (access : Access) (first size from to start long : ℕ) → PermitsBetween pmp access from to
@@ -74,15 +73,11 @@ is_code flash code pmp from to start long fetches loads words below size bytes =
       starts = words.starts;
       ends = omega (arith, below, size);
       inside = omega (arith, starts, ends, size);
-      bytes = subst (λ (n : ℕ). code ≡ take n (drop (start - FLASH_START) flash)) (sym size) bytes;
-      may = subst (λ (n : ℕ). (at : ℕ) (width : Width) → start ≤ at → at + width_bytes width ≤ start + n
-          → denied_by_registers pmp Fetch at width ≡ None) (sym size)
-          (permitted pmp Fetch FLASH_START (length flash) from to start long fetches words);
-      loads = subst (λ (n : ℕ). (at : ℕ) (width : Width) → start ≤ at → at + width_bytes width ≤ start + n
-          → denied_by_registers pmp Load at width ≡ None) (sym size)
-          (permitted pmp Load FLASH_START (length flash) from to start long loads words);
+      bytes = rw size bytes;
+      may = rw size (permitted pmp Fetch FLASH_START (length flash) from to start long fetches words);
+      loads = rw size (permitted pmp Load FLASH_START (length flash) from to start long loads words);
       aligned = words.aligned;
-      words = subst (λ (n : ℕ). n % 4 ≡ 0) (sym size) words.words;
+      words = rw size words.words;
     }
 
 -- an aligned place modulo 2^32 that lies in words is that of an access that does
@@ -102,14 +97,12 @@ is_near start size at width first words ends s a aligned lies =
     } where
       multiple : (width : Width) → start ≤ at → (at - start) % width_bytes width ≡ 0 → at % width_bytes width ≡ 0
       multiple Byte from whole = omega (arith)
-      multiple Half from whole = omega (arith, first, from, whole)
-      multiple Word from whole = omega (arith, first, from, whole)
+      multiple other from whole = omega (arith, first, from, whole)
 
       fits : (width : Width) → start ≤ at → (at - start) % width_bytes width ≡ 0 → at - start < size
           → at - start + width_bytes width ≤ size
       fits Byte from whole below = omega (arith, below)
-      fits Half from whole below = omega (arith, words, from, whole, below)
-      fits Word from whole below = omega (arith, words, from, whole, below)
+      fits other from whole below = omega (arith, words, from, whole, below)
 
 -- an aligned access is denied by no rule but that of the registers
 aligned_first : (denies : Access → ℕ → Width → Option Rule) (at : ℕ) (width : Width) → at % width_bytes width ≡ 0

@@ -11,8 +11,8 @@ pub trait Decoder {
     ghost use Rattle.std.specs.Prelude.{◌≤◌, length};
     ghost use Rattle.rv32_entries.specs.Standing.{TellsStanding};
 
-    /// The instruction at a place of some bytes, where it lies before an end, and what it may go on to behind it too; else
-    /// nothing known.
+    /// The instruction at a place of some bytes, where it lies before an end, and what it may go on to behind it too;
+    /// else nothing known.
     fn entry(&self, bytes: &[u8], at: usize, end: usize) -> Entry
         requires { at ≤ length bytes.now }
         ensures { TellsStanding bytes.now at result };

@@ -1,3 +1,4 @@
+pub mod Asked
 pub mod Crews
 pub mod Openings
 pub mod Alone

@@ -1,15 +1,9 @@
--- What no process has done in an opening world.
-use Rattle.std.proofs.Common.{◌≡◌, ◌≤◌, ◌<◌, ℕ, zero, suc, ◌+◌, nat_le, Bool, true, false, cond, length, arith, List}
-use Rattle.std.proofs.Common.{[], ◌∷◌, slice_get, Option, None, Some, is_some, IfSome, Result, Ok, Err, refl, ap, ◌∙◌}
+-- How many processes an opening world has, and its slices and windows.
+use Rattle.std.proofs.Common.{◌≡◌, ◌≤◌, ◌<◌, ℕ, ◌+◌, nat_le, Bool, true, false, cond, length, arith, List}
+use Rattle.std.proofs.Common.{[], ◌∷◌, Option, None, Some, Result, Ok, Err, refl}
 use Rattle.std.specs.List.{cons_option, filter_map}
-use Rattle.std.specs.Option.{option_map}
 use Rattle.tk_base.specs.declared.limits.TheConstants.{SLOT_COUNT}
 use Rattle.tk_base.specs.declared.process.PlaceFault.{PlaceFault}
-use Rattle.tbf_headers.specs.declared.fault.HeaderFault.{HeaderFault}
-use Rattle.tbf_headers.specs.declared.program.Main.{Main}
-use Rattle.tbf_headers.specs.Meaning.{Meaning, header_reading}
-use Rattle.process_layout.specs.LayoutView.{LayoutView}
-use Rattle.flash_walk.specs.Image.{object_bytes}
 use Rattle.std.proofs.lemmas.Bool.Decides.{nat_tests}
 use Rattle.tk_base.specs.declared.access.TheConstants.{RAM_START}
 use Rattle.tk_base.specs.declared.process.PlaceFault.TheVariants.{NoSlot}
@@ -19,58 +13,10 @@ use Rattle.app_placement.specs.Placement.{filled_after, place_of, places_from}
 use Rattle.app_placement.specs.Parts.{Place}
 use Rattle.app_placement.specs.declared.application.Application.{Application}
 use Rattle.app_placement.specs.declared.placed.Filled.{Filled}
-use Rattle.app_placement.specs.declared.placed.Placed.{Placed}
 use Rattle.kernel_model.specs.Record.{Record}
-use Rattle.tbf_headers.specs.Meaning.{main_by}
-use Rattle.kernel_model.specs.Histories.{HandedNothing}
 use Rattle.board_opening.specs.Settings.{is_partitioned}
-use Rattle.board_opening.specs.Opening.{opening_record, opening, placed_applications, record_placed}
-use Rattle.board_opening.specs.Parts.{opened_by}
+use Rattle.board_opening.specs.Opening.{opening, record_placed}
 use Rattle.board_opening.specs.Parts.{record_with_place}
-use Rattle.board_opening.specs.Histories.{OpensWithNothingHanded}
-
--- what holds of each record holds with one more before them
-pub with_first : (P : Record → Type 0) (o : Option Record) (records : List Record) → IfSome o P
-    → ((slot : ℕ) → IfSome (slice_get records slot) P) → (slot : ℕ) → IfSome (slice_get (cons_option o records) slot) P
-with_first P None records first others slot = others slot
-with_first P (Some r) records first others zero = first
-with_first P (Some r) records first others (suc slot) = others slot
-
-module _ (storage : ℕ) (flash : List ℕ) where
-  -- an application in its place
-  opened_nothing : (offset : ℕ) (e : LayoutView) (h : Result Meaning HeaderFault)
-      → header_reading (object_bytes flash offset) ≡ h → IfSome (opened_by storage flash offset e h) HandedNothing
-  unfolding opening_record
-  opened_nothing offset e (Err fault) read = tt
-  opened_nothing offset e (Ok h) read = by_main h.main refl
-    where
-      by_main : (m : Option Main) → h.main ≡ m
-          → IfSome (option_map (opening_record storage flash offset e h) m) HandedNothing
-      by_main None is = tt
-      by_main (Some m) is =
-          record {
-            grants = refl;
-            pending = refl;
-            application =
-                ap (λ (r : Result Meaning HeaderFault). is_some (main_by r)) read ∙ ap is_some is;
-          }
-
-  placed_nothing : (offset : ℕ) (place : Result Place PlaceFault)
-      → IfSome (record_with_place storage flash offset place) HandedNothing
-  placed_nothing offset (Ok place) = opened_nothing offset place.1 (header_reading (object_bytes flash offset)) refl
-  placed_nothing offset (Err fault) = tt
-
-  all_nothing : (placed : List Placed) (slot : ℕ)
-      → IfSome (slice_get (filter_map (record_placed storage flash) placed) slot) HandedNothing
-  all_nothing [] slot = tt
-  all_nothing (p ∷ placed) slot =
-      with_first HandedNothing (record_placed storage flash p) (filter_map (record_placed storage flash) placed)
-      (placed_nothing p.offset p.place) (all_nothing placed) slot
-
-pub opens_with_nothing_handed : OpensWithNothingHanded
-unfolding opening
-opens_with_nothing_handed script flash slot =
-    all_nothing script.storage flash (placed_applications (is_partitioned script) script.ram flash) slot
 
 -- of the applications that are left no more get a place than there are slots left
 module _ (partition : Bool) (storage ram : ℕ) (flash : List ℕ) where

@@ -25,7 +25,7 @@ use Rattle.kernel_model.specs.Record.{Record}
 use Rattle.board_opening.specs.Opening.{opening, opening_record, record_placed}
 use Rattle.board_opening.specs.Parts.{opened_by, record_with_place}
 use Rattle.board_opening.specs.Settings.{is_partitioned}
-use Rattle.board_opening.proofs.Alone.{IsAsked, asked_from}
+use Rattle.board_opening.proofs.Asked.{IsAsked, asked_from}
 use Rattle.board_partitions.specs.Boot.{BlocksStartWithTheirShares}
 
 module _ (flash : List ℕ) where

@@ -1,5 +1,6 @@
 -- Each word is read back as its rule.
 use Rattle.std.proofs.Common.{◌≡◌, ℕ, List, [], ◌∷◌, find, Option, Some, refl, sym, ap, ◌∙◌}
+use Rattle.std.proofs.lemmas.Option.{same_Some}
 use Rattle.std.specs.Prelude.{bytes_eq}
 use Rattle.tk_base.specs.declared.access.Rule.{Rule}
 use Rattle.tk_base.specs.declared.access.Rule.TheVariants.{NoRegion, NoExecute, NoWrite, NoRead, Misaligned, Illegal}
@@ -23,34 +24,14 @@ access_rules = NoRegion ∷ NoExecute ∷ NoWrite ∷ NoRead ∷ Misaligned ∷ 
 
 call_read : (rule : CallRule) → read_as call_rule_text call_rules (call_rule_text rule) ≡ Some rule
 call_read calls.Permission = refl
-call_read calls.NoDriver = refl
-call_read calls.NoNumber = refl
-call_read calls.NoCommand = refl
-call_read calls.NoOperation = refl
-call_read calls.Outside = refl
-call_read calls.Range = refl
-call_read calls.NoRoom = refl
-call_read calls.Break = refl
-call_read calls.Busy = refl
-call_read calls.Empty = refl
-call_read calls.Nothing = refl
-call_read calls.Index = refl
+call_read rule = refl
 
 access_read : (rule : Rule) → read_as rule_text access_rules (rule_text rule) ≡ Some rule
 access_read NoRegion = refl
-access_read NoExecute = refl
-access_read NoWrite = refl
-access_read NoRead = refl
-access_read Misaligned = refl
-access_read Illegal = refl
-access_read Breakpoint = refl
-access_read UnknownClass = refl
-
-same_some : {X : Type 0} (x y : X) → Some x ≡ Some y → x ≡ y
-same_some x y e = cc
+access_read rule = refl
 
 pub rules_have_words_of_their_own : RulesHaveWordsOfTheirOwn
 rules_have_words_of_their_own = record {
-  calls = λ a b same. same_some a b (sym (call_read a) ∙ ap (read_as call_rule_text call_rules) same ∙ call_read b);
-  accesses = λ a b same. same_some a b (sym (access_read a) ∙ ap (read_as rule_text access_rules) same ∙ access_read b);
+  calls = λ a b same. same_Some a b (sym (call_read a) ∙ ap (read_as call_rule_text call_rules) same ∙ call_read b);
+  accesses = λ a b same. same_Some a b (sym (access_read a) ∙ ap (read_as rule_text access_rules) same ∙ access_read b);
 }

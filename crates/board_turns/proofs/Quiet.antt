@@ -1,5 +1,6 @@
 -- Quiet turns of a process.
-use Rattle.std.proofs.Common.{◌≡◌, ◌≢◌, ℕ, zero, suc, ◌+◌, ◌<◌, ◌≤◌, List, [], refl, sym, ap, ap₂, subst, ◌∙◌, arith}
+use Rattle.std.proofs.Common.{rules}
+use Rattle.std.proofs.Common.{◌≡◌, ℕ, zero, suc, ◌+◌, ◌<◌, ◌≤◌, List, [], refl, sym, ◌∙◌, arith}
 use Rattle.tk_base.specs.Regs.{Registers}
 use Rattle.rv32_model.specs.declared.turn_end.TurnEnd.{TurnEnd}
 use Rattle.rv32_model.specs.declared.turn_end.TurnEnd.TheVariants.{Went}
@@ -12,7 +13,7 @@ use Rattle.kernel_calls.specs.Own.{Beside, record_in}
 use Rattle.process_restart.specs.Own.{IsOwnObject}
 use Rattle.kernel_model.specs.Record.{Record, byte_at, instruction}
 use Rattle.kernel_model.specs.Stretch.{AllGo, after_instructions, instruction_made}
-use Rattle.kernel_calls.specs.Residents.{IsResident, Resident, record_of}
+use Rattle.kernel_calls.specs.Residents.{IsResident, Resident}
 use Rattle.board_turns.specs.Turning.{nothing_beside}
 use Rattle.board_turns.specs.Quiet.{Quietly}
 use Rattle.board_turns.proofs.Sight.{sees_record}
@@ -30,9 +31,6 @@ later_process p k regs = record p { regs = regs; turns = p.turns + k }
 
 pub none_more : (n : ℕ) → n + 0 ≡ n
 none_more n = omega arith
-
-one_then : (n k : ℕ) → n + 1 + k ≡ n + suc k
-one_then n k = omega arith
 
 -- instructions that each went are those of the record, and lead it to what they left
 pub record Follows (k : ℕ) (flash : List ℕ) (p : Process) (own own' : Own) (later : Registers) (beside : Beside) : Type
@@ -52,9 +50,7 @@ pub follows : (k : ℕ) (flash : List ℕ) (p : Process) (own own' : Own) (later
 unfolding MakesAll after_instructions
 follows zero flash p own own' later beside object m = record {
   go = λ j h. absurd (omega (arith, h));
-  leads =
-      ap₂ (λ (o : Own) (regs : Registers). record_in flash (later_process p 0 regs) o beside) m.0 m.1
-      ∙ ap (λ (n : ℕ). record_in flash (record p { turns = n }) own beside) (none_more p.turns);
+  leads = rw (m.0, m.1, none_more p.turns);
 }
 follows (suc k) flash p own own' later beside object m =
     let r = record_in flash p own beside in
@@ -62,33 +58,24 @@ follows (suc k) flash p own own' later beside object m =
     let made = m.1 (byte_at (record_in flash p own nothing_beside)) (sees_record flash (p, own) object m.0) in
     let rest = follows k flash (record (after_turn p) { regs = t.regs }) (with_write own t) own' later beside object
     made.1 in
-    record {
-      go = first_and_rest k r made.0 rest.go;
-      leads = ap (λ (n : ℕ). record_in flash (record p { regs = later; turns = n }) own' beside)
-          (sym (one_then p.turns k)) ∙ rest.leads;
-    }
+    let more : p.turns + suc k ≡ p.turns + 1 + k = omega arith in
+    record { go = first_and_rest k r made.0 rest.go; leads = rw more rest.leads }
 
 -- what is then its own is what it was but for its RAM
+left_so : (k : ℕ) (r s : Record) → s ≡ after_instructions k r → s.own ≡ record r.own { ram = s.own.ram }
+left_so k r s e = rw e (own_after k r)
+
 pub left_own : (k : ℕ) (flash : List ℕ) (p : Process) (own own' : Own) (later : Registers)
     → IsOwnObject flash p.object own.layout → MakesAll k flash own p.regs own' later
     → own' ≡ record own { ram = own'.ram }
 left_own k flash p own own' later object m =
-    let led = (follows k flash p own own' later nothing_beside object m).leads in
-    let before = record_in flash p own nothing_beside in
-    let after : own' ≡ (after_instructions k before).own = ap (λ (r : Record). r.own) led in
-    after ∙ own_after k before ∙ ap (λ (o : Own). record own { ram = o.ram }) (sym after)
+    left_so k _ _ (follows k flash p own own' later nothing_beside object m).leads
 
 -- so a process is as it is to be, so many steps later
 pub later_seated : (flash : List ℕ) (steps k : ℕ) (p : Process) (own own' : Own) (later : Registers)
     → own' ≡ record own { ram = own'.ram } → IsResident flash steps (p, own)
     → IsResident flash (steps + k) (later_process p k later, own')
-later_seated flash steps k p own own' later same s =
-    subst (λ (o : Own). IsResident flash (steps + k) (later_process p k later, o)) (sym same) (record {
-      own = record { object = s.own.object; object_is = s.own.object_is; lives = s.own.lives };
-      turns = omega (arith, s.turns);
-      restarts = omega (arith, s.restarts);
-      life = omega (arith, s.life);
-    })
+later_seated flash steps k p own own' later same s = rw same (search (rules, arith))
 
 -- and its turns are quiet ones
 module _ (k most : ℕ) (end : TurnEnd) (flash : List ℕ) (p : Process) (own own' : Own) (later : Registers)
@@ -98,33 +85,22 @@ module _ (k most : ℕ) (end : TurnEnd) (flash : List ℕ) (p : Process) (own ow
   stopped : k < most → (instruction (record_in flash (later_process p k later) own' nothing_beside)).end ≡ end
   stopped fewer =
       let s = stops fewer in
-      let there : IsOwnObject flash p.object own'.layout =
-      subst (λ (o : Own). IsOwnObject flash p.object o.layout) (sym (left_own k flash p own own' later object m))
-      object in
-      s.2 (byte_at (record_in flash (later_process p k later) own' nothing_beside))
-      (sees_record flash (later_process p k later, own') there s.1)
+      let there : IsOwnObject flash p.object own'.layout = rw (left_own k flash p own own' later object m) object in
+      s.2 _ (sees_record flash (later_process p k later, own') there s.1)
 
   pub quietly : k ≤ most → (k ≡ most → end ≡ Went)
       → Quietly k most end flash (p, own) (later_process p k later, own')
-  quietly within all = record {
-    go = λ pressed storage.
-        (follows k flash p own own' later (record { storage = storage; pressed = pressed }) object m).go;
-    leads = λ pressed storage.
-        (follows k flash p own own' later (record { storage = storage; pressed = pressed }) object m).leads;
-    stops = λ fewer pressed storage went. (stops fewer).0 (sym (stopped fewer) ∙ went);
-    ends = λ none pressed storage. stopped (fewer none);
-  }
-    where
-      not_all : end ≢ Went → most ≤ k → ⊥
-      not_all none h = none (all (omega (arith, within, h)))
-
-      fewer : end ≢ Went → k < most
-      fewer none = omega (arith, within, not_all none)
+  quietly within all =
+      let led = λ (pressed : ℕ) (storage : List ℕ).
+      follows k flash p own own' later (record { storage = storage; pressed = pressed }) object m in
+      record {
+        go = λ pressed storage. (led pressed storage).go;
+        leads = λ pressed storage. (led pressed storage).leads;
+        stops = λ fewer pressed storage went. (stops fewer).0 (sym (stopped fewer) ∙ went);
+        ends = λ none pressed storage. stopped (grind arith);
+      }
 
 -- quiet turns of the process in a slot leave what is its own, but for its RAM
 pub kept_own : (k most : ℕ) (end : TurnEnd) (flash : List ℕ) (old new : Resident) → Quietly k most end flash old new
     → new.1 ≡ record old.1 { ram = new.1.ram }
-kept_own k most end flash old new q =
-    let before = record_of flash 0 (old, []) in
-    let after : new.1 ≡ (after_instructions k before).own = ap (λ (r : Record). r.own) (q.leads 0 []) in
-    after ∙ own_after k before ∙ ap (λ (o : Own). record old.1 { ram = o.ram }) (sym after)
+kept_own k most end flash old new q = left_so k _ _ (q.leads 0 [])

@@ -1,9 +1,15 @@
 -- The turn of a process, made of the instruction and of what follows it, is the one that the definitions make of its
 -- record. By the state of the process, and for one that runs by the end of its instruction: it went, it was denied, or
 -- it made a call. The instruction's relation is taken apart once, and each end adds what the drivers did.
+use Rattle.kernel_model.specs.Turn.{surroundings}
+use Rattle.board_turns.proofs.Replies.{reply_stands}
 use Rattle.std.proofs.Common.{◌≡◌, ◌≤◌, ℕ, ◌+◌, ◌⊎◌, inl, inr, true, false, List, []}
-use Rattle.std.proofs.Common.{Option, None, Some, is_some, refl, sym, ap, subst, ◌∙◌, arith}
+use Rattle.std.proofs.Common.{Option, None, Some, is_some, refl, sym, ap, ◌∙◌, arith}
+use Rattle.std.proofs.Common.{cond, rules}
 use Rattle.std.proofs.lemmas.List.{length-set, set-set}
+use Rattle.std.proofs.lemmas.Option.{same_Some}
+use Rattle.process_model.specs.Instruction.{with_write}
+use Rattle.board_turns.proofs.Quiet.{later_seated}
 use Rattle.tk_base.specs.declared.access.Denial.{Denial}
 use Rattle.syscall_abi.specs.Call.{call_of}
 use Rattle.process_record.specs.declared.process.Process.{Process}
@@ -26,27 +32,25 @@ use Rattle.upcall_queue.specs.declared.inbox.Delivery.{Delivery}
 use Rattle.upcall_queue.specs.Pending.{due}
 use Rattle.kernel_calls.specs.Outcomes.{deliver_due}
 use Rattle.kernel_model.specs.Calls.{restart}
-use Rattle.kernel_model.specs.Calls.{Served}
-use Rattle.kernel_model.specs.Turn.{Turned, called, made as call_made, turn_counted, at_turn_end, faulted, idle}
+use Rattle.kernel_model.specs.Turn.{made as call_made, turn_counted, at_turn_end, idle}
 use Rattle.kernel_model.specs.Turn.{turn_in, turned}
 use Rattle.process_record.specs.declared.outcome.Outcome.{Outcome}
 use Rattle.process_record.specs.declared.outcome.Outcome.TheVariants as outcomes
 use Rattle.syscall_abi.specs.declared.form.CallForm.{CallForm}
 use Rattle.tk_base.specs.Regs.{Registers}
-use Rattle.kernel_model.specs.Parts.{calls, delivery}
+use Rattle.kernel_model.specs.Parts.{delivery}
 use Rattle.kernel_model.specs.Parts.{unknown_call}
-use Rattle.driver_model.specs.Commands.{BoardRequest, leaving_all}
+use Rattle.driver_model.specs.Commands.{leaving_all}
 use Rattle.board_turns.specs.declared.guard.ActivePmp.{ActivePmp}
 use Rattle.board_turns.specs.declared.machine.Machine.{Machine}
 use Rattle.board_turns.specs.Guards.{GuardsOnly, IsSetFor}
-use Rattle.board_memory.specs.Registers.{Protect}
 use Rattle.board_turns.specs.declared.turn.Shown.{Shown}
 use Rattle.kernel_model.specs.Laws.{DropsAtMostOne}
 use Rattle.kernel_model.proofs.Places.{free_turned}
 use Rattle.board_drivers.specs.Driven.{Drives, MayServe, beside_in}
 use Rattle.kernel_calls.specs.Residents.{IsResident, Resident, id_of, resident}
 use Rattle.board_turns.specs.Turning.{Finishes, ReplyStands, answered, asked}
-use Rattle.board_turns.specs.Turning.{InTurn, IsMade, LeavesMachine, MayTurn, ServesCall, Settles, Turns, TurnsOut}
+use Rattle.board_turns.specs.Turning.{InTurn, IsMade, LeavesMachine, MayTurn, ServesCall, Settles, Turns}
 use Rattle.board_turns.specs.Turning.{after_instruction, machine_instructed, next_instruction, nothing_shown}
 use Rattle.board_drivers.proofs.Orders.{drives_nothing}
 
@@ -60,19 +64,12 @@ only_twice slot a b c first second =
 pub only_flash : (slot : ℕ) (a b : Homes) → ChangesOnly slot a b → b.flash ≡ a.flash
 only_flash slot a b only = ap (λ (h : Homes). h.flash) only
 
--- what a turn comes to is what the turn does that it is
-as_known : (slot : ℕ) (x y : Machine) (shown : Shown) (beside : Beside) (r s : Resident) (t u : Turned) → t ≡ u
-    → TurnsOut slot x y shown beside r s u → TurnsOut slot x y shown beside r s t
-as_known slot x y shown beside r s t u e h = subst (TurnsOut slot x y shown beside r s) (sym e) h
-
 -- the turn of a process that is not held, by its state
 by_state : (x : Machine) (r : Resident) (beside : Beside) (state : State) → r.0.held ≡ false → r.0.state ≡ state
     → (let before = record_in x.home.flash r.0 r.1 beside in
     turned x.moment.settings x.moment.time before ≡ turn_in x.moment.settings x.moment.time state before)
 by_state x r beside state free is =
-    let before = record_in x.home.flash r.0 r.1 beside in
-    free_turned x.moment.settings x.moment.time before free
-    ∙ ap (λ (s : State). turn_in x.moment.settings x.moment.time s before) is
+    rw (free_turned x.moment.settings x.moment.time (record_in x.home.flash r.0 r.1 beside) free, is)
 
 -- that of one that runs, by the end of its instruction
 by_end : (x : Machine) (r : Resident) (beside : Beside) (end : TurnEnd) → r.0.state ≡ Running → r.0.held ≡ false
@@ -81,31 +78,13 @@ by_end : (x : Machine) (r : Resident) (beside : Beside) (end : TurnEnd) → r.0.
     let a = after_instruction r t in
     turned x.moment.settings x.moment.time (record_in x.home.flash r.0 r.1 beside)
     ≡ at_turn_end x.moment.settings x.moment.time (record_in x.home.flash a.0 a.1 beside) t.accesses end)
-by_end x r beside end runs free e =
-    let t = next_instruction x.home.flash r in
-    let a = after_instruction r t in
-    by_state x r beside Running free runs
-    ∙ ap (at_turn_end x.moment.settings x.moment.time (record_in x.home.flash a.0 a.1 beside) t.accesses) e
-
--- an instruction leaves a process as it is to be, a step later
-instruction_seated : (flash : List ℕ) (steps : ℕ) (r : Resident) (t : UserTurn) → IsResident flash steps r
-    → IsResident flash (steps + 1) (after_instruction r t)
-instruction_seated flash steps r t s = record {
-  own = record { object = s.own.object; object_is = s.own.object_is; lives = s.own.lives };
-  turns = omega (arith, s.turns);
-  restarts = omega (arith, s.restarts);
-  life = omega (arith, s.life);
-}
+by_end x r beside end runs free e = rw (by_state x r beside Running free runs, e)
 
 -- registers that are set for a slot fit
 pub guards_only : (slot : ℕ) (guard : ActivePmp) (home : Homes) → IsSetFor slot guard home → GuardsOnly guard home
 guards_only slot guard home set = record {
-  protects = λ other is. subst (λ (s : ℕ). Protect guard.pmp (own_of home s).layout)
-      (same slot other (sym set.slot_is ∙ is)) set.protects;
+  protects = λ other is. rw (same_Some slot other (sym set.slot_is ∙ is)) at set.protects;
 }
-  where
-    same : (a b : ℕ) → ◌≡◌ {A = Option ℕ} (Some a) (Some b) → a ≡ b
-    same a b e = cc
 
 -- the instruction of the process in a slot, which left the machine and the process so
 module _ (slot : ℕ) (x y : Machine) (p q : Process)
@@ -118,63 +97,57 @@ module _ (slot : ℕ) (x y : Machine) (p q : Process)
   abbrev this_turn : UserTurn
   this_turn = next_instruction x.home.flash before
 
-  -- both after it
-  made : ◌≡◌ {A = Machine × Resident} (y, resident y.home slot q)
-      (machine_instructed slot x (own_of y.home slot) y.guard, after_instruction before this_turn)
-  made = λ i. (rest i, is i)
+  made_so : (q ≡ (after_instruction before this_turn).0) × (own_of y.home slot ≡ (after_instruction before this_turn).1)
+  made_so = (ap (λ (r : Resident). r.0) is, ap (λ (r : Resident). r.1) is)
+
+  -- a step later the process is as it is to be
+  made_seated : MayTurn 1 slot x before → IsResident x.home.flash (x.moment.steps + 1) (resident y.home slot q)
+  made_seated may =
+      rw is (later_seated x.home.flash x.moment.steps 1 p before.1 (with_write before.1 this_turn) this_turn.regs refl
+      may.seated)
 
   -- its turn was counted, and is not over
   pub in_turn : MayTurn 1 slot x before → p.state ≡ Running → IsSetFor slot y.guard y.home
       → InTurn slot y (resident y.home slot q)
-  in_turn may runs set = subst (λ (z : Machine × Resident). InTurn slot z.0 z.1) (sym made) (record {
+  in_turn may runs set = rw (is, rest) (record {
     slot = omega (arith, may.slot, length-set x.home.owns slot (own_of y.home slot));
-    seated = instruction_seated x.home.flash x.moment.steps before this_turn may.seated;
+    seated = rw is at (made_seated may);
     lives = may.seated.own.lives ∙ ap is_alive runs;
     restarts = may.seated.restarts;
     life = may.seated.life;
     limit = omega (arith, may.limit);
-    set = subst (λ (z : Machine). IsSetFor slot z.guard z.home) rest set;
+    set = rw rest at set;
   })
 
   -- and it may be all of the turn
   pub all_left : MayTurn 1 slot x before → IsSetFor slot y.guard y.home
       → LeavesMachine 1 slot x y (resident y.home slot q)
   all_left may set = record {
-    seated = subst (IsResident x.home.flash (x.moment.steps + 1)) (sym is)
-        (instruction_seated x.home.flash x.moment.steps before this_turn may.seated);
+    seated = made_seated may;
     only = ap (λ (z : Machine). z.home) rest;
     guard = guards_only slot y.guard y.home set;
-    rest = rest ∙ ap (λ (z : Machine). record x { home = z.home; guard = z.guard; drivers = z.drivers }) (sym rest);
+    rest = rw rest;
   }
 
   -- or what follows it leaves what all of the turn leaves
   pub then_left : (z : Machine) (r : Resident) → LeavesMachine 1 slot y z r → LeavesMachine 1 slot x z r
   then_left z r h = record {
-    seated = subst (λ (a : Machine). IsResident a.home.flash (a.moment.steps + 1) r) rest h.seated;
+    seated = rw rest at h.seated;
     only = only_twice slot x.home y.home z.home (ap (λ (a : Machine). a.home) rest) h.only;
     guard = h.guard;
-    rest = h.rest ∙ ap (λ (a : Machine). record a { home = z.home; guard = z.guard; drivers = z.drivers }) rest;
+    rest = rw rest at h.rest;
   }
 
   -- it leaves what the process asks of drivers
   pub may_serve_still : MayServe x.moment x.drivers slot (own_of x.home slot)
       → MayServe y.moment y.drivers slot (own_of y.home slot)
-  may_serve_still may =
-      subst (λ (z : Machine × Resident). MayServe z.0.moment z.0.drivers slot z.1.1) (sym made) (record {
-        asks = may.asks;
-        lost = may.lost;
-        leds = may.leds;
-        buttons = may.buttons;
-        size = may.size;
-      })
+  may_serve_still may = rw (made_so.1, rest) (search rules)
 
   module _ (runs : p.state ≡ Running) (free : p.held ≡ false) where
     -- an instruction with nothing more to do
     pub went : this_turn.end ≡ Went → Turns slot x y nothing_shown before (resident y.home slot q)
-    went end =
-        subst (λ (z : Machine × Resident). Turns slot x z.0 nothing_shown before z.1) (sym made) (λ storage.
-        let beside = beside_in x.drivers storage in
-        as_known slot x x nothing_shown beside before _ _ _ (by_end x before beside Went runs free end)
+    went end = rw (made_so.0, made_so.1, rest) (λ storage.
+        rw (by_end x before (beside_in x.drivers storage) Went runs free end)
         (refl, record { call = refl; denial = refl }, drives_nothing (id_of slot before.1) x.drivers))
 
     -- one that is denied
@@ -184,20 +157,18 @@ module _ (slot : ℕ) (x y : Machine) (p q : Process)
         → Drives (id_of slot (own_of y.home slot)) leaving_all y.drivers z.drivers → Turns slot x z shown before new
     trapped z new denial shown end e settles drives = λ storage.
         let beside = beside_in x.drivers storage in
-        as_known slot x z shown beside before new _ _ (by_end x before beside (Trap denial) runs free end) (
-          subst (λ (a : Machine × Resident). Settles a.0.moment.settings.policy a.0.home.flash denial a.1 new) made
-              settles beside,
-          record { call = ap (λ (s : Shown). s.call) (sym e); denial = ap (λ (s : Shown). s.denial) (sym e) },
-          subst (λ (a : Machine × Resident). Drives (id_of slot a.1.1) leaving_all a.0.drivers z.drivers) made drives,
+        rw (by_end x before beside (Trap denial) runs free end, e) (
+          (rw (made_so.0, made_so.1, rest) at settles) beside,
+          record { call = refl; denial = refl },
+          rw (made_so.1, rest) at drives,
         )
 
     -- one that makes a system call
     pub makes_call : (z : Machine) (new : Resident) (shown : Shown) → this_turn.end ≡ Call
         → ServesCall slot y z shown (resident y.home slot q) new → Turns slot x z shown before new
     makes_call z new shown end serves = λ storage.
-        let beside = beside_in x.drivers storage in
-        as_known slot x z shown beside before new _ _ (by_end x before beside Call runs free end)
-        (subst (λ (a : Machine × Resident). ServesCall slot a.0 z shown a.1 new) made serves this_turn.accesses storage)
+        rw (by_end x before (beside_in x.drivers storage) Call runs free end)
+        ((rw (made_so.0, made_so.1, rest) at serves) this_turn.accesses storage)
 
 -- a call of an unknown class is a fault
 pub unknown_faults : (slot : ℕ) (x y : Machine) (old new : Resident) (denial : Denial) (shown : Shown)
@@ -206,75 +177,45 @@ pub unknown_faults : (slot : ℕ) (x y : Machine) (old new : Resident) (denial :
     → Settles x.moment.settings.policy x.home.flash denial old new
     → Drives (id_of slot old.1) leaving_all x.drivers y.drivers → ServesCall slot x y shown old new
 unknown_faults slot x y old new denial shown none is e settles drives = λ accesses storage.
-    let m = x.moment in
-    let beside = beside_in x.drivers storage in
-    let r = record_in x.home.flash old.0 old.1 beside in
-    as_known slot x y shown beside old new _ (faulted m.settings r denial)
-    (ap (calls m.settings m.time r accesses) none ∙ ap (faulted m.settings r) (sym is)) (
-      settles beside,
-      record { call = ap (λ (s : Shown). s.call) (sym e); denial = ap (λ (s : Shown). s.denial) (sym e) },
-      drives,
-    )
+    rw (none, ← is, e) (settles (beside_in x.drivers storage), record { call = refl; denial = refl }, drives)
 
 -- a call that was asked for, with what came of it, is the call that was made
 answered_is_made : (regs : Registers) (outcome : Outcome) (after : Registers) → ReplyStands regs outcome after
     → answered (asked regs) outcome after ≡ call_made regs outcome
 answered_is_made regs (outcomes.Replied reply rule) after stands =
     ap (λ (words : List ℕ). record (asked regs) { reply = Some words; rule = rule }) (stands reply rule refl)
-answered_is_made regs outcomes.ToDriver after stands = refl
-answered_is_made regs outcomes.Waits after stands = refl
-answered_is_made regs outcomes.Delivered after stands = refl
-answered_is_made regs outcomes.GoesOn after stands = refl
-answered_is_made regs outcomes.Ended after stands = refl
-answered_is_made regs outcomes.Again after stands = refl
+answered_is_made regs _ after stands = refl
 
 -- a call of a known class is served, and shown with what came of it
-pub call_serves : (slot : ℕ) (x y : Machine) (old new : Resident) (call : CallForm) (outcome : Outcome)
-    (after : Registers) (shown : Shown) → call_of old.0.regs ≡ Some call → Finishes slot x y call outcome old new
-    → ChangesOnly slot x.home y.home → ReplyStands old.0.regs outcome after
-    → shown ≡ record { call = Some (answered (asked old.0.regs) outcome after); denial = None }
+pub call_serves : (slot : ℕ) (x y : Machine) (old new : Resident) (call : CallForm) (outcome : Outcome) (shown : Shown)
+    → call_of old.0.regs ≡ Some call → Finishes slot x y call outcome old new → ChangesOnly slot x.home y.home
+    → shown ≡ record { call = Some (answered (asked old.0.regs) outcome new.0.regs); denial = None }
     → ServesCall slot x y shown old new
-call_serves slot x y old new call outcome after shown known finishes only stands e = λ accesses storage.
-    let m = x.moment in
-    let beside = beside_in x.drivers storage in
-    let r = record_in x.home.flash old.0 old.1 beside in
-    let is = finishes.serves storage in
-    as_known slot x y shown beside old new _ (called r accesses call _)
-    (ap (calls m.settings m.time r accesses) known) (
-      ap (λ (s : Served). s.after) is
-          ∙ ap (λ (flash : List ℕ). record_in flash new.0 new.1 beside) (only_flash slot x.home y.home only),
-      record {
-        call = ap (λ (s : Served). Some (call_made old.0.regs s.outcome)) is
-            ∙ ap Some (sym (answered_is_made old.0.regs outcome after stands)) ∙ ap (λ (s : Shown). s.call) (sym e);
-        denial = ap (λ (s : Shown). s.denial) (sym e);
-      },
-      subst (λ (acts : List BoardRequest). Drives (id_of slot old.1) acts x.drivers y.drivers)
-          (sym (ap (λ (s : Served). s.acts) is)) finishes.drives,
+call_serves slot x y old new call outcome shown known finishes only e = λ accesses storage.
+    let r = record_in x.home.flash old.0 old.1 (beside_in x.drivers storage) in
+    let around = surroundings x.moment.settings x.moment.time r in
+    let stands = rw (finishes.serves storage) at (reply_stands x.moment.settings.strict around r call) in
+    rw (
+      known,
+      finishes.serves storage,
+      only_flash slot x.home y.home only,
+      e,
+      answered_is_made old.0.regs outcome new.0.regs stands,
     )
+    (refl, record { call = refl; denial = refl }, finishes.drives)
 
 -- one whose denial was recorded starts again as one that faulted does
 pub faulted_restarts : (flash : List ℕ) (p q : Process) (own own_after : Own) (beside : Beside) (denial : Denial)
     → StartsAgain (object_in flash p.object) (record p { denial = Some denial }, own) (q, own_after)
     → restart (record_in flash (after_fault p denial) own beside) ≡ record_in flash q own_after beside
 faulted_restarts flash p q own own_after beside denial k =
-    sym (starts_again flash (after_fault p denial) q own own_after beside (record {
-      h = k.h;
-      m = k.m;
-      read = k.read;
-      main = k.main;
-      process = k.process;
-      own = k.own;
-    }))
+    sym (starts_again flash (after_fault p denial) q own own_after beside (search rules))
 
 -- the turn of a process that has yielded
-by_due : (r : Record) (next : Option Delivery) → is_some next ≡ true
-    → delivery r next ≡ idle (deliver_due (turn_counted r) next)
-by_due r None e = absurd (cc)
-by_due r (Some next) e = refl
-
-none_due : (r : Record) (next : Option Delivery) → is_some next ≡ false → delivery r next ≡ idle r
-none_due r None e = refl
-none_due r (Some next) e = absurd (cc)
+by_due : (r : Record) (next : Option Delivery)
+    → delivery r next ≡ idle (cond (is_some next) (deliver_due (turn_counted r) next) r)
+by_due r None = refl
+by_due r (Some next) = refl
 
 module _ (slot : ℕ) (x : Machine) where
   -- a turn in which a process may be changed, and no more
@@ -283,8 +224,7 @@ module _ (slot : ℕ) (x : Machine) where
       → turned x.moment.settings x.moment.time (record_in x.home.flash old.0 old.1 beside)
       ≡ idle (record_in x.home.flash new.0 new.1 beside)) → Turns slot x x nothing_shown old new
   is_quiet old new t = λ storage.
-      let beside = beside_in x.drivers storage in
-      as_known slot x x nothing_shown beside old new _ _ (t beside)
+      rw (t (beside_in x.drivers storage))
       (refl, record { call = refl; denial = refl }, drives_nothing (id_of slot old.1) x.drivers)
 
   -- what is due to it is delivered
@@ -294,15 +234,13 @@ module _ (slot : ℕ) (x : Machine) where
       ≡ deliver_due (record_in x.home.flash (after_turn old.0) old.1 beside) (due old.1.inbox))
       → Turns slot x x nothing_shown old new
   woken old new waits free some delivers = is_quiet old new (λ beside.
-      by_state x old beside Yielded free waits
-      ∙ by_due (record_in x.home.flash old.0 old.1 beside) (due old.1.inbox) some ∙ ap idle (sym (delivers beside)))
+      rw (by_state x old beside Yielded free waits, by_due _ (due old.1.inbox), some, delivers beside))
 
   -- where nothing is nothing happens
   pub waits_on : (r : Resident) → r.0.state ≡ Yielded → r.0.held ≡ false → is_some (due r.1.inbox) ≡ false
       → Turns slot x x nothing_shown r r
   waits_on r waits free none = is_quiet r r (λ beside.
-      by_state x r beside Yielded free waits
-      ∙ none_due (record_in x.home.flash r.0 r.1 beside) (due r.1.inbox) none)
+      rw (by_state x r beside Yielded free waits, by_due _ (due r.1.inbox), none))
 
   -- a process that ended has no turn
   pub rests : (r : Resident) → r.0.held ≡ false → (r.0.state ≡ Faulted) ⊎ ((code : ℕ) × (r.0.state ≡ Terminated code))
@@ -313,12 +251,7 @@ module _ (slot : ℕ) (x : Machine) where
 -- a process that had no turn is as it is to be, some steps later, so one step later
 pub rests_seated_on : (flash : List ℕ) (steps more : ℕ) (r : Resident) → IsResident flash steps r
     → IsResident flash (steps + more) r
-rests_seated_on flash steps more r s = record {
-  own = s.own;
-  turns = omega (arith, s.turns);
-  restarts = omega (arith, s.restarts);
-  life = omega (arith, s.life);
-}
+rests_seated_on flash steps more r s = search (rules, arith)
 
 pub rests_seated : (flash : List ℕ) (steps : ℕ) (r : Resident) → IsResident flash steps r
     → IsResident flash (steps + 1) r
@@ -328,5 +261,5 @@ rests_seated flash steps r s = rests_seated_on flash steps 1 r s
 pub loses_one : (slot : ℕ) (x y : Machine) (shown : Shown) (old new : Resident) → DropsAtMostOne
     → Turns slot x y shown old new → new.1.inbox.dropped ≤ old.1.inbox.dropped + 1
 loses_one slot x y shown old new law turns =
-    subst (λ (r : Record). r.own.inbox.dropped ≤ old.1.inbox.dropped + 1) (turns []).0
+    rw (turns []).0 at
     (law x.moment.settings x.moment.time (record_in x.home.flash old.0 old.1 (beside_in x.drivers []))).not_more

@@ -4,7 +4,7 @@
 -- (`LinesSoFar`).
 use Rattle.std.proofs.Common.{◌≡◌, ℕ, ◌+◌, ◌-◌, ◌<◌, ◌≤◌, List, [], ◌∷◌, ◌++◌, codes, length, take, drop}
 use Rattle.std.proofs.Common.{get_or, length-drop}
-use Rattle.std.proofs.Common.{refl, sym, ap, subst, ◌∙◌, arith, append_assoc, append-nil, length-append}
+use Rattle.std.proofs.Common.{refl, sym, ap, ◌∙◌, arith, append_assoc, append-nil, length-append}
 use Rattle.std.specs.Int.{w32, to_le_bytes}
 use Rattle.std.specs.List.{AllByRecursion, flat_map}
 use Rattle.std.proofs.lemmas.List.{take_at, drop_at}
@@ -61,10 +61,9 @@ module _ (law : WordsInBytes) (back : IsReadBack) where
       let cut : rest ≡ front ++ encode_grants gs =
       is ∙ flat_map-append (to_le_bytes w32) (area_words g) (areas gs) in
       let size : length front ≡ n = area_size g s in
-      let cost : first_cost rest ≡ n =
-      ap first_cost is ∙ ap (λ (ws : List ℕ). get_or ws 1 0) (back.words (g ∷ gs) (s, all)) in
+      let cost : first_cost rest ≡ n = rw (is, back.words (g ∷ gs) (s, all)) in
       let long : length rest ≡ n + length (encode_grants gs) =
-      ap length cut ∙ length-append front (encode_grants gs) ∙ ap (λ (k : ℕ). k + length (encode_grants gs)) size in
+      rw (cut, length-append front (encode_grants gs), size) in
       let least = cost-words (shape_of g.driver) in
       record {
         grant = g;
@@ -74,11 +73,8 @@ module _ (law : WordsInBytes) (back : IsReadBack) where
         enough = omega (arith, long, least);
         some = omega (arith, cost, least);
         within = omega (arith, cost, long);
-        words =
-            ap (λ (k : ℕ). words_of (take k rest)) cost ∙ ap (λ (bytes : List ℕ). words_of (take n bytes)) cut
-            ∙ ap words_of (take_at front (encode_grants gs) n size) ∙ lone_area g s;
-        next =
-            ap (λ (k : ℕ). drop k rest) cost ∙ ap (drop n) cut ∙ drop_at front (encode_grants gs) n size;
+        words = rw (cost, cut, take_at front (encode_grants gs) n size) (lone_area g s);
+        next = rw (cost, cut) (drop_at front (encode_grants gs) n size);
       }
 
   -- where there are bytes there is an area, and where there are none no grant is left
@@ -111,6 +107,11 @@ pub record LinesSoFar {K : Type 0} (tells : K → SinkFacts) (a b : K) (slot : �
   pub wrote : WroteAll tells a b text
   pub whole : flat_map (grant_text slot) all ≡ text ++ flat_map (grant_text slot) left
 
+-- so there is one of the grants left, where bytes are
+pub first_left : {K : Type 0} {tells : K → SinkFacts} {a b : K} {slot : ℕ} {all : List Grant} {rest : List ℕ}
+    → WordsInBytes → IsReadBack → (so : LinesSoFar tells a b slot all rest) → 0 < length rest → FirstArea rest so.left
+first_left {rest = rest} law back so h = area_here law back rest so.left so.sound so.bytes h
+
 module _ {K : Type 0} {tells : K → SinkFacts} (compose : WritesCompose tells) where
   pub no_lines : (a : K) (slot : ℕ) (kernel : List ℕ) → EncodesGrants kernel
       → LinesSoFar tells a a slot (decode_grants kernel) kernel
@@ -134,16 +135,13 @@ module _ {K : Type 0} {tells : K → SinkFacts} (compose : WritesCompose tells) 
     module _ (n : ℕ) (area next : List ℕ) (cost : n ≡ first_cost rest) (front : area ≡ take n rest)
         (behind : next ≡ drop n rest) where
       told : slot_line (codes "grant ") slot (words_of area) ≡ grant_text slot first.grant
-      told =
-          ap (λ (bytes : List ℕ). slot_line (codes "grant ") slot (words_of bytes))
-          (front ∙ ap (λ (k : ℕ). take k rest) cost)
-          ∙ ap (slot_line (codes "grant ") slot) first.words
+      told = rw (front, cost, first.words)
 
       pub line_part : {c : K} → WrotePart tells b c (slot_line (codes "grant ") slot (words_of area))
           → WrotePart tells a c (flat_map (grant_text slot) all)
       line_part {c} part =
           part_between compose (flat_map (grant_text slot) first.others) (flat_map (grant_text slot) all) around
-          so.wrote (subst (λ (text : List ℕ). WrotePart tells b c text) told part)
+          so.wrote (rw told at part)
 
       pub line_more : {c : K} → WroteAll tells b c (slot_line (codes "grant ") slot (words_of area))
           → LinesSoFar tells a c slot all next
@@ -151,15 +149,11 @@ module _ {K : Type 0} {tells : K → SinkFacts} (compose : WritesCompose tells) 
         text = so.text ++ grant_text slot first.grant;
         left = first.others;
         sound = first.sound;
-        bytes = behind ∙ ap (λ (k : ℕ). drop k rest) cost ∙ first.next;
-        wrote = compose.all_then_all so.wrote (subst (λ (text : List ℕ). WroteAll tells b c text) told line);
-        whole =
-            around
-            ∙ sym (append_assoc so.text (grant_text slot first.grant) (flat_map (grant_text slot) first.others));
+        bytes = rw (behind, cost) first.next;
+        wrote = compose.all_then_all so.wrote (rw told at line);
+        whole = rw append_assoc around;
       }
 
   pub all_lines : {a b : K} {slot : ℕ} {all : List Grant} {rest : List ℕ} (so : LinesSoFar tells a b slot all rest)
       → so.left ≡ [] → WroteAll tells a b (flat_map (grant_text slot) all)
-  all_lines {a} {b} {slot} {all} so none =
-      subst (WroteAll tells a b) (sym (so.whole
-      ∙ ap (λ (gs : List Grant). so.text ++ flat_map (grant_text slot) gs) none ∙ append-nil so.text)) so.wrote
+  all_lines {a} {b} {slot} {all} so none = rw (so.whole, none, append-nil so.text) so.wrote

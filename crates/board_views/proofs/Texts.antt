@@ -13,52 +13,27 @@ use Rattle.board_views.specs.Lines.{word_text}
 -- the texts of a range in two parts
 range_texts-add : (f : ℕ → List ℕ) (from n m : ℕ) → flat_map f (range_with_len from (n + m))
     ≡ flat_map f (range_with_len from n) ++ flat_map f (range_with_len (from + n) m)
-range_texts-add f from zero m = ap (λ (k : ℕ). flat_map f (range_with_len from k)) (zero_left m)
-    ∙ ap (λ (k : ℕ). flat_map f (range_with_len k m)) (zero_right from)
-  where
-    zero_left : (n : ℕ) → 0 + n ≡ n
-    zero_left n = omega arith
-
-    zero_right : (n : ℕ) → n ≡ n + 0
-    zero_right n = omega arith
+range_texts-add f from zero m =
+    let left : 0 + m ≡ m = omega arith in let right : from + 0 ≡ from = omega arith in rw (left, right)
 range_texts-add f from (suc n) m =
-    ap (λ (k : ℕ). flat_map f (range_with_len from k)) (one_more n m)
-    ∙ ap (λ (t : List ℕ). f from ++ t) (range_texts-add f (from + 1) n m
-    ∙ ap (λ (k : ℕ). flat_map f (range_with_len (from + 1) n) ++ flat_map f (range_with_len k m)) (moved from n))
-    ∙ sym (append_assoc (f from) (flat_map f (range_with_len (from + 1) n))
-    (flat_map f (range_with_len (from + suc n) m)))
-  where
-    one_more : (n m : ℕ) → suc n + m ≡ suc (n + m)
-    one_more n m = omega arith
-
-    moved : (f n : ℕ) → f + 1 + n ≡ f + suc n
-    moved f n = omega arith
+    let one : suc n + m ≡ suc (n + m) = omega arith in
+    let moved : from + suc n ≡ from + 1 + n = omega arith in
+    rw (one, moved, range_texts-add f (from + 1) n m, append_assoc)
 
 -- one text more
 pub range_more : (f : ℕ → List ℕ) (i : ℕ) → flat_map f (range_with_len 0 (i + 1))
     ≡ flat_map f (range_with_len 0 i) ++ f i
 range_more f i =
-    range_texts-add f 0 i 1 ∙ ap (λ (t : List ℕ). flat_map f (range_with_len 0 i) ++ t)
-    (append-nil (f (0 + i)) ∙ ap f (zero_left i))
-  where
-    zero_left : (n : ℕ) → 0 + n ≡ n
-    zero_left n = omega arith
+    let left : 0 + i ≡ i = omega arith in rw (range_texts-add f 0 i 1, append-nil (f (0 + i)), left)
 
 -- the texts of a range, around one of them
 pub range_around : (f : ℕ → List ℕ) (i n : ℕ) → i < n → flat_map f (range_with_len 0 n)
     ≡ flat_map f (range_with_len 0 i) ++ (f i ++ flat_map f (range_with_len (i + 1) (n - (i + 1))))
 range_around f i n h =
-    ap (λ (k : ℕ). flat_map f (range_with_len 0 k)) (split i n h) ∙ range_texts-add f 0 (i + 1) (n - (i + 1))
-    ∙ ap (λ (t : List ℕ). t ++ flat_map f (range_with_len (0 + (i + 1)) (n - (i + 1)))) (range_more f i)
-    ∙ ap (λ (k : ℕ). (flat_map f (range_with_len 0 i) ++ f i) ++ flat_map f (range_with_len k (n - (i + 1))))
-    (zero_left (i + 1))
-    ∙ append_assoc (flat_map f (range_with_len 0 i)) (f i) (flat_map f (range_with_len (i + 1) (n - (i + 1))))
-  where
-    split : (i n : ℕ) → i < n → n ≡ i + 1 + (n - (i + 1))
-    split i n h = omega (arith, h)
-
-    zero_left : (n : ℕ) → 0 + n ≡ n
-    zero_left n = omega arith
+    let split : n ≡ i + 1 + (n - (i + 1)) = omega arith in
+    let left : 0 + (i + 1) ≡ i + 1 = omega arith in
+    ap (λ (k : ℕ). flat_map f (range_with_len 0 k)) split
+    ∙ rw (range_texts-add f 0 (i + 1) (n - (i + 1)), range_more f i, left, append_assoc)
 
 -- the slots of processes as words, by their ids
 pub slots_text : (ids : List ProcessId) → flat_map (λ (id : ProcessId). word_text id.slot) ids
@@ -76,5 +51,4 @@ element_around {X} text xs i x h e =
 pub element_more : {X : Type 0} (text : X → List ℕ) (xs : List X) (i : ℕ) (d : X) → i < length xs
     → flat_map text (take (i + 1) xs) ≡ flat_map text (take i xs) ++ text (get_or xs i d)
 element_more {X} text xs i d h =
-    ap (flat_map text) (take_more xs i d h) ∙ flat_map-append text (take i xs) (get_or xs i d ∷ [])
-    ∙ ap (λ (t : List ℕ). flat_map text (take i xs) ++ t) (append-nil (text (get_or xs i d)))
+    rw (take_more xs i d h, flat_map-append text (take i xs) (get_or xs i d ∷ []), append-nil (text (get_or xs i d)))

@@ -1,36 +1,31 @@
 -- A board that goes on to a time. Whether a step ends within it is seen before the step is made (`within-run` and its
 -- like), and k quiet steps may be made at once, since none of them ends later than all do and nothing is told of them:
--- inductions on k (`leap`, `quiet_leap`). The loop keeps `GoesTo`: what was told so far was written, and from here it
--- goes on as from the beginning.
-use Rattle.std.proofs.Common.{◌≡◌, ℕ, zero, suc, ◌+◌, ◌-◌, ◌<◌, ◌≤◌, nat_lt, nat_le, ◌==◌, ◌&&◌, ◌||◌, not, min, Bool}
-use Rattle.std.proofs.Common.{true, false, cond, List, [], ◌∷◌, ◌++◌, length, slice_get, Option, None, Some, is_some}
-use Rattle.std.proofs.Common.{All, codes}
-use Rattle.std.proofs.Common.{refl, sym, ap, ap₂, subst, ◌∙◌, arith, append_assoc, append-nil}
-use Rattle.std.specs.List.{flat_map}
+-- an induction on k (`leap`). The loop keeps `GoesTo`: what was told so far was written, and from here it goes on as
+-- from the beginning.
+use Rattle.std.proofs.lemmas.Bool.{and_from, cases_lt, cond_both, le-leb, le-ltb, lt-ltb}
+use Rattle.std.proofs.Common.{◌≡◌, ℕ, zero, suc, ◌+◌, ◌-◌, ◌<◌, ◌≤◌, nat_lt, nat_le, ◌==◌, min, Bool}
+use Rattle.std.proofs.Common.{true, false, List, [], ◌∷◌, ◌++◌, length, slice_get, Option, None, Some, is_some}
+use Rattle.std.proofs.Common.{All, inl, inr}
+use Rattle.std.proofs.Common.{refl, sym, ap, ap₂, ◌∙◌, arith, append_assoc, append-nil}
 use Rattle.std.proofs.lemmas.Bool.{false≢true}
 use Rattle.std.proofs.lemmas.Bool.Decides.{nat_tests}
 use Rattle.std.proofs.lemmas.List.Elements.{All-cons, All-head, All-nil, All-tail}
-use Rattle.tk_base.specs.declared.access.Denial.{Denial}
 use Rattle.tk_base.specs.declared.limits.TheConstants.{STEP_LIMIT}
 use Rattle.tk_base.specs.declared.process.Choice.{Choice}
 use Rattle.tk_base.specs.declared.process.Choice.TheVariants.{Run, Device, Pass}
 use Rattle.tk_base.specs.declared.process.Dev.{Dev}
-use Rattle.tk_base.specs.declared.process.Verb.{Verb}
 use Rattle.tk_outside.specs.Sink.{SinkFacts}
-use Rattle.tk_outside.specs.Text.{hex_digits}
 use Rattle.tk_outside.specs.Writes.{WroteAll, WrotePart}
 use Rattle.tk_outside.specs.Laws.{WritesCompose}
 use Rattle.process_record.specs.declared.emit.Emit.{Emit}
-use Rattle.board_report.specs.Trace.{act_text, call_text, denied_text, line_head, lines_of_step, out_text, trace_text}
-use Rattle.board_report.specs.Words.{newline}
+use Rattle.board_report.specs.Trace.{lines_of_step, trace_text}
 use Rattle.kernel_model.specs.Record.{Record}
-use Rattle.kernel_model.specs.Turn.{Act, Alarmed, Edge, Event, Input, NoWord, Stored, Taken, Turn, Word, WriteDone}
-use Rattle.kernel_model.specs.Turn.{is_act, is_turn}
+use Rattle.kernel_model.specs.Turn.{Act, Event}
+use Rattle.kernel_model.specs.Turn.{is_turn}
 use Rattle.kernel_model.specs.World.{DeviceStep, Label, Stepped, World, after, carried_out, device_step_of, done}
 use Rattle.kernel_model.specs.World.{is_ready, labels, ran}
 use Rattle.kernel_model.specs.Named.{can_run}
-use Rattle.kernel_model.specs.Run.{Ran, next, printed, round}
-use Rattle.kernel_model.specs.Parts.{on_choice}
+use Rattle.kernel_model.specs.Run.{next, printed, round}
 use Rattle.kernel_model.specs.Shown.{act_shown, shown_by}
 use Rattle.kernel_model.specs.Stretch.{IsQuietTurn, IsStretch}
 use Rattle.kernel_model.proofs.Labels.{shown_by-printed}
@@ -42,40 +37,18 @@ use Rattle.board_views.specs.Times.{choice_within, is_within, only_within, to_ti
 use Rattle.board_views.specs.Times.{told_to, uncalled_text, world_reached}
 use Rattle.board_views.proofs.Stretches.{lead-step, lead-stop, lead-zero}
 
--- tests of numbers
-is_less : (n m : ℕ) → n < m → nat_lt n m ≡ true
-is_less n m h = grind (arith, nat_tests)
-
-not_less : (n m : ℕ) → m ≤ n → nat_lt n m ≡ false
-not_less n m h = grind (arith, nat_tests)
-
-is_at_most : (n m : ℕ) → n ≤ m → nat_le n m ≡ true
-is_at_most n m h = grind (arith, nat_tests)
-
 -- so many ticks later it is not past a time that is as many ticks ahead
 in_time : (ticks now time : ℕ) → now < time → nat_le ticks (time - now) ≡ nat_le (now + ticks) time
 in_time ticks now time h = grind (arith, nat_tests)
-
-is_late : (time now : ℕ) → nat_le time now ≡ true → time ≤ now
-is_late time now t = grind (arith, nat_tests)
-
-is_ahead : (time now : ℕ) → nat_le time now ≡ false → 0 < time - now
-is_ahead time now t = grind (arith, nat_tests)
-
--- the limit of steps is reached, where none of some steps may be made
-limited : (left steps ticks part : ℕ) → 0 < left → part ≡ min (min left (STEP_LIMIT - steps)) ticks → part ≡ 0
-    → 0 < ticks → STEP_LIMIT ≤ steps
-limited left steps ticks part l e z h = omega (arith, l, e, z, h)
 
 -- when a step ends that may be made
 run_ends : (w : World) (slot : ℕ) → is_ready w (Run slot) ≡ true → (after w (Run slot)).clock.time ≡ w.clock.time + 1
 unfolding carried_out
 run_ends w slot ready =
-    ap (λ (s : Stepped). s.after.clock.time) (stepped_ready w (Run slot) ready)
-    ∙ by_record (slice_get w.records slot) (may_where_ready w slot ready)
+    rw (after, stepped_ready w (Run slot) ready) (by_record (slice_get w.records slot) (may_where_ready w slot ready))
   where
     by_record : (o : Option Record) → can_run o ≡ true → (ran w slot o).after.clock.time ≡ w.clock.time + 1
-    by_record None can = absurd (false≢true can)
+    by_record None can = absurd (cc)
     by_record (Some r) can = refl
 
 device_ends : (w : World) (device : Dev) → (after w (Device device)).clock.time ≡ w.clock.time
@@ -91,36 +64,26 @@ device_ends w device =
 pub pass_ends : (w : World) (ticks : ℕ) → is_ready w (Pass ticks) ≡ true
     → (after w (Pass ticks)).clock.time ≡ w.clock.time + ticks
 unfolding carried_out
-pass_ends w ticks ready = ap (λ (s : Stepped). s.after.clock.time) (stepped_ready w (Pass ticks) ready)
+pass_ends w ticks ready = rw (after, stepped_ready w (Pass ticks) ready)
 
 -- so whether a step is within a time is seen before it is made
 pub late_choice : (time : ℕ) (w : World) (c : Choice) → time ≤ w.clock.time → false ≡ is_within time w c
-late_choice time w c h =
-    sym (ap (λ (b : Bool). b && nat_le (after w c).clock.time time) (not_less w.clock.time time h))
-
-by_end : (time end : ℕ) (w : World) (c : Choice) → w.clock.time < time → (after w c).clock.time ≡ end
-    → nat_le end time ≡ is_within time w c
-by_end time end w c h e =
-    ap (λ (n : ℕ). nat_le n time) (sym e)
-    ∙ sym (ap (λ (b : Bool). b && nat_le (after w c).clock.time time) (is_less w.clock.time time h))
+late_choice time w c h = rw (le-ltb w.clock.time time h)
 
 pub within-run : (time : ℕ) (w : World) (slot : ℕ) → is_ready w (Run slot) ≡ true → w.clock.time < time
     → true ≡ is_within time w (Run slot)
 within-run time w slot ready h =
-    sym (is_at_most (w.clock.time + 1) time (omega arith))
-    ∙ by_end time (w.clock.time + 1) w (Run slot) h (run_ends w slot ready)
+    rw (lt-ltb w.clock.time time h, run_ends w slot ready, le-leb (w.clock.time + 1) time (omega arith))
 
 pub within-device : (time : ℕ) (w : World) (device : Dev) → w.clock.time < time
     → true ≡ is_within time w (Device device)
 within-device time w device h =
-    sym (is_at_most w.clock.time time (omega arith))
-    ∙ by_end time w.clock.time w (Device device) h (device_ends w device)
+    rw (lt-ltb w.clock.time time h, device_ends w device, le-leb w.clock.time time (omega arith))
 
 pub within-pass : (time : ℕ) (w : World) (ticks : ℕ) → is_ready w (Pass ticks) ≡ true → w.clock.time < time
     → nat_le ticks (time - w.clock.time) ≡ is_within time w (Pass ticks)
 within-pass time w ticks ready h =
-    in_time ticks w.clock.time time h
-    ∙ by_end time (w.clock.time + ticks) w (Pass ticks) h (pass_ends w ticks ready)
+    rw (in_time ticks w.clock.time time h, lt-ltb w.clock.time time h, pass_ends w ticks ready)
 
 -- time never goes back, and no step is taken back
 pub record IsOn (w v : World) : Type 0 where
@@ -151,80 +114,62 @@ joins_on : (w v u : World) → IsOn w v → IsOn v u → IsOn w u
 joins_on w v u h k = record { time = omega (arith, h.time, k.time); steps = omega (arith, h.steps, k.steps) }
 
 pub run_on : (k : ℕ) (w : World) → IsOn w (round k w).world
-run_on zero w = subst (IsOn w) (sym (lead-zero w)) (stays_on w)
+run_on zero w = rw (lead-zero w) (stays_on w)
 run_on (suc k) w = by_next (next w) refl (λ c. run_on k (after w c))
   where
     by_next : (o : Option Choice) → next w ≡ o → ((c : Choice) → IsOn (after w c) (round k (after w c)).world)
         → IsOn w (round (suc k) w).world
-    by_next None e later = subst (IsOn w) (sym (lead-stop (suc k) w e)) (stays_on w)
-    by_next (Some c) e later =
-        subst (IsOn w) (sym (lead-step k w c e))
-        (joins_on w (after w c) (round k (after w c)).world (step_on w c) (later c))
+    by_next None e later = rw (lead-stop (suc k) w e) (stays_on w)
+    by_next (Some c) e later = rw (lead-step k w c e) (joins_on w (after w c) _ (step_on w c) (later c))
 
 -- where no choice is left, or the limit of steps is reached, or the next step comes too late, none is within the time
+none_where : (time : ℕ) (w : World) → only_within time w (next w) ≡ None → choice_within time w ≡ None
+none_where time w none =
+    cond_both (nat_lt w.clock.steps STEP_LIMIT) (next w) None (λ (o : Option Choice). only_within time w o ≡ None)
+    (λ may. none) (λ no. refl)
+
 pub none-over : (time : ℕ) (w : World) → next w ≡ None → choice_within time w ≡ None
-none-over time w e = by_test (nat_lt w.clock.steps STEP_LIMIT)
-  where
-    by_test : (b : Bool) → only_within time w (cond b (next w) None) ≡ None
-    by_test true = ap (only_within time w) e
-    by_test false = refl
+none-over time w e = none_where time w (rw e)
 
 pub none-limit : (time : ℕ) (w : World) → STEP_LIMIT ≤ w.clock.steps → choice_within time w ≡ None
-none-limit time w h =
-    ap (λ (b : Bool). only_within time w (cond b (next w) None)) (not_less w.clock.steps STEP_LIMIT h)
+none-limit time w h = rw (le-ltb w.clock.steps STEP_LIMIT h)
 
 pub none-late : (time : ℕ) (w : World) (c : Choice) → next w ≡ Some c → is_within time w c ≡ false
     → choice_within time w ≡ None
-none-late time w c e l = by_test (nat_lt w.clock.steps STEP_LIMIT)
-  where
-    by_test : (b : Bool) → only_within time w (cond b (next w) None) ≡ None
-    by_test true = ap (only_within time w) e ∙ ap (λ (b : Bool). cond b (Some c) None) l
-    by_test false = refl
+none-late time w c e l = none_where time w (rw (e, l))
 
 pub none-begins_late : (time : ℕ) (w : World) → time ≤ w.clock.time → choice_within time w ≡ None
-none-begins_late time w h = by_next (next w) refl
+none-begins_late time w h = none_where time w (by_next (next w))
   where
-    by_next : (o : Option Choice) → next w ≡ o → choice_within time w ≡ None
-    by_next None e = none-over time w e
-    by_next (Some c) e = none-late time w c e (sym (late_choice time w c h))
+    by_next : (o : Option Choice) → only_within time w o ≡ None
+    by_next None = refl
+    by_next (Some c) = rw (← late_choice time w c h)
 
 -- and where it is, it is the next one
 pub one-within : (time : ℕ) (w : World) (c : Choice) → next w ≡ Some c → w.clock.steps < STEP_LIMIT
     → is_within time w c ≡ true → choice_within time w ≡ Some c
-one-within time w c e h i =
-    ap (λ (b : Bool). only_within time w (cond b (next w) None)) (is_less w.clock.steps STEP_LIMIT h)
-    ∙ ap (only_within time w) e ∙ ap (λ (b : Bool). cond b (Some c) None) i
+one-within time w c e h i = rw (lt-ltb w.clock.steps STEP_LIMIT h, e, i)
 
 -- a board that goes no further, and one that makes a step
 pub to_time-none : (n time : ℕ) (w : World) → choice_within time w ≡ None → to_time n time w ≡ w
 unfolding to_time
 to_time-none zero time w e = refl
-to_time-none (suc n) time w e = ap (on_choice w (λ choice. to_time n time (after w choice))) e
+to_time-none (suc n) time w e = rw e
 
 pub to_time-step : (n time : ℕ) (w : World) (c : Choice) → choice_within time w ≡ Some c
     → to_time (suc n) time w ≡ to_time n time (after w c)
 unfolding to_time
-to_time-step n time w c e = ap (on_choice w (λ choice. to_time n time (after w choice))) e
-
-to_time-zero : (n time : ℕ) (w : World) → n ≡ zero → to_time n time w ≡ w
-unfolding to_time
-to_time-zero n time w e = ap (λ (k : ℕ). to_time k time w) e
+to_time-step n time w c e = rw e
 
 told_to-none : (n time : ℕ) (w : World) → choice_within time w ≡ None → told_to n time w ≡ []
 unfolding told_to
 told_to-none zero time w e = refl
-told_to-none (suc n) time w e =
-    ap (on_choice [] (λ choice. told_text w choice ++ told_to n time (after w choice))) e
+told_to-none (suc n) time w e = rw e
 
 told_to-step : (n time : ℕ) (w : World) (c : Choice) → choice_within time w ≡ Some c
     → told_to (suc n) time w ≡ told_text w c ++ told_to n time (after w c)
 unfolding told_to
-told_to-step n time w c e =
-    ap (on_choice [] (λ choice. told_text w choice ++ told_to n time (after w choice))) e
-
-told_to-zero : (n time : ℕ) (w : World) → n ≡ zero → told_to n time w ≡ []
-unfolding told_to
-told_to-zero n time w e = ap (λ (k : ℕ). told_to k time w) e
+told_to-step n time w c e = rw e
 
 -- quiet turns print nothing, and nothing is told of them
 quiet_prints : (ls : List Label) → All IsQuietTurn ls → printed ls ≡ []
@@ -234,45 +179,22 @@ quiet_prints (label ∷ ls) all =
     (quiet_prints ls (All-tail IsQuietTurn label ls all))
 
 turn_is_no_act : (slot : ℕ) (event : Event) → is_turn event ≡ true → act_shown slot event ≡ None
-turn_is_no_act slot (Turn t) is = refl
-turn_is_no_act slot (Alarmed now) is = refl
-turn_is_no_act slot (Edge button pressed) is = refl
-turn_is_no_act slot Taken is = refl
-turn_is_no_act slot WriteDone is = refl
-turn_is_no_act slot (Input bytes) is = refl
-turn_is_no_act slot (Word word) is = refl
-turn_is_no_act slot NoWord is = refl
-turn_is_no_act slot (Stored moved) is = refl
-turn_is_no_act slot (Act verb) is = absurd (false≢true is)
+turn_is_no_act slot (Act verb) is = absurd (cc)
+turn_is_no_act slot _ is = refl
 
 quiet_tells : (time : ℕ) (ls : List Label) → All IsQuietTurn ls → uncalled_text time (shown_by ls) ≡ []
 unfolding trace_text shown_by
 quiet_tells time [] all = refl
 quiet_tells time (label ∷ ls) all =
     let quiet = All-head IsQuietTurn label ls all in
-    let bytes : label.printed ++ (shown_by ls).printed.items ≡ [] =
-    ap (λ (xs : List ℕ). xs ++ (shown_by ls).printed.items) quiet.1 ∙ shown_by-printed ls
-    ∙ quiet_prints ls (All-tail IsQuietTurn label ls all) in
-    ap (λ (b : Bool). uncalled_text time
-    (cond (b || (is_act label.event || not (length label.printed == 0))) shows (shown_by ls))) quiet.0
-    ∙ ap (λ (act : Option (ℕ × Verb)). lines act label.trace.denial (label.printed ++ (shown_by ls).printed.items))
-    (turn_is_no_act label.slot label.event quiet.0)
-    ∙ ap (λ (denial : Option Denial). lines None denial (label.printed ++ (shown_by ls).printed.items)) quiet.4
-    ∙ ap (lines None None) bytes
-  where
-    shows : Emit
-    shows = record {
-      slot = Some label.slot;
-      act = act_shown label.slot label.event;
-      made = label.trace.call;
-      denial = label.trace.denial;
-      printed = record { items = label.printed ++ (shown_by ls).printed.items };
-    }
-
-    lines : Option (ℕ × Verb) → Option Denial → List ℕ → List ℕ
-    lines act denial xs =
-        (call_text time label.slot None ++ denied_text time label.slot denial)
-        ++ (act_text time act ++ out_text time label.slot xs)
+    rw (
+      quiet.0,
+      turn_is_no_act label.slot label.event quiet.0,
+      quiet.4,
+      quiet.1,
+      shown_by-printed ls,
+      quiet_prints ls (All-tail IsQuietTurn label ls all),
+    )
 
 -- nothing is told of a step that shows no denial, no act and nothing printed
 none_is : {X : Type 0} (o : Option X) → is_some o ≡ false → o ≡ None
@@ -286,12 +208,7 @@ tells_nothing step d a p time = by_slot step.slot
   where
     by_slot : (o : Option ℕ) → lines_of_step time o (record step { made = None }) ≡ []
     by_slot None = refl
-    by_slot (Some slot) =
-        ap₂ (λ (denial : Option Denial) (act : Option (ℕ × Verb)).
-        (call_text time slot None ++ denied_text time slot denial)
-        ++ (act_text time act ++ out_text time slot step.printed.items)) (none_is step.denial d) (none_is step.act a)
-        ∙ ap (λ (b : Bool). cond b []
-        (line_head time slot (codes " out ") ++ (flat_map (hex_digits 2) step.printed.items ++ newline))) p
+    by_slot (Some slot) = rw (none_is step.denial d, none_is step.act a, p)
 
 both_parts : {X : Type 0} (P : X → Type 0) (xs ys : List X) → All P (xs ++ ys) → All P xs × All P ys
 both_parts P [] ys all = (All-nil P, all)
@@ -306,69 +223,39 @@ module _ {time : ℕ} {v : World} (early : v.clock.time < time) (few : v.clock.s
       → choice_within time w ≡ Some c
   first_within k w c e there =
       let one = step_on w c in
-      let rest : IsOn (after w c) v = subst (IsOn (after w c)) (sym there) (run_on k (after w c)) in
+      let rest : IsOn (after w c) v = rw there (run_on k (after w c)) in
       one-within time w c e (omega (arith, one.steps, rest.steps, few))
-      (ap₂ (λ (a b : Bool). a && b) (is_less w.clock.time time (omega (arith, one.time, rest.time, early)))
-      (is_at_most (after w c).clock.time time (omega (arith, rest.time, early))))
+      (and_from _ _ (lt-ltb w.clock.time time (omega (arith, one.time, rest.time, early)))
+      (le-leb (after w c).clock.time time (omega (arith, rest.time, early))))
 
-  leap : (k m n : ℕ) (w : World) → m ≡ k + n → v ≡ (round k w).world → to_time m time w ≡ to_time n time v
-  leap zero m n w e r =
-      ap (λ (j : ℕ). to_time j time w) (whole m n e) ∙ ap (to_time n time) (sym (r ∙ lead-zero w))
+  leap : (k m n : ℕ) (w : World) → m ≡ k + n → v ≡ (round k w).world → All IsQuietTurn (round k w).labels
+      → (to_time m time w ≡ to_time n time v) × (told_to m time w ≡ told_to n time v)
+  leap zero m n w e r all = let same : m ≡ n = omega arith in rw (same, r, lead-zero w) (refl, refl)
+  leap (suc k) zero n w e r all = absurd (omega arith)
+  leap (suc k) (suc m) n w e r all = by_next (next w) refl (λ c. leap k m n (after w c) (omega arith))
     where
-      whole : (m n : ℕ) → m ≡ zero + n → m ≡ n
-      whole m n e = omega (arith, e)
-  leap (suc k) zero n w e r = absurd (none k n e)
-    where
-      none : (k n : ℕ) → zero ≡ suc k + n → ⊥
-      none k n e = omega (arith, e)
-  leap (suc k) (suc m) n w e r = by_next (next w) refl (λ c there. leap k m n (after w c) (fewer k m n e) there)
-    where
-      fewer : (k m n : ℕ) → suc m ≡ suc k + n → m ≡ k + n
-      fewer k m n e = omega (arith, e)
-
-      by_next : (o : Option Choice) → next w ≡ o
-          → ((c : Choice) → v ≡ (round k (after w c)).world → to_time m time (after w c) ≡ to_time n time v)
-          → to_time (suc m) time w ≡ to_time n time v
-      by_next None f later =
-          let same : v ≡ w = r ∙ lead-stop (suc k) w f in
-          to_time-none (suc m) time w (none-over time w f) ∙ sym same
-          ∙ sym (to_time-none n time v (none-over time v (ap next same ∙ f)))
-      by_next (Some c) f later =
-          let there : v ≡ (round k (after w c)).world = r ∙ lead-step k w c f in
-          to_time-step m time w c (first_within k w c f there) ∙ later c there
-
-  quiet_leap : (k m n : ℕ) (w : World) → m ≡ k + n → v ≡ (round k w).world → All IsQuietTurn (round k w).labels
-      → told_to m time w ≡ told_to n time v
-  quiet_leap zero m n w e r all =
-      ap (λ (j : ℕ). told_to j time w) (whole m n e) ∙ ap (told_to n time) (sym (r ∙ lead-zero w))
-    where
-      whole : (m n : ℕ) → m ≡ zero + n → m ≡ n
-      whole m n e = omega (arith, e)
-  quiet_leap (suc k) zero n w e r all = absurd (none k n e)
-    where
-      none : (k n : ℕ) → zero ≡ suc k + n → ⊥
-      none k n e = omega (arith, e)
-  quiet_leap (suc k) (suc m) n w e r all =
-      by_next (next w) refl (λ c there quiet. quiet_leap k m n (after w c) (fewer k m n e) there quiet)
-    where
-      fewer : (k m n : ℕ) → suc m ≡ suc k + n → m ≡ k + n
-      fewer k m n e = omega (arith, e)
-
       by_next : (o : Option Choice) → next w ≡ o
           → ((c : Choice) → v ≡ (round k (after w c)).world → All IsQuietTurn (round k (after w c)).labels
-          → told_to m time (after w c) ≡ told_to n time v)
-          → told_to (suc m) time w ≡ told_to n time v
+          → (to_time m time (after w c) ≡ to_time n time v) × (told_to m time (after w c) ≡ told_to n time v))
+          → (to_time (suc m) time w ≡ to_time n time v) × (told_to (suc m) time w ≡ told_to n time v)
       by_next None f later =
-          let same : v ≡ w = r ∙ lead-stop (suc k) w f in
-          told_to-none (suc m) time w (none-over time w f)
-          ∙ sym (told_to-none n time v (none-over time v (ap next same ∙ f)))
+          let none = none-over time w f in
+          rw (
+            r,
+            lead-stop (suc k) w f,
+            to_time-none (suc m) time w none,
+            to_time-none n time w none,
+            told_to-none (suc m) time w none,
+            told_to-none n time w none,
+          ) (refl, refl)
       by_next (Some c) f later =
           let there : v ≡ (round k (after w c)).world = r ∙ lead-step k w c f in
-          let parts = both_parts IsQuietTurn (labels w c) (round k (after w c)).labels
-          (subst (λ (q : Ran). All IsQuietTurn q.labels) (round-step k w c f) all) in
-          told_to-step m time w c (first_within k w c f there)
-          ∙ ap₂ (λ (a b : List ℕ). a ++ b) (quiet_tells w.clock.time (labels w c) parts.0)
-          (later c there parts.1)
+          let first = first_within k w c f there in
+          let parts = both_parts IsQuietTurn (labels w c) _ (rw (round-step k w c f) at all) in
+          let rest = later c there parts.1 in (
+            to_time-step m time w c first ∙ rest.0,
+            rw (told_to-step m time w c first, quiet_tells w.clock.time (labels w c) parts.0) rest.1,
+          )
 
 -- With so many steps left: what was told so far was written, and it goes on as from the beginning.
 pub record GoesTo {K : Type 0} (tells : K → SinkFacts) (reach : Reach) (left : ℕ) (from here : World) (old now : K)
@@ -400,23 +287,13 @@ module _ {K : Type 0} {tells : K → SinkFacts} (law : WritesCompose tells) wher
     stretched k then h s =
         let early : then.clock.time < reach.time = omega (arith, h, s.time) in
         let few : then.clock.steps < STEP_LIMIT = omega (arith, h, s.steps) in
-        let parts : left ≡ k + (left - k) = omega (arith, h) in
-        record {
-          done = r.done;
-          wrote = r.wrote;
-          leads = r.leads ∙ leap early few k left (left - k) here parts s.reached;
-          lines = r.lines ∙ ap (λ (text : List ℕ). r.done ++ told_if reach.told text)
-              (quiet_leap early few k left (left - k) here parts s.reached s.quiet);
-        }
+        let led = leap early few k left (left - k) here (omega (arith, h)) s.reached s.quiet in
+        record { done = r.done; wrote = r.wrote; leads = r.leads ∙ led.0; lines = rw (← led.1) r.lines }
 
     -- it goes no further
     ended : to_time left reach.time here ≡ here → told_to left reach.time here ≡ []
         → (here ≡ world_reached reach from) × WroteAll tells old now (told_reaching reach from)
-    ended w t = (
-      sym (r.leads ∙ w),
-      subst (WroteAll tells old now) (sym (r.lines ∙ ap (λ (text : List ℕ). r.done ++ told_if reach.told text) t
-          ∙ ap (λ (text : List ℕ). r.done ++ text) (untold reach.told) ∙ append-nil r.done)) r.wrote,
-    )
+    ended w t = (sym (r.leads ∙ w), rw (r.lines, t, untold reach.told, append-nil r.done) r.wrote)
 
     pub stopped : choice_within reach.time here ≡ None
         → (here ≡ world_reached reach from) × WroteAll tells old now (told_reaching reach from)
@@ -424,48 +301,39 @@ module _ {K : Type 0} {tells : K → SinkFacts} (law : WritesCompose tells) wher
 
     pub none_left : left ≡ zero
         → (here ≡ world_reached reach from) × WroteAll tells old now (told_reaching reach from)
-    none_left e = ended (to_time-zero left reach.time here e) (told_to-zero left reach.time here e)
+    unfolding to_time told_to
+    none_left e = ended (rw e) (rw e)
 
     -- no turn is within the time, or within the limit of steps
     pub no_turn : (part : ℕ) → part ≡ min (within here left) (reach.time - here.clock.time) → part ≡ 0
         → (here ≡ world_reached reach from) × WroteAll tells old now (told_reaching reach from)
-    no_turn part e z = by_left left refl
-      where
-        by_time : 0 < left → (b : Bool) → nat_le reach.time here.clock.time ≡ b
-            → (here ≡ world_reached reach from) × WroteAll tells old now (told_reaching reach from)
-        by_time l true t = stopped (none-begins_late reach.time here (is_late reach.time here.clock.time t))
-        by_time l false t =
-            stopped (none-limit reach.time here (limited left here.clock.steps (reach.time - here.clock.time) part l e z
-            (is_ahead reach.time here.clock.time t)))
-
-        by_left : (n : ℕ) → left ≡ n
-            → (here ≡ world_reached reach from) × WroteAll tells old now (told_reaching reach from)
-        by_left zero l = none_left l
-        by_left (suc n) l = by_time (omega (arith, l)) (nat_le reach.time here.clock.time) refl
+    no_turn part e z = elim (cases_lt 0 left) [
+      | inl some ↦ elim (cases_lt here.clock.time reach.time) [
+        | inl ahead ↦ stopped (none-limit reach.time here (omega arith))
+        | inr late ↦ stopped (none-begins_late reach.time here late)
+      ]
+      | inr none ↦ none_left (omega arith)
+    ]
 
     -- one step more
     module _ (c : Choice) (h : 0 < left) (e : next here ≡ Some c) (few : here.clock.steps < STEP_LIMIT)
         (i : is_within reach.time here c ≡ true) where
       one : left ≡ suc (left - 1)
-      one = fewer left h
-        where
-          fewer : (n : ℕ) → 0 < n → n ≡ suc (n - 1)
-          fewer n h = omega (arith, h)
+      one = omega arith
 
       chosen : choice_within reach.time here ≡ Some c
       chosen = one-within reach.time here c e few i
 
       around : told_reaching reach from ≡ r.done ++ (told_if reach.told (told_text here c)
           ++ told_if reach.told (told_to (left - 1) reach.time (after here c)))
-      around = r.lines ∙ ap (λ (text : List ℕ). r.done ++ told_if reach.told text)
-          (ap (λ (n : ℕ). told_to n reach.time here) one ∙ told_to-step (left - 1) reach.time here c chosen)
-          ∙ ap (λ (text : List ℕ). r.done ++ text) (told_both reach.told (told_text here c)
-          (told_to (left - 1) reach.time (after here c)))
+      around =
+          let all = ap (λ (n : ℕ). told_to n reach.time here) one ∙ told_to-step (left - 1) reach.time here c chosen in
+          rw (r.lines, all, told_both reach.told (told_text here c))
 
       pub part : (later : K) → WrotePart tells now later (told_if reach.told (told_text here c))
           → WrotePart tells old later (told_reaching reach from)
-      part later w = subst (WrotePart tells old later) (sym around)
-          (law.all_then_part r.wrote (law.part_of_more
+      part later w =
+          rw around (law.all_then_part r.wrote (law.part_of_more
           (told_if reach.told (told_to (left - 1) reach.time (after here c))) w))
 
       pub more : (then : World) (later : K) (n : ℕ) → then ≡ after here c → n ≡ left - 1
@@ -474,12 +342,6 @@ module _ {K : Type 0} {tells : K → SinkFacts} (law : WritesCompose tells) wher
       more then later n f k w = record {
         done = r.done ++ told_if reach.told (told_text here c);
         wrote = law.all_then_all r.wrote w;
-        leads = r.leads ∙ ap (λ (j : ℕ). to_time j reach.time here) one
-            ∙ to_time-step (left - 1) reach.time here c chosen
-            ∙ ap₂ (λ (j : ℕ) (v : World). to_time j reach.time v) (sym k) (sym f);
-        lines = around
-            ∙ sym (append_assoc r.done (told_if reach.told (told_text here c))
-            (told_if reach.told (told_to (left - 1) reach.time (after here c))))
-            ∙ ap₂ (λ (j : ℕ) (v : World). (r.done ++ told_if reach.told (told_text here c))
-            ++ told_if reach.told (told_to j reach.time v)) (sym k) (sym f);
+        leads = rw (k, f, ← to_time-step (left - 1) reach.time here c chosen, ← one) r.leads;
+        lines = rw (k, f, append_assoc) around;
       }

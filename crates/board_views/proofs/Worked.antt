@@ -1,7 +1,8 @@
 -- Worked cases, computed from the definitions alone: of each relation of a board that goes on an instance that it has,
 -- and one of a wrong board that it refuses. Words were put together by hand from the unprivileged RISC-V manual.
+use Rattle.std.proofs.lemmas.Option.{none-some, same_Some}
 use Rattle.std.proofs.Common.{◌≡◌, ◌⊎◌, inl, inr, ◌<◌, ◌≤◌, ℕ, zero, suc, ◌+◌, true, false, List, [], ◌∷◌}
-use Rattle.std.proofs.Common.{length, None, Some, is_some, refl, sym, ap, subst, ◌∙◌, arith}
+use Rattle.std.proofs.Common.{length, None, Some, is_some, refl, sym, ap, ◌∙◌, arith}
 use Rattle.std.proofs.lemmas.Bool.{false≢true}
 use Rattle.tk_base.specs.declared.access.TheConstants.{FLASH_START}
 use Rattle.tk_base.specs.declared.process.Choice.TheVariants.{Run}
@@ -103,31 +104,22 @@ unfolding round next choice ready_device next_slot due_slot stepped carried_out 
 places = (refl, refl)
 
 finds_second : IsLastFound 2 first_two [] walking (Some (place 1))
-finds_second = record { made = 1; within = omega arith; stops = places.1; none_later = λ i h l. absurd (none i h l) }
-  where
-    none : (i : ℕ) → 2 ≤ i → i < 2 → ⊥
-    none i h l = omega (arith, h, l)
-
-same_steps : (x y : Found) → Some x ≡ Some y → x.steps ≡ y.steps
-same_steps x y e = let same : x ≡ y = cc in ap (λ (f : Found). f.steps) same
-
-is_there : (x : Found) → Some x ≡ None → ⊥
-is_there x e = cc
+finds_second =
+    record { made = 1; within = omega arith; stops = places.1; none_later = λ i h l. absurd (omega (arith, h, l)) }
 
 none_finds_first : IsLastFound 2 first_two [] walking (Some (place 0)) → ⊥
 none_finds_first last = by_made last.made last.within last.stops last.none_later
   where
     by_made : (made : ℕ) → made < 2 → place_at first_two [] walking made ≡ Some (place 0)
         → NoneStops first_two [] walking (suc made) 2 → ⊥
-    by_made zero within stops none =
-        is_there (place 1) (sym places.1 ∙ none 1 (omega arith) (omega arith))
+    by_made zero within stops none = none-some (place 1) (sym (none 1 (omega arith) (omega arith)) ∙ places.1)
     by_made (suc zero) within stops none =
-        let same = same_steps (place 1) (place 0) (sym places.1 ∙ stops) in
+        let same = ap (λ (f : Found). f.steps) (same_Some (place 1) (place 0) (sym places.1 ∙ stops)) in
         omega (arith, same)
     by_made (suc (suc made)) within stops none = omega (arith, within)
 
 none_finds_none : IsLastFound 2 first_two [] walking None → ⊥
-none_finds_none none = is_there (place 1) (sym places.1 ∙ none 1 (omega arith) (omega arith))
+none_finds_none none = none-some (place 1) (sym (none 1 (omega arith) (omega arith)) ∙ places.1)
 
 -- A process comes to its first turn in one step; a board that goes on to its second one.
 comes_to_one : IsFirstWithTurns 5 0 1 walking once
@@ -136,16 +128,12 @@ comes_to_one = record {
   few = omega arith;
   reached = sym steps_are.1;
   none_before = before;
-  ended = inl (subst (λ (n : ℕ). 1 ≤ n) (sym steps_are.5) (omega arith));
+  ended = inl (rw steps_are.5 (omega arith));
 }
   where
     before : (i : ℕ) → i < 1 → turns_of (round i walking).world 0 < 1
-    before zero l =
-        subst (λ (n : ℕ). n < 1) (sym (ap (λ (w : World). turns_of w 0) steps_are.0 ∙ steps_are.4)) (omega arith)
-    before (suc i) l = absurd (none i l)
-      where
-        none : (i : ℕ) → suc i < 1 → ⊥
-        none i l = omega (arith, l)
+    before zero l = let none = ap (λ (w : World). turns_of w 0) steps_are.0 ∙ steps_are.4 in omega (arith, none)
+    before (suc i) l = absurd (omega (arith, l))
 
 none_comes_to_two : IsFirstWithTurns 5 0 1 walking twice → ⊥
 none_comes_to_two first =
@@ -165,10 +153,7 @@ comes_within_one = record { made = 1; few = omega arith; reached = sym steps_are
   where
     within : (i : ℕ) → i < 1 → is_some (choice_within 1 (round i walking).world) ≡ true
     within zero l = ap (λ (w : World). is_some (choice_within 1 w)) steps_are.0 ∙ are_within.0
-    within (suc i) l = absurd (none i l)
-      where
-        none : (i : ℕ) → suc i < 1 → ⊥
-        none i l = omega (arith, l)
+    within (suc i) l = absurd (omega (arith, l))
 
 none_comes_later : ComesWithin 5 1 walking twice → ⊥
 none_comes_later comes =

@@ -1,3 +1,1 @@
 mod Receiving
-mod Portions
-mod Transmitting

@@ -11,6 +11,8 @@ ghost use Rattle.console_capsule.specs.Answers.{write_answered};
 
 use crate::commands::{cancel, read};
 use crate::grants::consoles;
+use crate::reads::give;
+use crate::writes::send;
 use arrayvec::ArrayVec;
 use board_devices::{Answer, Uart};
 use driver_requests::RequestQueue;
@@ -135,7 +137,9 @@ impl ConsoleCapsule {
         if time < uart.free() {
             return Err(NotReady);
         }
-        let answer = self.writes.answer::<ConsoleCapsule>(home, printed, only)?;
+        let id = self.writes.first(only)?;
+        let service = send(home, &id, printed);
+        let answer = self.writes.answered(id, service);
         if !printed.is_empty() {
             uart.set_free(time + printed.len() as u64 * u64::from(uart.ticks()));
         }
@@ -168,7 +172,9 @@ impl ConsoleCapsule {
         if uart.held() == 0 {
             return Err(NotReady);
         }
-        self.reads.answer::<ConsoleCapsule>(home, uart, only)
+        let id = self.reads.first(only)?;
+        let service = give(home, &id, uart);
+        Ok(self.reads.answered(id, service))
     }
 
     /// The process of an id ended, or starts again: no write and no read of it waits any more. The

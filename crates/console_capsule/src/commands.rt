@@ -69,7 +69,7 @@ pub(crate) fn cancel(
         home.old result waiting.new home.new }
 {
     let slot = id.slot;
-    let Ok(()) = visit_request(&consoles(), home, id, DropRead) else {
+    let Ok(_attended) = visit_request(&consoles(), home, id, DropRead) else {
         return Err(CallRule::Nothing);
     };
     waiting.leave(slot);

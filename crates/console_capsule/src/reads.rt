@@ -9,14 +9,15 @@ ghost use Rattle.driver_model.specs.Console.{console, read_status, received};
 ghost use Rattle.driver_model.specs.Parts.{bytes_moving};
 ghost use Rattle.driver_model.specs.Requests.{unanswered};
 ghost use Rattle.driver_model.specs.Steps.{own_after};
+ghost use Rattle.driver_requests.specs.Answers.{IsAnswered};
 ghost use Rattle.driver_requests.specs.Asking.{MayBeTold, in_life};
+ghost use Rattle.console_capsule.specs.Answers.{received_by};
 ghost use Rattle.console_capsule.specs.Receiving.{taking_in, written_input};
 
-use crate::capsule::ConsoleCapsule;
 use crate::grants::consoles;
 use arrayvec::ArrayVec;
 use board_devices::{Kind, Uart};
-use driver_requests::{Serve, Service, VisitRequest, visit_request};
+use driver_requests::{Service, VisitRequest, visit_request};
 use grant_enter::{Entered, Home, a_buffer_is_written, buffers_are_whole, frames_join};
 use grant_values::WaitingRead;
 use tk_base::{ErrorCode, ProcessId, RING_SIZE};
@@ -154,7 +155,11 @@ fn step_of(home: &mut Home, id: ProcessId, uart: &mut Uart) -> bool
     ensures rest { ChangesOnly id.slot home.old home.new }
 {
     match visit_request(&consoles(), home, id, Receive { uart }) {
-        Ok(_uart) => true,
+        Ok(attended) => {
+            let completed = attended.completed;
+            let _uart = attended.answer;
+            completed
+        }
         Err(Receive { uart: _uart }) => false,
     }
 }
@@ -168,24 +173,18 @@ fn gone_from(mut bytes: ArrayVec<u8, RING_SIZE>, uart: &Uart) -> ArrayVec<u8, RI
     bytes
 }
 
-impl Serve<WaitingRead> for ConsoleCapsule {
-    ghost use Rattle.console_capsule.specs.Answers.{received_by};
-
-    type Device = Uart;
-
-    ghost asks = { λ line own. Unit {0} };
-
-    ghost answer_to = { received_by };
-
-    /// Moves bytes that came in to the read of a process, if it is there and has one: the bytes,
-    /// and whether it has one.
-    #[tactic(auto, using(crate::proofs::Receiving::moved))]
-    fn serve(home: &mut Home, id: &ProcessId, uart: &mut Uart) -> Service {
-        let bytes = uart.peek();
-        let completed = step_of(home, *id, uart);
-        Service {
-            kind: Kind::Input(gone_from(bytes, uart)),
-            completed,
-        }
+/// Moves bytes that came in to the read of a process, if it is there and has one: the bytes, and
+/// whether it has one.
+#[tactic(auto, using(crate::proofs::Receiving::moved))]
+pub(crate) fn give(home: &mut Home, id: &ProcessId, uart: &mut Uart) -> Service
+    requires { MayBeTold home.old id.now }
+    ensures { IsAnswered (received_by uart.old home.old id.now) id.now home.old result uart.new
+        home.new }
+{
+    let bytes = uart.peek();
+    let completed = step_of(home, *id, uart);
+    Service {
+        kind: Kind::Input(gone_from(bytes, uart)),
+        completed,
     }
 }

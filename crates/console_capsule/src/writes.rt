@@ -1,16 +1,17 @@
 //! Writes: the UART takes bytes of the one that waits longest.
-ghost use Rattle.std.specs.Prelude.{◌≡◌, ◌+◌, ◌-◌, ◌*◌, ◌<◌, ◌^◌, min, [], drop, length};
-ghost use Rattle.std.specs.Prelude.{take};
+ghost use Rattle.std.specs.Prelude.{◌≡◌, ◌-◌, ◌<◌, if◌then◌else◌, min, [], drop, length, take};
 ghost use Rattle.tk_base.specs.declared.limits.TheConstants.{PRINT_LIMIT};
 ghost use Rattle.process_model.specs.Flash.{flash_byte};
+ghost use Rattle.process_seat.specs.Seen.{IsLent, own_entered, seen};
 ghost use Rattle.driver_model.specs.Console.{console, next_bytes, portion};
-ghost use Rattle.console_capsule.specs.Sending.{still_waiting, telling_done};
+ghost use Rattle.driver_requests.specs.Answers.{IsAnswered};
+ghost use Rattle.driver_requests.specs.Asking.{MayBeTold};
+ghost use Rattle.console_capsule.specs.Answers.{write_answered};
 
-use crate::capsule::ConsoleCapsule;
 use crate::grants::consoles;
 use arrayvec::ArrayVec;
 use board_devices::Kind;
-use driver_requests::{Serve, Service, VisitRequest, visit_request};
+use driver_requests::{Service, VisitRequest, visit_request};
 use grant_enter::{Entered, Home, buffers_are_whole, frames_join};
 use grant_values::WaitingWrite;
 use tk_base::{PRINT_LIMIT, ProcessId};
@@ -23,9 +24,9 @@ struct Transmit<'a> {
 }
 
 impl<'a> VisitRequest<WaitingWrite> for Transmit<'a> {
-    ghost use Rattle.std.specs.Prelude.{◌≡◌, ◌+◌, ◌<◌, ◌^◌, [], length};
+    ghost use Rattle.std.specs.Prelude.{◌≡◌, ◌+◌, ◌<◌, ◌^◌, []};
     ghost use Rattle.process_model.specs.Flash.{flash_byte};
-    ghost use Rattle.driver_model.specs.Console.{next_bytes, portion};
+    ghost use Rattle.driver_model.specs.Console.{sending};
     ghost use Rattle.console_capsule.specs.Sending.{still_waiting, telling_done};
 
     type Answer = &'a mut ArrayVec<u8, PRINT_LIMIT>;
@@ -40,8 +41,7 @@ impl<'a> VisitRequest<WaitingWrite> for Transmit<'a> {
 
     ghost answers = { λ transmit write seen printed.
         (printed.ghost_name ≡ transmit.printed.ghost_name)
-        × (printed.now.items ≡ next_bytes (flash_byte seen.flash) write seen.own)
-        × (length printed.now.items ≡ portion write seen.own) };
+        × (printed.now.items ≡ (sending (flash_byte seen.flash) seen.own write).moved) };
 
     fn run(
         self,
@@ -50,8 +50,7 @@ impl<'a> VisitRequest<WaitingWrite> for Transmit<'a> {
     ) -> (&'a mut ArrayVec<u8, PRINT_LIMIT>, Option<WaitingWrite>) {
         let Transmit { printed } = self;
         frames_join();
-        buffers_are_whole();
-        put_next(printed, entered.read_only(1), write);
+        take_next(entered, printed, write);
         if printed.is_empty() {
             entered.schedule(1, [write.taken, 0, 0]);
             return (printed, None);
@@ -82,34 +81,57 @@ fn put_next(printed: &mut ArrayVec<u8, PRINT_LIMIT>, buffer: &[u8], write: &Wait
     }
 }
 
-impl Serve<WaitingWrite> for ConsoleCapsule {
-    ghost use Rattle.std.specs.Prelude.{◌≡◌, []};
-    ghost use Rattle.console_capsule.specs.Answers.{write_answered};
+/// Puts the next bytes of a write, out of the buffer that its process has allowed, into an empty
+/// list.
+fn take_next(entered: &Entered<'_>, printed: &mut ArrayVec<u8, PRINT_LIMIT>, write: &WaitingWrite)
+    requires lent { IsLent entered.now }
+    requires driver { (seen entered.now).driver ≡ console }
+    requires buffer { 1 < (seen entered.now).counts.ro }
+    requires empty { printed.old.items ≡ [] }
+    ensures bytes { printed.new.items ≡ next_bytes (flash_byte (seen entered.now).flash) write.now
+        (own_entered entered.now) }
+    ensures long { length printed.new.items ≡ portion write.now (own_entered entered.now) }
+{
+    buffers_are_whole();
+    put_next(printed, entered.read_only(1), write);
+}
 
-    /// The bytes that are printed.
-    type Device = ArrayVec<u8, PRINT_LIMIT>;
+/// What a process is told of its write, which completed or did not.
+fn told(completed: bool) -> Kind
+    ensures { result ≡ (if completed then Kind.WriteDone else Kind.Taken) }
+{
+    if completed {
+        Kind::WriteDone
+    } else {
+        Kind::Taken
+    }
+}
 
-    ghost asks = { λ printed own. printed.items ≡ [] };
-
-    ghost answer_to = { λ printed. write_answered };
-
-    /// One step of the write of a process, if it is there and has one: whether all bytes are taken,
-    /// so that the write completed.
-    #[tactic(auto, unfolding(driver_model::specs::Console::sent))]
-    fn serve(home: &mut Home, id: &ProcessId, printed: &mut ArrayVec<u8, PRINT_LIMIT>) -> Service {
-        match visit_request(&consoles(), home, *id, Transmit { printed }) {
-            Ok(printed) if printed.is_empty() => Service {
-                kind: Kind::WriteDone,
-                completed: true,
-            },
-            Ok(_printed) => Service {
-                kind: Kind::Taken,
-                completed: false,
-            },
-            Err(Transmit { printed: _printed }) => Service {
-                kind: Kind::Taken,
-                completed: false,
-            },
+/// One step of the write of a process, if it is there and has one, whose bytes are put into an
+/// empty list: whether all bytes are taken, so that the write completed.
+#[tactic(auto, unfolding(driver_model::specs::Console::sent))]
+pub(crate) fn send(
+    home: &mut Home,
+    id: &ProcessId,
+    printed: &mut ArrayVec<u8, PRINT_LIMIT>,
+) -> Service
+    requires told { MayBeTold home.old id.now }
+    requires empty { printed.old.items ≡ [] }
+    ensures { IsAnswered (write_answered home.old id.now) id.now home.old result printed.new
+        home.new }
+{
+    match visit_request(&consoles(), home, *id, Transmit { printed }) {
+        Ok(attended) => {
+            let completed = attended.completed;
+            let _printed = attended.answer;
+            Service {
+                kind: told(completed),
+                completed,
+            }
         }
+        Err(Transmit { printed: _printed }) => Service {
+            kind: Kind::Taken,
+            completed: false,
+        },
     }
 }

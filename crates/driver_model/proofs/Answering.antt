@@ -3,23 +3,19 @@
 -- put, none put, nothing changed (`moves_one`); an upcall that it schedules changes no request.
 use Rattle.std.proofs.Common.{◌≤◌, ◌&&◌, IfSome, ◌≡◌, ℕ, ◌+◌, ◌-◌, ◌==◌, nat_le, Bool, true, false, cond, List, []}
 use Rattle.std.proofs.Common.{◌∷◌, length, Option}
-use Rattle.std.proofs.Common.{None, Some, is_some, is_none, option_map, unwrap_or, refl, ap, sym, ◌∙◌, subst}
+use Rattle.std.proofs.Common.{None, Some, is_some, is_none, refl, ap, sym, ◌∙◌, subst}
 use Rattle.std.proofs.Math.Bool.{and-false}
 use Rattle.grant_model.specs.Grants.{Grant, grant_of}
 use Rattle.tk_base.specs.declared.kinds.PairKind.TheVariants.{ReadWrite}
-use Rattle.grant_values.specs.declared.alarm.Armed.{Armed}
-use Rattle.grant_values.specs.declared.console.WaitingRead.{WaitingRead}
-use Rattle.grant_values.specs.declared.console.WaitingWrite.{WaitingWrite}
 use Rattle.grant_values.specs.declared.random.RandomRequest.{RandomRequest}
-use Rattle.grant_values.specs.declared.storage.StorageKind.{StorageKind}
 use Rattle.grant_values.specs.declared.storage.StorageKind.TheVariants.{Read, Write}
 use Rattle.grant_values.specs.declared.storage.StorageRequest.{StorageRequest}
 use Rattle.process_model.specs.Own.{Own}
 use Rattle.driver_model.specs.Parts.{bytes_moving, fired_if}
 use Rattle.driver_model.specs.Commands.{is_same, QueueName, Writes, Reads, Randoms, Stores}
-use Rattle.driver_model.specs.Requests.{RequestAnswered, RequestKind, keeping_request, request_in, unanswered}
+use Rattle.driver_model.specs.Requests.{RequestAnswered, RequestKind, keeping_request, request_in}
 use Rattle.driver_model.specs.Requests.{waiting_in, with_request}
-use Rattle.driver_model.specs.Steps.{DriverStep, own_after, scheduling, silently}
+use Rattle.driver_model.specs.Steps.{DriverStep, own_after, scheduling}
 use Rattle.tk_base.specs.Bits.{bit_of}
 use Rattle.process_model.specs.Served.{with_written}
 use Rattle.process_model.proofs.Scheduling.{keeping_commutes}
@@ -43,6 +39,10 @@ use Rattle.driver_model.proofs.Asked.{asked, asked_beside, asked_put, if_none, i
 use Rattle.driver_model.proofs.Waits.{Moves, each_waits, moves_one, same_here, within_still}
 use Rattle.driver_model.proofs.Follows.{kept_apart}
 use Rattle.driver_model.proofs.Outcomes.{alarm_apart}
+use Rattle.std.proofs.lemmas.Bool.{cond_both, cases_Bool}
+use Rattle.std.proofs.lemmas.Option.{none-some}
+use Rattle.std.proofs.Common.{inl, inr}
+use Rattle.driver_model.proofs.Tables.{cases_Option}
 
 -- by what is asked for after the answer
 follows : (left : QueueName → Bool) (own o : Own) → Remains own o
@@ -52,13 +52,9 @@ follows left own o rest dropped moves within = record {
   rest = rest;
   dropped = dropped;
   lines = each_waits (λ queue waits. cond (left queue) false waits) own o (ap (λ (x : Own). x.lives) rest)
-      (λ queue ended. none_begins (left queue)) moves;
+      (λ queue ended. cond_both (left queue) false false (λ b. b ≡ false) (λ e. refl) (λ e. refl)) moves;
   within = within;
 }
-  where
-    none_begins : (left : Bool) → cond left false false ≡ false
-    none_begins true = refl
-    none_begins false = refl
 
 -- a process whose grants changed, once it was served
 remains : (own o : Own) (grants : List Grant) → Serves own o → Remains own (record o { grants = grants })
@@ -152,11 +148,8 @@ then_told left request_kind request step own =
 -- one that waits keeps the request
 asks : {R : Type 0} (request_kind : RequestKind R) (own : Own) (request : R)
     → waiting_in request_kind own ≡ Some request → request_in request_kind own ≡ Some request
-asks {R = R} request_kind own request is = if_so own.lives (request_in request_kind own) is
-  where
-    if_so : (b : Bool) (waiting : Option R) → cond b waiting None ≡ Some request → waiting ≡ Some request
-    if_so true waiting e = e
-    if_so false waiting e = cc
+asks request_kind own request is =
+    elim (cases_Bool own.lives) [ inl e ↦ rw e at is | inr e ↦ absurd (none-some request (rw e at is)) ]
 
 -- a step of a write
 abbrev Sends : Own → RequestAnswered (List ℕ) → Type 0
@@ -164,50 +157,39 @@ Sends own s = FollowsAnswer (queue_left_by Writes s.completed) own (own_after s.
 
 sends : (flash : ℕ → ℕ) (own : Own) → Sends own (console.sent flash own)
 unfolding console.sent
-sends flash own = by_waiting (waiting_in console_writes own) refl
-  where
-    by_portion : (write : WaitingWrite) (b : Bool) → waiting_in console_writes own ≡ Some write
-        → Sends own (cond b (record { step = console.write_completing own write; moved = []; completed = true })
-        (record { step = console.taking own write; moved = console.next_bytes flash write own; completed = false }))
-    by_portion write true is =
-        then_told _ console_writes None (scheduling console.console 1 (write.taken ∷ 0 ∷ 0 ∷ []) own) own
-        (put_beside own _ (serves _ _ _ own.ram own (as_before own)) Writes write None refl (asks console_writes own
-        write is))
-    by_portion write false is =
-        put_beside own _ (serves_silently own.ram own (as_before own)) Writes write
-        (Some (record write { taken = write.taken + console.portion write own })) refl (asks console_writes own write
-        is)
-
-    by_waiting : (w : Option WaitingWrite) → waiting_in console_writes own ≡ w
-        → Sends own (unwrap_or (option_map (console.sending flash own) w) (unanswered [] own))
-    by_waiting None is = unmoved _ own (never_left Writes)
-    by_waiting (Some write) is = by_portion write (console.portion write own == 0) is
+sends flash own =
+    elim (cases_Option (waiting_in console_writes own)) [
+      | inl none ↦ rw none (unmoved _ own (never_left Writes))
+      | inr is ↦
+          let write = is.0 in
+          let waits = asks console_writes own write is.1 in
+          rw is.1 (cond_both (console.portion write own == 0) _ _ (Sends own)
+          (λ e. then_told _ console_writes None (scheduling console.console 1 (write.taken ∷ 0 ∷ 0 ∷ []) own) own
+          (put_beside own _ (serves _ _ _ own.ram own (as_before own)) Writes write None refl waits))
+          (λ e. put_beside own _ (serves_silently own.ram own (as_before own)) Writes write
+          (Some (record write { taken = write.taken + console.portion write own })) refl waits))
+    ]
 
 receives : (ring : List ℕ) (own : Own) → let r = console.received ring own in
     FollowsAnswer (queue_left_by Reads r.completed) own (own_after r.step)
 unfolding console.received
-receives ring own = by_waiting (waiting_in console_reads own) refl
-  where
-    bytes : WaitingRead → List ℕ
-    bytes read = bytes_moving ring read own
-
-    by_waiting : (w : Option WaitingRead) → waiting_in console_reads own ≡ w
-        → let r = unwrap_or (option_map (console.receiving ring own) w) (unanswered [] own) in
-        FollowsAnswer (queue_left_by Reads r.completed) own (own_after r.step)
-    by_waiting None is = unmoved _ own (never_left Reads)
-    by_waiting (Some read) is =
-        then_told _ console_reads None
-        (scheduling console.console 2 (console.read_status own ∷ length (bytes read) ∷ 0 ∷ [])
-        (with_written ReadWrite console.console 1 0 (bytes read) own)) own
-        (put_beside own _ (serves _ _ _ _ own (written_size ReadWrite refl console.console 1 0 (bytes read) own)) Reads
-        read None refl
-        (asks console_reads own read is))
+receives ring own =
+    elim (cases_Option (waiting_in console_reads own)) [
+      | inl none ↦ rw none (unmoved _ own (never_left Reads))
+      | inr is ↦
+          let bytes = bytes_moving ring is.0 own in
+          rw is.1 (then_told _ console_reads None
+          (scheduling console.console 2 (console.read_status own ∷ length bytes ∷ 0 ∷ [])
+          (with_written ReadWrite console.console 1 0 bytes own)) own
+          (put_beside own _ (serves _ _ _ _ own (written_size ReadWrite refl console.console 1 0 bytes own)) Reads
+          is.0 None refl (asks console_reads own is.0 is.1)))
+    ]
 
 -- a step of a request for random bytes
 serves_if : (own : Own) (b : Bool) (p q : Progress) → Serves own (own_after p.step) → Serves own (own_after q.step)
     → Serves own (own_after (cond b p q).step)
-serves_if own true p q first second = first
-serves_if own false p q first second = second
+serves_if own b p q first second =
+    cond_both b p q (λ (x : Progress). Serves own (own_after x.step)) (λ e. first) (λ e. second)
 
 serves_drawing : (left : ℕ) (request : RandomRequest) (own : Own) (word : Option ℕ)
     → Serves own (own_after (random.drawing left request own word).step)
@@ -226,69 +208,57 @@ serves_progress word request own =
 draws : (word : Option ℕ) (own : Own) → let a = random.answered word own in
     FollowsAnswer (queue_left_by Randoms a.completed) own (own_after a.step)
 unfolding random.answered
-draws word own = by_waiting (waiting_in randoms own) refl
-  where
-    by_waiting : (w : Option RandomRequest) → waiting_in randoms own ≡ w
-        → let a = unwrap_or (option_map (λ (request : RandomRequest). random.advanced
-        (random.progress word request own)) w) (unanswered None own) in
-        FollowsAnswer (queue_left_by Randoms a.completed) own (own_after a.step)
-    by_waiting None is = unmoved _ own (never_left Randoms)
-    by_waiting (Some request) is =
-        let p = random.progress word request own in
-        then_told _ randoms p.rest p.step own
-        (put_beside own _ (serves_progress word request own) Randoms request p.rest refl (asks randoms own request is))
+draws word own =
+    elim (cases_Option (waiting_in randoms own)) [
+      | inl none ↦ rw none (unmoved _ own (never_left Randoms))
+      | inr is ↦
+          let p = random.progress word is.0 own in
+          rw is.1 (then_told _ randoms p.rest p.step own
+          (put_beside own _ (serves_progress word is.0 own) Randoms is.0 p.rest refl (asks randoms own is.0 is.1)))
+    ]
 
 -- a storage request that is served
 pub serves_served : (fault : Bool) (flash : ℕ → ℕ) (bytes : List ℕ) (request : StorageRequest) (own : Own)
     → Serves own (own_after (storage.storage_served fault flash bytes request own).step)
-serves_served fault flash bytes request own = by_fault fault request.kind
-  where
-    by_fault : (b : Bool) (kind : StorageKind)
-        → Serves own (own_after (cond b (record { step = storage.completing request.kind 0 1 own; written = None })
-        (storage.moving kind flash bytes request own)).step)
-    by_fault true kind = serves _ _ _ own.ram own (as_before own)
-    by_fault false Read = serves _ _ _ _ own (written_size ReadWrite refl storage.storage 0 0 _ own)
-    by_fault false Write = serves _ _ _ own.ram own (as_before own)
+serves_served true flash bytes request own = serves _ _ _ own.ram own (as_before own)
+serves_served false flash bytes request own =
+    elim (request.kind) as (λ kind. Serves own (own_after (storage.moving kind flash bytes request own).step)) [
+      | Read ↦ serves _ _ _ _ own (written_size ReadWrite refl storage.storage 0 0 _ own)
+      | Write ↦ serves _ _ _ own.ram own (as_before own)
+    ]
 
 stores : (fault : Bool) (flash : ℕ → ℕ) (bytes : List ℕ) (own : Own)
     → let a = storage.answered fault flash bytes own in FollowsAnswer (queue_left_by Stores a.completed) own
     (own_after a.step)
 unfolding storage.answered
-stores fault flash bytes own = by_waiting (waiting_in storages own) refl
-  where
-    by_waiting : (w : Option StorageRequest) → waiting_in storages own ≡ w
-        → let a = unwrap_or (option_map (λ (request : StorageRequest). storage.finished
-        (storage.storage_served fault flash bytes request own)) w) (unanswered None own) in
-        FollowsAnswer (queue_left_by Stores a.completed) own (own_after a.step)
-    by_waiting None is = unmoved _ own (never_left Stores)
-    by_waiting (Some request) is =
-        then_told _ storages None (storage.storage_served fault flash bytes request own).step own
-        (ends_stores own _ (serves_served fault flash bytes request own) request (asks storages own request is))
+stores fault flash bytes own =
+    elim (cases_Option (waiting_in storages own)) [
+      | inl none ↦ rw none (unmoved _ own (never_left Stores))
+      | inr is ↦
+          rw is.1 (then_told _ storages None (storage.storage_served fault flash bytes is.0 own).step own
+          (ends_stores own _ (serves_served fault flash bytes is.0 own) is.0 (asks storages own is.0 is.1)))
+    ]
 
 fires : (now : ℕ) (own : Own) → FollowsAnswer (λ line. false) own (own_after (alarm.answered now own))
 unfolding alarm.answered
-fires now own = by_due (alarm.due_alarm now own)
-  where
-    by_due : (due : Option Armed) → FollowsAnswer (λ line. false) own (own_after (fired_if now own due))
-    by_due None = unmoved _ own (λ line. refl)
-    by_due (Some armed) =
-        subst (FollowsAnswer (λ line. false) own)
-        (keeping_commutes alarm.alarm_driver (AlarmValue None)
-        (alarm.fired now armed own).schedules (alarm.showing now own))
-        (stops_alarm own _ (serves _ _ _ _ own (showing_size now own)))
+fires now own =
+    elim (alarm.due_alarm now own) as (λ due. FollowsAnswer (λ line. false) own (own_after (fired_if now own due))) [
+      | None ↦ unmoved _ own (λ line. refl)
+      | Some armed ↦
+          subst (FollowsAnswer (λ line. false) own)
+          (keeping_commutes alarm.alarm_driver (AlarmValue None)
+          (alarm.fired now armed own).schedules (alarm.showing now own))
+          (stops_alarm own _ (serves _ _ _ _ own (showing_size now own)))
+    ]
 
 edges : (button : ℕ) (state : Bool) (own : Own) → FollowsAnswer (λ line. false) own
     (own_after (buttons.edged button state own))
 unfolding buttons.edged
-edges button state own = by_told (buttons.is_told button own)
-  where
-    args : List ℕ
-    args = button ∷ bit_of state ∷ 0 ∷ []
-
-    by_told : (b : Bool)
-        → FollowsAnswer (λ line. false) own (own_after (cond b (scheduling buttons.buttons 0 args own) (silently own)))
-    by_told true = told_alone own _ (serves buttons.buttons 0 args own.ram own (as_before own))
-    by_told false = unmoved _ own (λ line. refl)
+edges button state own =
+    cond_both (buttons.is_told button own) _ _
+    (λ (s : DriverStep). FollowsAnswer (λ line. false) own (own_after s))
+    (λ e. told_alone own _ (serves buttons.buttons 0 (button ∷ bit_of state ∷ 0 ∷ []) own.ram own (as_before own)))
+    (λ e. unmoved _ own (λ line. refl))
 
 pub lines_follow_answers : LinesFollowAnswers
 lines_follow_answers = record {

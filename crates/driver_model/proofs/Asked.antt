@@ -1,8 +1,8 @@
 -- All that a process asks for, as its grants tell it. A request that is put is then asked for, where its driver has a
 -- grant (`asked_put`), and what is asked for in another queue stays (`asked_beside`, by pairs of queues): another
 -- driver's grant keeps it, or the console, whose two requests stand side by side.
-use Rattle.std.proofs.Common.{◌≡◌, ℕ, ◌==◌, Bool, true, false, List, Option, None, Some, is_some, option_and_then}
-use Rattle.std.proofs.Common.{unwrap_or, refl, sym, ap, ◌∙◌, eqb-true}
+use Rattle.std.proofs.Common.{◌≡◌, ℕ, ◌==◌, false, List, Option, None, Some, option_and_then}
+use Rattle.std.proofs.Common.{unwrap_or, refl, sym, ap, ◌∙◌}
 use Rattle.std.proofs.lemmas.Bool.{false≢true}
 use Rattle.std.specs.Option.{option_map}
 use Rattle.tk_base.specs.declared.kinds.PairKind.{PairKind}
@@ -15,9 +15,10 @@ use Rattle.driver_model.specs.Commands.{QueueName, Writes, Reads, Randoms, Store
 use Rattle.driver_model.specs.Requests.{RequestKind, with_request}
 use Rattle.driver_model.specs.Console.{console_reads, console_writes}
 use Rattle.driver_model.specs.Lines.{RequestOf, kind_in}
-use Rattle.driver_model.specs.Random.{randoms}
-use Rattle.driver_model.specs.Storage.{storages}
 use Rattle.driver_model.proofs.Grants.{StaysWith, changed, is_there, told_still, unchanged}
+use Rattle.std.proofs.lemmas.Bool.{cases_eq, ne_eqb}
+use Rattle.std.proofs.Common.{inl, inr}
+use Rattle.driver_model.proofs.Tables.{cases_Option}
 
 -- what a grant tells of a kind of request
 abbrev pub told_by : {R : Type 0} → RequestKind R → Option Grant → Option R
@@ -43,28 +44,20 @@ asked_still queue driver gs =
     blank : (q : QueueName)
         → told_by (kind_in q) (Some (fresh (kind_in q).driver)) ≡ told_by (kind_in q) None
     blank Writes = refl
-    blank Reads = refl
-    blank Randoms = refl
-    blank Stores = refl
+    blank q = refl
 
 -- a pair may be handed, to any driver
 pub asked_handed : (queue : QueueName) (kind : PairKind) (driver number : ℕ) (pair : ℕ × ℕ) (gs : List Grant)
     → asked queue (with_grant driver (with_pair kind number pair) gs) ≡ asked queue gs
-asked_handed queue kind driver number pair gs = by_test (driver == (kind_in queue).driver) refl
-  where
-    by_grant : (found : Option Grant)
-        → told_by (kind_in queue) (option_map (with_pair kind number pair) found) ≡ told_by (kind_in queue) found
-    by_grant None = refl
-    by_grant (Some g) = refl
-
-    by_test : (b : Bool) → (driver == (kind_in queue).driver) ≡ b
-        → asked queue (with_grant driver (with_pair kind number pair) gs) ≡ asked queue gs
-    by_test true e =
-        ap (λ (d : ℕ). asked queue (with_grant d (with_pair kind number pair) gs))
-        (eqb-true driver (kind_in queue).driver e)
-        ∙ ap (told_by (kind_in queue)) (changed (kind_in queue).driver _ gs (λ g. refl))
-        ∙ by_grant (grant_of (kind_in queue).driver gs)
-    by_test false e = asked_apart queue driver _ gs e (λ g. refl)
+asked_handed queue kind driver number pair gs =
+    elim (cases_eq driver (kind_in queue).driver) [
+      | inl same ↦
+          rw (same, changed (kind_in queue).driver (with_pair kind number pair) gs (λ g. refl))
+          (elim (grant_of (kind_in queue).driver gs) as (λ found.
+          told_by (kind_in queue) (option_map (with_pair kind number pair) found) ≡ told_by (kind_in queue) found)
+          [ None ↦ refl | Some g ↦ refl ])
+      | inr apart ↦ asked_apart queue driver _ gs (ne_eqb driver _ apart) (λ g. refl)
+    ]
 
 -- a list of grants where the value of one of them has another request
 abbrev putting : {R : Type 0} → RequestKind R → Option R → List Grant → List Grant
@@ -84,14 +77,10 @@ put_here : {R S : Type 0} (request_kind : RequestKind R) (other : RequestKind S)
     → told_by other (grant_of request_kind.driver (putting request_kind request gs))
     ≡ option_and_then tells (option_map (λ g. g.value) (grant_of request_kind.driver gs))
 put_here request_kind other request tells gs reads =
-    ap (told_by other) (changed request_kind.driver _ gs (λ g. refl)) ∙ by_grant (grant_of request_kind.driver gs)
-  where
-    by_grant : (found : Option Grant)
-        → told_by other (option_map (with_value
-        (request_kind.with_request request (unwrap_or (option_map (λ g. g.value) found) NoValue))) found)
-        ≡ option_and_then tells (option_map (λ g. g.value) found)
-    by_grant None = refl
-    by_grant (Some g) = reads g.value
+    ap (told_by other) (changed request_kind.driver _ gs (λ g. refl))
+    ∙ elim (grant_of request_kind.driver gs) as (λ found. told_by other (option_map (with_value
+    (request_kind.with_request request (unwrap_or (option_map (λ g. g.value) found) NoValue))) found)
+    ≡ option_and_then tells (option_map (λ g. g.value) found)) [ None ↦ refl | Some g ↦ reads g.value ]
 
 -- a request that is put is then asked for
 pub asked_put : (queue : QueueName) (request : Option (RequestOf queue)) (own : Own)
@@ -103,9 +92,7 @@ asked_put queue request own =
     reads : (q : QueueName) (request : Option (RequestOf q)) (value : KeptValue)
         → (kind_in q).told ((kind_in q).with_request request value) ≡ request
     reads Writes request value = refl
-    reads Reads request value = refl
-    reads Randoms request value = refl
-    reads Stores request value = refl
+    reads q request value = refl
 
 put_elsewhere : {R S : Type 0} (request_kind : RequestKind R) (other : RequestKind S) (request : Option R)
     (gs : List Grant) → (request_kind.driver == other.driver) ≡ false
@@ -117,33 +104,24 @@ put_elsewhere request_kind other request gs apart =
 -- side
 pub asked_beside : (here queue : QueueName) → is_same here queue ≡ false → (request : Option (RequestOf here))
     (own : Own) → asked queue (with_request (kind_in here) request own).grants ≡ asked queue own.grants
-asked_beside Writes Writes apart request own = absurd (false≢true (sym apart))
 asked_beside Writes Reads apart request own =
     put_here console_writes console_reads request console_reads.told own.grants (λ value. refl)
-asked_beside Writes Randoms apart request own = put_elsewhere console_writes randoms request own.grants refl
-asked_beside Writes Stores apart request own = put_elsewhere console_writes storages request own.grants refl
 asked_beside Reads Writes apart request own =
     put_here console_reads console_writes request console_writes.told own.grants (λ value. refl)
+asked_beside Writes Writes apart request own = absurd (false≢true (sym apart))
 asked_beside Reads Reads apart request own = absurd (false≢true (sym apart))
-asked_beside Reads Randoms apart request own = put_elsewhere console_reads randoms request own.grants refl
-asked_beside Reads Stores apart request own = put_elsewhere console_reads storages request own.grants refl
-asked_beside Randoms Writes apart request own = put_elsewhere randoms console_writes request own.grants refl
-asked_beside Randoms Reads apart request own = put_elsewhere randoms console_reads request own.grants refl
 asked_beside Randoms Randoms apart request own = absurd (false≢true (sym apart))
-asked_beside Randoms Stores apart request own = put_elsewhere randoms storages request own.grants refl
-asked_beside Stores Writes apart request own = put_elsewhere storages console_writes request own.grants refl
-asked_beside Stores Reads apart request own = put_elsewhere storages console_reads request own.grants refl
-asked_beside Stores Randoms apart request own = put_elsewhere storages randoms request own.grants refl
 asked_beside Stores Stores apart request own = absurd (false≢true (sym apart))
+asked_beside here queue apart request own = put_elsewhere (kind_in here) (kind_in queue) request own.grants refl
 
 -- where the driver is entered, the request is the one that was put; where none is put, there is none
 if_entered : {R : Type 0} (request : Option R) (driver : ℕ) (gs : List Grant)
     → if_there request (grant_of driver (entered driver gs)) ≡ request
-if_entered request driver gs = by_grant (grant_of driver (entered driver gs)) (is_there driver gs)
-  where
-    by_grant : (found : Option Grant) → is_some found ≡ true → if_there request found ≡ request
-    by_grant None e = absurd (false≢true e)
-    by_grant (Some g) e = refl
+if_entered request driver gs =
+    elim (cases_Option (grant_of driver (entered driver gs))) [
+      | inl none ↦ absurd (false≢true (rw none at (is_there driver gs)))
+      | inr is ↦ rw is.1
+    ]
 
 -- so it is where one was told before
 pub if_told : {R : Type 0} (request_kind : RequestKind R) (waiting : R) (request : Option R) (found : Option Grant)

@@ -1,7 +1,7 @@
 -- What the commands to each driver ask of the board, by the rows of its table: each row's acts are one of the few lists
 -- of its driver (`OneOf`), and a request that is made asks to wait in its own queue, or for nothing. Alarm and buttons
 -- ask for nothing at all.
-use Rattle.std.proofs.Common.{◌≡◌, inl, inr, ℕ, ◌==◌, ◌+◌, nat_le, nat_lt, Bool, true, false, cond, List, [], ◌∷◌}
+use Rattle.std.proofs.Common.{◌≡◌, inl, inr, ℕ, ◌==◌, ◌+◌, nat_le, nat_lt, List, [], ◌∷◌}
 use Rattle.std.proofs.Common.{Option, None, Some, refl}
 use Rattle.grant_values.specs.declared.alarm.Armed.{Armed}
 use Rattle.grant_values.specs.declared.console.WaitingRead.{WaitingRead}
@@ -21,10 +21,7 @@ use Rattle.driver_model.specs.Parts.{asking_beside, asking_to_read}
 use Rattle.driver_model.specs.Storage as storage
 use Rattle.driver_model.proofs.Outcomes.{of_buttons}
 use Rattle.driver_model.proofs.Tables.{Each, commanded}
-
-by_test : (P : Commanded → Type 0) (b : Bool) (c d : Commanded) → P c → P d → P (cond b c d)
-by_test P true c d p q = p
-by_test P false c d p q = q
+use Rattle.std.proofs.lemmas.Bool.{cond_both}
 
 AsksNothing : Commanded → Type 0
 AsksNothing c = c.acts ≡ []
@@ -36,7 +33,7 @@ stopping_asks (Some armed) own = refl
 
 arming_asks : (armed : Armed) (own : Own) → AsksNothing (alarm.arming armed own)
 unfolding AsksNothing
-arming_asks armed own = by_test AsksNothing (has_place alarm.alarm_driver own) _ _ refl refl
+arming_asks armed own = cond_both (has_place alarm.alarm_driver own) _ _ AsksNothing (λ e. refl) (λ e. refl)
 
 alarm_asks : (now number a2 a3 : ℕ) (own : Own) → AsksNothing (by_number (alarm.commands now a2 a3) number own)
 unfolding Each alarm.commands AsksNothing
@@ -56,7 +53,7 @@ begins : {R : Type 0} (P : Commanded → Type 0) (request_kind : RequestKind R) 
     → ((c : Commanded) → c.acts ≡ [] → P c) → ((c : Commanded) → c.acts ≡ Waits request_kind.line ∷ [] → P c)
     → P (asking_beside request_kind o request own)
 begins P request_kind None request own none waits =
-    by_test P (has_place request_kind.driver own) _ _ (waits _ refl) (none _ refl)
+    cond_both (has_place request_kind.driver own) _ _ P (λ e. waits _ refl) (λ e. none _ refl)
 begins P request_kind (Some waiting) request own none waits = none _ refl
 
 abbrev AsksOf : List (List BoardRequest) → Commanded → Type 0
@@ -67,9 +64,9 @@ of_console = [] ∷ (Waits Writes ∷ []) ∷ (Waits Reads ∷ []) ∷ (Leaves R
 
 reading_asks : (count : ℕ) (own : Own) → AsksOf of_console (asking_to_read count own)
 reading_asks count own =
-    by_test (AsksOf of_console) (count == 0) _ _ (inl refl)
-    (begins (AsksOf of_console) console.console_reads (request_in console.console_reads own) _ own (λ c e. inl e)
-    (λ c e. inr (inr (inl e))))
+    cond_both (count == 0) _ _ (AsksOf of_console) (λ e. inl refl)
+    (λ some. begins (AsksOf of_console) console.console_reads (request_in console.console_reads own) _ own
+    (λ c e. inl e) (λ c e. inr (inr (inl e))))
 
 cancelling_asks : (o : Option WaitingRead) (own : Own) → AsksOf of_console (console.cancelling o own)
 cancelling_asks None own = inl refl
@@ -92,11 +89,12 @@ of_leds led = [] ∷ (Lights led On ∷ []) ∷ (Lights led Off ∷ []) ∷ (Lig
 
 switching_asks : (count led : ℕ) (switch : Switch) (own : Own)
     → AsksOf (of_leds led) (leds.switching count led switch own)
-switching_asks count led On own = by_test (AsksOf (of_leds led)) (nat_lt led count) _ _ (inr (inl refl)) (inl refl)
+switching_asks count led On own =
+    cond_both (nat_lt led count) _ _ (AsksOf (of_leds led)) (λ e. inr (inl refl)) (λ e. inl refl)
 switching_asks count led Off own =
-    by_test (AsksOf (of_leds led)) (nat_lt led count) _ _ (inr (inr (inl refl))) (inl refl)
+    cond_both (nat_lt led count) _ _ (AsksOf (of_leds led)) (λ e. inr (inr (inl refl))) (λ e. inl refl)
 switching_asks count led Toggle own =
-    by_test (AsksOf (of_leds led)) (nat_lt led count) _ _ (inr (inr (inr (inl refl)))) (inl refl)
+    cond_both (nat_lt led count) _ _ (AsksOf (of_leds led)) (λ e. inr (inr (inr (inl refl)))) (λ e. inl refl)
 
 leds_ask : (count number led : ℕ) (own : Own) → AsksOf (of_leds led) (by_number (leds.commands count led) number own)
 unfolding Each leds.commands
@@ -130,9 +128,9 @@ of_storage = [] ∷ (Waits Stores ∷ []) ∷ []
 requesting_asks : (size : ℕ) (request : StorageRequest) (own : Own)
     → AsksOf of_storage (storage.requesting size request own)
 requesting_asks size request own =
-    by_test (AsksOf of_storage) (nat_le (request.offset + request.length) size) _ _
-    (begins (AsksOf of_storage) storage.storages (request_in storage.storages own) request own (λ c e. inl e)
-    (λ c e. inr (inl e))) (inl refl)
+    cond_both (nat_le (request.offset + request.length) size) _ _ (AsksOf of_storage)
+    (λ fits. begins (AsksOf of_storage) storage.storages (request_in storage.storages own) request own (λ c e. inl e)
+    (λ c e. inr (inl e))) (λ past. inl refl)
 
 storage_asks : (size number a2 a3 : ℕ) (own : Own)
     → AsksOf of_storage (by_number (storage.commands size a2 a3) number own)

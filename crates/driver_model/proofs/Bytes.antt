@@ -41,6 +41,8 @@ use Rattle.driver_model.proofs.Outcomes.{of_command}
 use Rattle.driver_model.proofs.Requesting.{requesting_commutes}
 use Rattle.driver_model.proofs.Scheduled.{schedules}
 use Rattle.driver_model.proofs.Services.{if_waits}
+use Rattle.std.proofs.lemmas.Bool.{cond_both}
+use Rattle.driver_model.specs.Random.{Progress}
 
 -- an upcall that is scheduled changes no byte
 then_scheduled : (Cause : ℕ → Type 0) (driver number : ℕ) (args : List ℕ) (own o : Own) → ChangesAt Cause own o
@@ -148,47 +150,29 @@ module _ (law : OnlyWritesChangeBytes) where
       → ChangesAt (IsInside (word_buffer own)) own (own_after (random.drawing left request own word).step)
   drawing left request own None whole =
       stays_scheduled (IsInside (word_buffer own)) random.random 0 (1 ∷ request.written ∷ 0 ∷ []) own
-  drawing left request own (Some word) whole = by_left (nat_le left 4)
-    where
-      o : Own
-      o = with_word word left request own
-
-      written : ChangesAt (IsInside (word_buffer own)) own o
-      written = law.written ReadWrite random.random 0 _ _ own refl whole
-
-      by_left : (b : Bool)
-          → ChangesAt (IsInside (word_buffer own)) own
-          (own_after (cond b (random.completing (Some word) 0 (request.written + left) o)
-          (record {
-            rest = Some
-                (record request { written = request.written + 4 });
-            step = silently o;
-            drawn = Some word;
-          })).step)
-      by_left true = then_scheduled (IsInside (word_buffer own)) random.random 0 (0 ∷ (request.written + left) ∷ 0 ∷ [])
-          own o written
-      by_left false = written
+  drawing left request own (Some word) whole =
+      let o = with_word word left request own in
+      let written : ChangesAt (IsInside (word_buffer own)) own o =
+      law.written ReadWrite random.random 0 _ _ own refl whole in
+      cond_both (nat_le left 4) _ _ (λ (p : Progress). ChangesAt (IsInside (word_buffer own)) own (own_after p.step))
+      (λ last. then_scheduled (IsInside (word_buffer own)) random.random 0 (0 ∷ (request.written + left) ∷ 0 ∷ []) own o
+      written) (λ more. written)
 
   progress : (word : Option ℕ) (request : RandomRequest) (own : Own) → IsWhole own
       → ChangesAt (IsInside (word_buffer own)) own (own_after (random.progress word request own).step)
-  progress word request own whole = by_wanted (nat_le (random.wanted request own) request.written)
-    where
-      by_wanted : (b : Bool)
-          → ChangesAt (IsInside (word_buffer own)) own
-          (own_after (cond b (random.completing None 0 request.written own)
-          (random.drawing (random.wanted request own - request.written) request own word)).step)
-      by_wanted true = stays_scheduled (IsInside (word_buffer own)) random.random 0 (0 ∷ request.written ∷ 0 ∷ []) own
-      by_wanted false = drawing _ request own word whole
+  progress word request own whole =
+      cond_both (nat_le (random.wanted request own) request.written) _ _
+      (λ (p : Progress). ChangesAt (IsInside (word_buffer own)) own (own_after p.step))
+      (λ e. stays_scheduled (IsInside (word_buffer own)) random.random 0 (0 ∷ request.written ∷ 0 ∷ []) own)
+      (λ e. drawing _ request own word whole)
 
   no_progress : (request : RandomRequest) (own : Own) → KeepsBytes own
       (own_after (random.progress None request own).step)
-  no_progress request own = by_wanted (nat_le (random.wanted request own) request.written)
-    where
-      by_wanted : (b : Bool)
-          → KeepsBytes own (own_after (cond b (random.completing None 0 request.written own)
-          (random.drawing (random.wanted request own - request.written) request own None)).step)
-      by_wanted true = keeps_scheduled random.random 0 (0 ∷ request.written ∷ 0 ∷ []) own
-      by_wanted false = keeps_scheduled random.random 0 (1 ∷ request.written ∷ 0 ∷ []) own
+  no_progress request own =
+      cond_both (nat_le (random.wanted request own) request.written) _ _
+      (λ (p : Progress). KeepsBytes own (own_after p.step))
+      (λ e. keeps_scheduled random.random 0 (0 ∷ request.written ∷ 0 ∷ []) own)
+      (λ e. keeps_scheduled random.random 0 (1 ∷ request.written ∷ 0 ∷ []) own)
 
   moving : (kind : StorageKind) (flash : ℕ → ℕ) (bytes : List ℕ) (request : StorageRequest) (own : Own) → IsWhole own
       → ChangesAt (IsInside (stored_buffer own)) own (own_after (storage.moving kind flash bytes request own).step)

@@ -1,5 +1,5 @@
 -- Who waits after a command.
-use Rattle.std.proofs.Common.{◌≡◌, ℕ, Bool, true, false, cond, not, ◌&&◌, [], ◌∷◌, Option, None, Some, is_some, Ok}
+use Rattle.std.proofs.Common.{◌≡◌, ℕ, Bool, true, false, cond, [], ◌∷◌, Option, None, Some, is_some, Ok}
 use Rattle.std.proofs.Common.{refl, ap, sym, subst, ◌∙◌, ◌+◌, ◌≤◌, IfSome}
 use Rattle.std.proofs.lemmas.Bool.{false≢true}
 use Rattle.tk_base.specs.Call.{code_of}
@@ -22,6 +22,8 @@ use Rattle.driver_model.proofs.Asked.{asked, asked_apart, asked_beside, asked_pu
 use Rattle.driver_model.proofs.Asked.{entered_put, if_none}
 use Rattle.driver_model.proofs.Waits.{Moves, each_waits, moves_one, same_here, same_queue, within_still}
 use Rattle.driver_model.proofs.Outcomes.{IsApart, of_command}
+use Rattle.std.proofs.lemmas.Bool.{cases_Bool}
+use Rattle.std.proofs.Common.{inl, inr}
 
 -- by what is asked for after the command
 follows : (around : CommandContext) (own : Own) (c : Commanded) → (own_after c.step).lives ≡ own.lives
@@ -44,23 +46,13 @@ kept_apart driver value apart queue own =
 -- where no request is kept, it begins to wait once
 begins_once : (here queue : QueueName) (own : Own) → request_in (kind_in here) own ≡ None
     → waits_once queue (has_waiting queue own) (Waits here ∷ []) ≡ true
-begins_once here queue own none = by_test (is_same here queue) refl
-  where
-    nothing : Option (RequestOf here)
-    nothing = None
-
-    not_yet : (b : Bool) → (not (is_some (cond b nothing None)) && true) ≡ true
-    not_yet true = refl
-    not_yet false = refl
-
-    not_here : (not (has_waiting here own) && true) ≡ true
-    not_here = ap (λ (q : Option (RequestOf here)). not (is_some (cond own.lives q None)) && true) none
-        ∙ not_yet own.lives
-
-    by_test : (b : Bool) → is_same here queue ≡ b → (not (b && has_waiting queue own) && true) ≡ true
-    by_test true e =
-        subst (λ (q : QueueName). (not (has_waiting q own) && true) ≡ true) (same_queue here queue e) not_here
-    by_test false e = refl
+begins_once here queue own none =
+    elim (cases_Bool (is_same here queue)) [
+      | inl e ↦
+          rw (e, ← same_queue here queue e, none)
+          (elim (cases_Bool own.lives) [ inl lives ↦ rw lives | inr ended ↦ rw ended ])
+      | inr e ↦ rw e
+    ]
 
 -- a request begins to wait
 begins : (around : CommandContext) (here : QueueName) (request : RequestOf here) (own : Own)

@@ -1,10 +1,10 @@
 -- What drivers keep of a process, by the one walk over all that they do.
-use Rattle.std.proofs.Common.{◌≡◌, ◌≤◌, ℕ, ◌+◌, ◌==◌, Bool, true, false, cond, ◌&&◌, ◌||◌, is_some, nat_le, max, Option}
-use Rattle.std.proofs.Common.{None, Some, refl, sym, ap, subst, arith}
-use Rattle.std.proofs.lemmas.Bool.{false≢true, leb-true}
+use Rattle.std.proofs.Common.{◌≡◌, ◌≤◌, ℕ, ◌+◌, ◌==◌, true, nat_le, max}
+use Rattle.std.proofs.Common.{refl, sym, ap, subst, arith}
+use Rattle.std.proofs.lemmas.Bool.{leb-true}
 use Rattle.grant_values.specs.Drivers.{cost_of}
 use Rattle.grant_values.specs.Values.{KeptValue}
-use Rattle.grant_model.specs.Grants.{Grant, costs, entering as entering_grants, grant_of, shape_of, with_pair}
+use Rattle.grant_model.specs.Grants.{costs, grant_of, shape_of, with_pair}
 use Rattle.tk_base.specs.declared.kinds.PairKind.{PairKind}
 use Rattle.tk_base.specs.Kinds.{is_buffer}
 use Rattle.process_layout.specs.Bounds.{Bounds}
@@ -16,27 +16,27 @@ use Rattle.driver_model.specs.Laws.{StaysInPlace}
 use Rattle.grant_model.proofs.Costs.{same_costs}
 use Rattle.driver_model.proofs.Scheduled.{Serves, same_limit}
 use Rattle.driver_model.proofs.Services.{of_services}
+use Rattle.std.proofs.lemmas.Bool.{and_parts, cond_both}
+use Rattle.std.proofs.Common.{inl, inr}
+use Rattle.driver_model.proofs.Tables.{cases_Option}
 
 -- the order speaks of the layout and of the costs alone
 pub same_order : (own o : Own) → o.layout ≡ own.layout → costs o.grants ≡ costs own.grants → IsInOrder own → IsInOrder o
 same_order own o layout grants h = record {
-  mark = subst (λ (e : _). e.start ≤ e.mark) (sym layout) h.mark;
-  brk = subst (λ (e : _). e.mark ≤ e.brk) (sym layout) h.brk;
-  grants = subst (λ (e : Bounds). e.brk + costs o.grants ≤ e.end) (sym layout)
-      (subst (λ (n : ℕ). own.layout.brk + n ≤ own.layout.end) (sym grants) h.grants);
+  mark = rw layout h.mark;
+  brk = rw layout h.brk;
+  grants = rw (layout, grants) h.grants;
 }
 
 -- a driver that is entered, where it has a place
 pub entering_order : (driver : ℕ) (own : Own) → has_place driver own ≡ true → KeepsOrder own (own_entering driver own)
-entering_order driver own room h = by_grant (grant_of driver own.grants) room
-  where
-    by_grant : (g : Option Grant)
-        → (is_some g || nat_le (own.layout.brk + cost_of (shape_of driver)) (kernel_break_of own)) ≡ true
-        → IsInOrder (record own { ram = (own_entering driver own).ram; grants = entering_grants driver own.grants g })
-    by_grant None room =
-        let least = leb-true (own.layout.brk + cost_of (shape_of driver)) (kernel_break_of own) room in
-        record { mark = h.mark; brk = h.brk; grants = omega (arith, least, h.grants) }
-    by_grant (Some g) room = record { mark = h.mark; brk = h.brk; grants = h.grants }
+entering_order driver own room h =
+    elim (cases_Option (grant_of driver own.grants)) [
+      | inl none ↦
+          let least = leb-true (own.layout.brk + cost_of (shape_of driver)) (kernel_break_of own) (rw none at room) in
+          rw none (record { mark = h.mark; brk = h.brk; grants = omega (arith, least, h.grants) })
+      | inr is ↦ rw is.1 (record { mark = h.mark; brk = h.brk; grants = h.grants })
+    ]
 
 pub keeping_order : (driver : ℕ) (value : KeptValue) (own : Own) → KeepsOrder own (with_kept driver value own)
 keeping_order driver value own h =
@@ -48,33 +48,21 @@ served_order own o s =
     same_order own o (ap (λ (x : Own). x.layout) s.rest) (ap (λ (x : Own). costs x.grants) s.rest)
 
 -- a buffer that lies in accessible RAM raises the mark to its end at most
-and_right : (a b : Bool) → (a && b) ≡ true → b ≡ true
-and_right true b e = e
-and_right false b e = absurd (false≢true e)
+pub of_raised : (P : Bounds → Type 0) (pair : ℕ × ℕ) (e : Bounds) → P e
+    → (lies_in_ram e pair.0 pair.1 ≡ true → P (record e { mark = max e.mark (pair.0 + pair.1) })) → P (raised pair e)
+of_raised P pair e same raises =
+    cond_both (pair.1 == 0) e _ P (λ none. same)
+    (λ some. cond_both (lies_in_ram e pair.0 pair.1) _ e P raises (λ past. same))
 
 raised_order : (pair : ℕ × ℕ) (e : Bounds) → e.start ≤ e.mark → e.mark ≤ e.brk
     → (e.start ≤ (raised pair e).mark) × ((raised pair e).mark ≤ e.brk)
-raised_order pair e low high = by_test (pair.1 == 0) (lies_in_ram e pair.0 pair.1) refl
-  where
-    by_test : (none lies : Bool) → lies_in_ram e pair.0 pair.1 ≡ lies
-        → let m = (cond none e (cond lies (record e { mark = max e.mark (pair.0 + pair.1) }) e)).mark in
-        (e.start ≤ m) × (m ≤ e.brk)
-    by_test true lies is = (low, high)
-    by_test false true is =
-        let ends = leb-true (pair.0 + pair.1) e.brk
-        (and_right (nat_le e.start pair.0) (nat_le (pair.0 + pair.1) e.brk) is) in
-        (omega (arith, low), omega (arith, high, ends))
-    by_test false false is = (low, high)
+raised_order pair e low high =
+    of_raised (λ f. (e.start ≤ f.mark) × (f.mark ≤ e.brk)) pair e (low, high)
+    (λ is. let ends = leb-true _ e.brk (and_parts (nat_le e.start pair.0) (nat_le (pair.0 + pair.1) e.brk) is).1 in
+    (omega (arith, low), omega (arith, high, ends)))
 
 raised_rest : (pair : ℕ × ℕ) (e : Bounds) → raised pair e ≡ record e { mark = (raised pair e).mark }
-raised_rest pair e = by_test (pair.1 == 0) (lies_in_ram e pair.0 pair.1)
-  where
-    by_test : (none lies : Bool)
-        → let f = cond none e (cond lies (record e { mark = max e.mark (pair.0 + pair.1) }) e) in
-        f ≡ record e { mark = f.mark }
-    by_test true lies = refl
-    by_test false true = refl
-    by_test false false = refl
+raised_rest pair e = of_raised (λ f. f ≡ record e { mark = f.mark }) pair e refl (λ is. refl)
 
 raised_in_order : (pair : ℕ × ℕ) (own : Own) → KeepsOrder own (record own { layout = raised pair own.layout })
 raised_in_order pair own h =
@@ -85,11 +73,9 @@ raised_in_order pair own h =
 
 marked_in_order : (kind : PairKind) (pair : ℕ × ℕ) (own : Own)
     → KeepsOrder own (record own { layout = marked kind pair own.layout })
-marked_in_order kind pair own = by_test (is_buffer kind)
-  where
-    by_test : (b : Bool) → KeepsOrder own (record own { layout = cond b (raised pair own.layout) own.layout })
-    by_test true = raised_in_order pair own
-    by_test false = λ h. h
+marked_in_order kind pair own =
+    cond_both (is_buffer kind) _ own.layout (λ (e : Bounds). KeepsOrder own (record own { layout = e }))
+    (λ b. raised_in_order pair own) (λ b h. h)
 
 pub handed_order : (kind : PairKind) (driver number : ℕ) (pair : ℕ × ℕ) (own : Own) → has_place driver own ≡ true
     → KeepsOrder own (handing kind driver number pair own)
@@ -102,11 +88,9 @@ handed_order kind driver number pair own room h =
 
 pub marked_rest : (kind : PairKind) (pair : ℕ × ℕ) (e : Bounds)
     → marked kind pair e ≡ record e { mark = (marked kind pair e).mark }
-marked_rest kind pair e = by_test (is_buffer kind)
-  where
-    by_test : (b : Bool) → cond b (raised pair e) e ≡ record e { mark = (cond b (raised pair e) e).mark }
-    by_test true = raised_rest pair e
-    by_test false = refl
+marked_rest kind pair e =
+    cond_both (is_buffer kind) _ e (λ (f : Bounds). f ≡ record e { mark = f.mark }) (λ b. raised_rest pair e)
+    (λ b. refl)
 
 pub handed_places : (kind : PairKind) (driver number : ℕ) (pair : ℕ × ℕ) (own : Own)
     → HandsInPlace own (handing kind driver number pair own)

@@ -1,7 +1,7 @@
 -- The ticks that are left of alarms: none are left of the next one exactly where an alarm is due, and as time passes
 -- fewer are left by as many. For one alarm it is arithmetic on a clock of 32 bits; for all slots it is an induction on
 -- the fold that keeps the nearest, beside the search for one that is due.
-use Rattle.std.proofs.Common.{◌≡◌, ◌<◌, ◌≤◌, ℕ, ◌+◌, ◌-◌, ◌%◌, ◌^◌, ◌==◌, min, nat_le, Bool, true, false, cond, ◌||◌}
+use Rattle.std.proofs.Common.{◌≡◌, ◌<◌, ℕ, ◌+◌, ◌-◌, ◌%◌, ◌^◌, ◌==◌, min, nat_le, Bool, true, false, cond, ◌||◌}
 use Rattle.std.proofs.Common.{List, [], ◌∷◌, find, fold, slice_get, is_some, IfSome, option_and_then, option_map}
 use Rattle.std.proofs.Common.{Option, None}
 use Rattle.std.proofs.Common.{Some, refl, ap, sym, ◌∙◌, arith, eqb-true}
@@ -16,6 +16,7 @@ use Rattle.driver_model.specs.Parts.{is_due, nearer_with}
 use Rattle.driver_model.specs.Alarm.{ticks_left_in, ticks_left_of}
 use Rattle.driver_model.specs.Alarm.{nearer, next_left}
 use Rattle.driver_model.specs.Laws.{IsDueWhereNoneAreLeft, QuietUntilNext, TimeBringsNearer}
+use Rattle.std.proofs.lemmas.Bool.{lt-leb}
 
 -- whether there is a number of ticks, and it is 0
 is_now : Option ℕ → Bool
@@ -38,9 +39,9 @@ nearer_now (Some m) (Some n) = least_zero m n
 zero_where_passed : (d e : ℕ) → (d - e == 0) ≡ nat_le d e
 zero_where_passed d e = grind (arith, nat_tests)
 
-some_if : (b : Bool) (alarm : Armed) → b ≡ is_some (cond b (Some alarm) None)
-some_if true alarm = refl
-some_if false alarm = refl
+some_if : {X : Type 0} (b : Bool) (x : X) → b ≡ is_some (cond b (Some x) None)
+some_if true x = refl
+some_if false x = refl
 
 armed_now : (now : ℕ) (lives : Bool) (armed : Option Armed)
     → is_now (cond lives (option_map (ticks_left now) armed) None) ≡ is_some (cond lives (if_due now armed) None)
@@ -66,11 +67,11 @@ folded_now : (now : ℕ) (owns : List Own) (slots : List ℕ) (least : Option �
 folded_now now owns [] least = or_false (is_now least)
 folded_now now owns (slot ∷ slots) least =
     let rest = find (λ slot. has_due now (slice_get owns slot)) slots in
-    folded_now now owns slots (nearer_with now owns least slot)
-    ∙ ap (λ (a : Bool). a || is_some rest)
-    (nearer_now least (ticks_left_in now owns slot)
-    ∙ ap (λ (b : Bool). is_now least || b) (slot_now now (slice_get owns slot)))
-    ∙ one_more (is_now least) (has_due now (slice_get owns slot)) slot rest
+    rw (
+      folded_now now owns slots (nearer_with now owns least slot),
+      nearer_now least (ticks_left_in now owns slot),
+      slot_now now (slice_get owns slot),
+    ) (one_more (is_now least) (has_due now (slice_get owns slot)) slot rest)
 
 next_now : (now : ℕ) (owns : List Own) → is_now (next_left now owns) ≡ is_some (due_slot now owns)
 unfolding is_now next_left due_slot
@@ -81,24 +82,17 @@ unfolding is_now
 zero_if_now None e = absurd (false≢true e)
 zero_if_now (Some ticks) e = ap Some (eqb-true ticks 0 e)
 
-now_if_zero : (least : Option ℕ) → least ≡ Some 0 → is_now least ≡ true
-unfolding is_now
-now_if_zero least e = ap is_now e
-
 -- and of one slot alone
 left_now : (only : Option ℕ) (now : ℕ) (owns : List Own)
     → is_now (left_for only now owns) ≡ is_some (due_for only now owns)
 left_now None now owns = next_now now owns
 left_now (Some only) now owns =
-    slot_now now (slice_get owns only) ∙ this_if (has_due now (slice_get owns only))
-  where
-    this_if : (b : Bool) → b ≡ is_some (cond {A = Option ℕ} b (Some only) None)
-    this_if true = refl
-    this_if false = refl
+    slot_now now (slice_get owns only) ∙ some_if (has_due now (slice_get owns only)) only
 
 pub is_due_where_none_are_left : IsDueWhereNoneAreLeft
+unfolding is_now
 is_due_where_none_are_left only now owns = (
-  λ zero. sym (left_now only now owns) ∙ now_if_zero (left_for only now owns) zero,
+  λ zero. sym (left_now only now owns) ∙ ap is_now zero,
   λ due. zero_if_now (left_for only now owns) (left_now only now owns ∙ due),
 )
 
@@ -106,20 +100,11 @@ elapsed : (now passed from : ℕ) → now < 2 ^ 32 → from < 2 ^ 32 → (now + 
     → ((now + passed) % 2 ^ 32 + (2 ^ 32 - from)) % 2 ^ 32 ≡ (now + (2 ^ 32 - from)) % 2 ^ 32 + passed
 elapsed now passed from n f fits = omega arith
 
-fewer : (d e passed later : ℕ) → later ≡ e + passed → d - later ≡ d - e - passed
-fewer d e passed later is = omega arith
-
-fits_still : (d e passed : ℕ) → d < 2 ^ 32 → e < 2 ^ 32 → passed ≤ d - e → e + passed < 2 ^ 32
-fits_still d e passed small below left = omega arith
-
-below_limit : (n : ℕ) → n % 2 ^ 32 < 2 ^ 32
-below_limit n = omega arith
-
 pub time_brings_nearer : TimeBringsNearer
 time_brings_nearer now passed alarm n r d left =
     let e = (now + (2 ^ 32 - alarm.reference)) % 2 ^ 32 in
-    let fits = fits_still alarm.delta e passed d (below_limit (now + (2 ^ 32 - alarm.reference))) left in
-    fewer alarm.delta e passed _ (elapsed now passed alarm.reference n r fits)
+    let below : e < 2 ^ 32 = omega arith in
+    let later = elapsed now passed alarm.reference n r (omega (arith, d, left, below)) in omega (arith, later)
 
 -- more ticks are left than have passed, if any number is
 abbrev MoreLeft : ℕ → Option ℕ → Type 0
@@ -133,34 +118,23 @@ both_more passed (Some m) (Some n) more = (omega (arith, more), omega (arith, mo
 not_due : (now passed : ℕ) (alarm : Armed) → passed < alarm.delta - (now + (2 ^ 32 - alarm.reference)) % 2 ^ 32
     → is_due ((now + passed) % 2 ^ 32) alarm ≡ false
 not_due now passed alarm more =
-    not_reached alarm.delta _ (still_below now passed (2 ^ 32 - alarm.reference) alarm.delta more)
+    lt-leb alarm.delta _ (still_below now passed (2 ^ 32 - alarm.reference) alarm.delta more)
   where
     still_below : (now passed from delta : ℕ) → passed < delta - (now + from) % 2 ^ 32
         → ((now + passed) % 2 ^ 32 + from) % 2 ^ 32 < delta
     still_below now passed from delta more = omega arith
-
-    not_reached : (delta e : ℕ) → e < delta → nat_le delta e ≡ false
-    not_reached delta e below = grind (arith, nat_tests)
-
-none_if : (b : Bool) (alarm : Armed) → b ≡ false → is_some (cond b (Some alarm) None) ≡ false
-none_if b alarm e = ap (λ (x : Bool). is_some (cond x (Some alarm) None)) e
 
 armed_quiet : (now passed : ℕ) (lives : Bool) (armed : Option Armed)
     → MoreLeft passed (cond lives (option_map (ticks_left now) armed) None)
     → is_some (cond lives (if_due ((now + passed) % 2 ^ 32) armed) None) ≡ false
 armed_quiet now passed false armed more = refl
 armed_quiet now passed true None more = refl
-armed_quiet now passed true (Some alarm) more =
-    none_if (is_due ((now + passed) % 2 ^ 32) alarm) alarm (not_due now passed alarm more)
+armed_quiet now passed true (Some alarm) more = rw (not_due now passed alarm more)
 
 slot_quiet : (now passed : ℕ) (own : Option Own) → MoreLeft passed (option_and_then (ticks_left_of now) own)
     → has_due ((now + passed) % 2 ^ 32) own ≡ false
 slot_quiet now passed None more = refl
 slot_quiet now passed (Some own) more = armed_quiet now passed own.lives (alarm_in own) more
-
-passes_over : (p : ℕ → Bool) (slot : ℕ) (slots : List ℕ) → p slot ≡ false → find p slots ≡ None
-    → find p (slot ∷ slots) ≡ None
-passes_over p slot slots e none = ap (λ (b : Bool). cond b (Some slot) (find p slots)) e ∙ none
 
 all_quiet : (now passed : ℕ) (owns : List Own) (slots : List ℕ) (least : Option ℕ)
     → MoreLeft passed (fold (nearer_with now owns) least slots)
@@ -168,11 +142,8 @@ all_quiet : (now passed : ℕ) (owns : List Own) (slots : List ℕ) (least : Opt
 all_quiet now passed owns [] least more = (refl, more)
 all_quiet now passed owns (slot ∷ slots) least more =
     let rest = all_quiet now passed owns slots (nearer_with now owns least slot) more in
-    let both = both_more passed least (ticks_left_in now owns slot) rest.1 in (
-      passes_over (λ slot. has_due ((now + passed) % 2 ^ 32) (slice_get owns slot)) slot slots
-          (slot_quiet now passed (slice_get owns slot) both.1) rest.0,
-      both.0,
-    )
+    let both = both_more passed least (ticks_left_in now owns slot) rest.1 in
+    (rw (slot_quiet now passed (slice_get owns slot) both.1) rest.0, both.0)
 
 pub quiet_until_next : QuietUntilNext
 unfolding next_left due_slot

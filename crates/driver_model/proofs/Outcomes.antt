@@ -24,9 +24,9 @@ use Rattle.process_model.specs.Handed.{own_entering, has_place}
 use Rattle.process_model.specs.Served.{with_kept}
 use Rattle.driver_model.specs.Steps.{silently}
 use Rattle.driver_model.specs.Commands.{Commanded, Leaves, Lights, QueueName, Reads, Switch, On, Off, Toggle, Waits}
-use Rattle.driver_model.specs.Commands.{accepting, by_number, refusing, Writes, Randoms, Stores}
+use Rattle.driver_model.specs.Commands.{accepting, by_number, refusing, Writes}
 use Rattle.driver_model.specs.Requests.{RequestKind, asking, request_in, with_request}
-use Rattle.driver_model.specs.Parts.{asking_beside, asking_to_read}
+use Rattle.driver_model.specs.Parts.{asking_to_read}
 use Rattle.driver_model.specs.Alarm.{alarm_driver, alarm_in, arming, showing, stopping}
 use Rattle.driver_model.specs.Alarm.{commands as alarm_commands}
 use Rattle.driver_model.specs.Buttons.{buttons, enabling, of_button, set_enabled}
@@ -39,6 +39,9 @@ use Rattle.driver_model.specs.Storage.{requesting, storages, commands as storage
 use Rattle.driver_model.specs.Lines.{kind_in}
 use Rattle.driver_model.specs.Drivers.{CommandContext, CommandHandler, handler_by, handler_of}
 use Rattle.driver_model.proofs.Tables.{Each, EachAt, commanded, commanded_at, taken}
+use Rattle.std.proofs.lemmas.Bool.{cond_both}
+use Rattle.std.proofs.Common.{inl, inr}
+use Rattle.driver_model.proofs.Tables.{cases_Option}
 
 -- a request that begins to wait
 abbrev pub begun : {R : Type 0} → RequestKind R → R → Own → Commanded
@@ -54,15 +57,11 @@ IsApart driver = (queue : QueueName) → (driver == (kind_in queue).driver) ≡ 
 
 pub alarm_apart : IsApart alarm_driver
 alarm_apart Writes = refl
-alarm_apart Reads = refl
-alarm_apart Randoms = refl
-alarm_apart Stores = refl
+alarm_apart queue = refl
 
 buttons_apart : IsApart buttons
 buttons_apart Writes = refl
-buttons_apart Reads = refl
-buttons_apart Randoms = refl
-buttons_apart Stores = refl
+buttons_apart queue = refl
 
 -- what holds of each thing that may come of a command to a driver
 pub record OfEachOutcome (driver number : ℕ) (around : CommandContext) (own : Own) (P : Commanded → Type 0) : Type 0
@@ -87,23 +86,18 @@ pub record OfEachOutcome (driver number : ℕ) (around : CommandContext) (own : 
         → has_place storages.driver own ≡ true → request_in storages own ≡ None → P (begun storages request own)
 
 by_test : (P : Commanded → Type 0) (b : Bool) (c d : Commanded) → (b ≡ true → P c) → P d → P (cond b c d)
-by_test P true c d p q = p refl
-by_test P false c d p q = q
-
-by_beside : {R : Type 0} (P : Commanded → Type 0) (request_kind : RequestKind R) (waiting : Option R) (request : R)
-    (own : Own) → request_in request_kind own ≡ waiting → ((rule : CallRule) → P (refusing rule own))
-    → (has_place request_kind.driver own ≡ true → request_in request_kind own ≡ None
-    → P (begun request_kind request own)) → P (asking_beside request_kind waiting request own)
-by_beside P request_kind None request own is refuses begins =
-    by_test P (has_place request_kind.driver own) _ _ (λ room. begins room is) (refuses NoRoom)
-by_beside P request_kind (Some waiting) request own is refuses begins = refuses Busy
+by_test P b c d p q = cond_both b c d P p (λ e. q)
 
 by_asking : {R : Type 0} (P : Commanded → Type 0) (request_kind : RequestKind R) (request : R) (own : Own)
     → ((rule : CallRule) → P (refusing rule own))
     → (has_place request_kind.driver own ≡ true → request_in request_kind own ≡ None
     → P (begun request_kind request own)) → P (asking request_kind request own)
 by_asking P request_kind request own refuses begins =
-    by_beside P request_kind (request_in request_kind own) request own refl refuses begins
+    elim (cases_Option (request_in request_kind own)) [
+      | inl none ↦ rw none (by_test P (has_place request_kind.driver own) _ _ (λ room. begins room none)
+          (refuses NoRoom))
+      | inr is ↦ rw is.1 (refuses Busy)
+    ]
 
 -- whatever comes of a command to the buttons
 pub of_buttons : (P : Commanded → Type 0) (count pressed number button : ℕ) (own : Own)

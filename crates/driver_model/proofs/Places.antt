@@ -3,19 +3,12 @@ use Rattle.std.proofs.Common.{[], ◌∷◌, None, refl, sym, subst}
 use Rattle.tk_base.specs.Call.{code_of}
 use Rattle.tk_base.specs.declared.call.ErrorCode.TheVariants.{CANCEL}
 use Rattle.process_model.specs.Own.{Own}
-use Rattle.driver_model.specs.Console.{console, console_reads, console_writes, dropping_read}
-use Rattle.driver_model.specs.Random.{randoms}
-use Rattle.driver_model.specs.Requests.{RequestKind, with_request}
-use Rattle.driver_model.specs.Storage.{storages}
+use Rattle.driver_model.specs.Console.{console, console_reads, dropping_read}
+use Rattle.driver_model.specs.Requests.{with_request}
 use Rattle.driver_model.specs.Laws.{CommandDropsAtMostOne, CommandsStayInPlace, IsAtMostOneMore, StaysInPlace}
-use Rattle.driver_model.proofs.Outcomes.{begun, of_command}
+use Rattle.driver_model.proofs.Outcomes.{of_command}
 use Rattle.driver_model.specs.Steps.{own_after}
 use Rattle.driver_model.proofs.Scheduled.{Queues, none_more, schedules}
-
-begun_stays : {R : Type 0} (request_kind : RequestKind R) (request : R) (own : Own)
-    → StaysInPlace own (own_after (begun request_kind request own).step)
-begun_stays request_kind request own =
-    refl
 
 -- a read that is dropped has its process told of it
 cancels : (own : Own) → Queues (with_request console_reads None own) (own_after (dropping_read own))
@@ -31,10 +24,10 @@ commands_stay_in_place driver taker is around number a2 a3 own =
       keeps = λ d value reply apart. refl;
       enters = λ d value reply apart room. refl;
       cancels = λ is. subst (StaysInPlace own) (sym (cancels own).rest) refl;
-      writes = λ request room none. begun_stays console_writes request own;
-      reads = λ request room none. begun_stays console_reads request own;
-      draws = λ request room none. begun_stays randoms request own;
-      stores = λ request fits room none. begun_stays storages request own;
+      writes = λ request room none. refl;
+      reads = λ request room none. refl;
+      draws = λ request room none. refl;
+      stores = λ request fits room none. refl;
     })
 
 pub command_drops_at_most_one : CommandDropsAtMostOne

@@ -1,8 +1,7 @@
 -- What an upcall that is scheduled changes of a process.
-use Rattle.std.proofs.Common.{◌≡◌, ◌≤◌, ◌<◌, nat_lt, length, ℕ, ◌+◌, ◌==◌, Bool, true, false, cond, List, [], ◌∷◌, ◌++◌}
+use Rattle.std.proofs.Common.{◌≡◌, ◌≤◌, length, ℕ, ◌+◌, ◌==◌, Bool, true, false, cond, List, [], ◌∷◌, ◌++◌}
 use Rattle.std.proofs.Common.{None, Some, refl, ap, sym, subst, ◌∙◌, arith}
 use Rattle.std.proofs.lemmas.Bool.{false≢true}
-use Rattle.std.proofs.lemmas.Bool.Decides.{nat_tests}
 use Rattle.std.proofs.lemmas.List.{length-append}
 use Rattle.tk_base.specs.declared.limits.TheConstants.{PENDING_LIMIT}
 use Rattle.tk_base.specs.declared.upcall.Upcall.{Upcall}
@@ -14,6 +13,7 @@ use Rattle.process_model.specs.Changes.{IsWhole}
 use Rattle.driver_model.specs.Laws.{IsAtMostOneMore}
 use Rattle.driver_model.specs.Keeping.{KeepsLimit}
 use Rattle.driver_model.specs.Upcalls.{SchedulesHeld}
+use Rattle.std.proofs.lemmas.Bool.{lt-ltb, ltb-true}
 
 pub none_more : (dropped : ℕ) → IsAtMostOneMore dropped dropped
 none_more dropped = record { not_less = omega arith; not_more = omega arith }
@@ -25,12 +25,6 @@ schedules_none own o same = record { upcall = None; inbox = same; held = tt }
 -- where the same waits and is dropped
 pub same_limit : (own : Own) → KeepsLimit own own
 same_limit own = record { limit = λ few. few; room = λ few. refl }
-
-more_fits : (n : ℕ) → nat_lt n PENDING_LIMIT ≡ true → n + 1 ≤ PENDING_LIMIT
-more_fits n h = grind (arith, nat_tests)
-
-is_less : (n m : ℕ) → n < m → nat_lt n m ≡ true
-is_less n m h = grind (arith, nat_tests)
 
 -- at most as many wait as may, and one more is dropped at most
 record Counted (own o : Own) : Type 0 where
@@ -51,13 +45,16 @@ counted upcall own =
         record { limit = record { limit = λ few. few; room = λ few. refl }; dropped = none_more own.inbox.dropped }
     by_test false true room h = record { limit = same_limit own; dropped = none_more own.inbox.dropped }
     by_test false false true h = record {
-      limit = record { limit = λ few. rw length-append (more_fits (length own.inbox.pending) h); room = λ few. refl };
+      limit = record {
+        limit = λ few. rw length-append (omega (arith, ltb-true _ PENDING_LIMIT h));
+        room = λ few. refl;
+      };
       dropped = none_more own.inbox.dropped;
     }
     by_test false false false h = record {
       limit = record {
         limit = λ few. few;
-        room = λ few. absurd (false≢true (sym h ∙ is_less (length own.inbox.pending) PENDING_LIMIT few));
+        room = λ few. absurd (false≢true (sym h ∙ lt-ltb (length own.inbox.pending) PENDING_LIMIT few));
       };
       dropped = record { not_less = omega arith; not_more = omega arith };
     }

@@ -1,16 +1,16 @@
 -- That a process's own stays settled: its bytes end at the kernel break, and its buffers lie below the mark, which is
 -- to say that each may be kept if accessible RAM ended there (`at_mark`). The mark is raised to cover what is handed,
 -- and never falls, so the others lie below it still; drivers leave as many bytes, by the walk over what they do.
-use Rattle.std.proofs.Common.{◌≡◌, ◌≢◌, ◌⊎◌, inl, inr, ◌≤◌, ◌<◌, ℕ, ◌+◌, ◌-◌, ◌==◌, ◌||◌, Bool, true, false, cond, max}
-use Rattle.std.proofs.Common.{length, take, Option, None, Some, refl, sym, ap, ap₂, subst, ◌∙◌, arith, eqb-true, eq-eqb}
+use Rattle.std.proofs.Common.{◌≡◌, inl, inr, ◌≤◌, ◌<◌, ℕ, ◌+◌, ◌-◌, ◌==◌, ◌||◌, Bool, true, false, max}
+use Rattle.std.proofs.Common.{length, take, None, Some, refl, sym, ap, ap₂, subst, ◌∙◌, arith}
 use Rattle.std.specs.Prelude.{IsTrue}
 use Rattle.std.proofs.lemmas.Bool.{false≢true}
 use Rattle.std.proofs.lemmas.Bool.Decides.{nat_tests}
 use Rattle.std.proofs.lemmas.List.{length-take}
 use Rattle.tk_base.specs.declared.kinds.PairKind.{PairKind}
-use Rattle.tk_base.specs.declared.kinds.PairKind.TheVariants.{Upcall, ReadOnly, ReadWrite, Readable}
+use Rattle.tk_base.specs.declared.kinds.PairKind.TheVariants.{Upcall, ReadOnly}
 use Rattle.grant_values.specs.Values.{KeptValue}
-use Rattle.grant_model.specs.Grants.{Grant, entering as entering_grants, grant_of, shape_of, with_pair, with_value}
+use Rattle.grant_model.specs.Grants.{entering as entering_grants, grant_of, shape_of, with_pair, with_value}
 use Rattle.grant_model.proofs.Costs.{same_costs}
 use Rattle.tk_base.specs.Kinds.{count_of, is_buffer}
 use Rattle.tk_base.proofs.Ranks.{same_kind}
@@ -31,6 +31,8 @@ use Rattle.driver_model.proofs.Held.{drivers_keep, handed_order, marked_rest}
 use Rattle.driver_model.proofs.Scheduled.{Serves}
 use Rattle.driver_model.proofs.Services.{of_services}
 use Rattle.driver_model.proofs.Sizes.{lies}
+use Rattle.std.proofs.lemmas.Bool.{cases_eq, cond_both, or_right}
+use Rattle.driver_model.proofs.Held.{of_raised}
 
 -- a layout in which accessible RAM ends at the mark
 abbrev at_mark : Bounds → Bounds
@@ -40,10 +42,8 @@ at_mark e = record e { brk = e.mark }
 or_wider : (none ram flash wide : Bool) → (none ≡ false → ram ≡ true → wide ≡ true) → (none || ram || flash) ≡ true
     → (none || wide || flash) ≡ true
 or_wider true ram flash wide lies_too e = refl
-or_wider false true flash true lies_too e = refl
-or_wider false true flash false lies_too e = absurd (false≢true (lies_too refl refl))
-or_wider false false flash true lies_too e = refl
-or_wider false false flash false lies_too e = e
+or_wider false true flash wide lies_too e = rw (lies_too refl refl)
+or_wider false false flash wide lies_too e = or_right wide flash e
 
 or_wider_ram : (none ram wide : Bool) → (none ≡ false → ram ≡ true → wide ≡ true) → (none || ram) ≡ true
     → (none || wide) ≡ true
@@ -62,9 +62,7 @@ wider Upcall e to pair lies_too may = refl
 wider ReadOnly e to pair lies_too may =
     or_wider (pair.1 == 0) (lies_in_ram e pair.0 pair.1) (lies_within e.flash_start e.flash_end pair.0 pair.1)
     (lies_within e.start to pair.0 pair.1) lies_too may
-wider ReadWrite e to pair lies_too may =
-    or_wider_ram (pair.1 == 0) (lies_in_ram e pair.0 pair.1) (lies_within e.start to pair.0 pair.1) lies_too may
-wider Readable e to pair lies_too may =
+wider kind e to pair lies_too may =
     or_wider_ram (pair.1 == 0) (lies_in_ram e pair.0 pair.1) (lies_within e.start to pair.0 pair.1) lies_too may
 
 within : (from to at size : ℕ) → from ≤ at → at + size ≤ to → lies_within from to at size ≡ true
@@ -76,32 +74,16 @@ lies_further start brk to pair up some is =
 
 -- the mark is raised to the end of a buffer, and never lowered
 raised_covers : (pair : ℕ × ℕ) (e : Bounds) → LiesToo e.start e.brk (raised pair e).mark pair
-raised_covers pair e = by_test (pair.1 == 0) (lies_in_ram e pair.0 pair.1) refl
-  where
-    by_test : (none ram : Bool) → lies_in_ram e pair.0 pair.1 ≡ ram → none ≡ false → ram ≡ true
-        → lies_within e.start (cond none e (cond ram (record e { mark = max e.mark (pair.0 + pair.1) }) e)).mark pair.0
-        pair.1 ≡ true
-    by_test true ram is some there = absurd (false≢true (sym some))
-    by_test false false is some there = absurd (false≢true there)
-    by_test false true is some there =
-        let inside = lies e.start e.brk pair.0 pair.1 is in
-        within e.start (max e.mark (pair.0 + pair.1)) pair.0 pair.1 inside.0 (omega arith)
+raised_covers pair e some is =
+    let inside = lies e.start e.brk pair.0 pair.1 is in
+    rw (some, is) (within e.start (max e.mark (pair.0 + pair.1)) pair.0 pair.1 inside.0 (omega arith))
 
 raised_grows : (pair : ℕ × ℕ) (e : Bounds) → e.mark ≤ (raised pair e).mark
-raised_grows pair e = by_test (pair.1 == 0) (lies_in_ram e pair.0 pair.1)
-  where
-    by_test : (none ram : Bool)
-        → e.mark ≤ (cond none e (cond ram (record e { mark = max e.mark (pair.0 + pair.1) }) e)).mark
-    by_test true ram = omega arith
-    by_test false true = omega arith
-    by_test false false = omega arith
+raised_grows pair e = of_raised (λ f. e.mark ≤ f.mark) pair e (omega arith) (λ is. omega arith)
 
 marked_grows : (kind : PairKind) (pair : ℕ × ℕ) (e : Bounds) → e.mark ≤ (marked kind pair e).mark
-marked_grows kind pair e = by_test (is_buffer kind)
-  where
-    by_test : (b : Bool) → e.mark ≤ (cond b (raised pair e) e).mark
-    by_test true = raised_grows pair e
-    by_test false = omega arith
+marked_grows kind pair e =
+    cond_both (is_buffer kind) _ e (λ (f : Bounds). e.mark ≤ f.mark) (λ b. raised_grows pair e) (λ b. omega arith)
 
 whole_of : (own : Own) → IsSettled own → IsWhole own
 whole_of own h = record {
@@ -122,15 +104,16 @@ abbrev KeepsSize : Own → Own → Type 0
 KeepsSize own o = IsInOrder own → IsWhole own → HasSize o
 
 entering_size : (driver : ℕ) (own : Own) → HasSize own → HasSize (own_entering driver own)
-entering_size driver own size = by_grant (grant_of driver own.grants)
-  where
-    by_grant : (g : Option Grant) → let o = record own { grants = entering_grants driver own.grants g } in
-        length (take (kernel_break_of o - o.layout.start) own.ram) ≡ kernel_break_of o - o.layout.start
-    by_grant None =
-        let o = record own { grants = entering_grants driver own.grants None } in
-        let taken = length-take (kernel_break_of o - own.layout.start) own.ram in omega (arith, taken, size)
-    by_grant (Some g) =
-        let taken = length-take (kernel_break_of own - own.layout.start) own.ram in omega (arith, taken, size)
+entering_size driver own size =
+    elim (grant_of driver own.grants)
+    as (λ g. let o = record own { grants = entering_grants driver own.grants g } in
+    length (take (kernel_break_of o - o.layout.start) own.ram) ≡ kernel_break_of o - o.layout.start) [
+      | None ↦
+          let o = record own { grants = entering_grants driver own.grants None } in
+          let taken = length-take (kernel_break_of o - own.layout.start) own.ram in omega (arith, taken, size)
+      | Some g ↦
+          let taken = length-take (kernel_break_of own - own.layout.start) own.ram in omega (arith, taken, size)
+    ]
 
 -- another value costs as much
 keeping_size : (driver : ℕ) (value : KeptValue) (own : Own) → HasSize own → HasSize (with_kept driver value own)
@@ -163,27 +146,21 @@ keep_size =
 of_handed : (kind : PairKind) (driver number : ℕ) (pair : ℕ × ℕ) (own o : Own) → HandsOne kind driver number pair own o
     → (P : ℕ × ℕ → Type 0) (k : PairKind) (d n : ℕ) → (k ≡ kind → P pair) → P (held k d n own) → P (held k d n o)
 of_handed kind driver number pair own o hands P k d n this before =
-    by_key (same_kind kind k) (d == driver) (n == number) refl refl
-  where
-    by_key : (k ≡ kind) ⊎ (k ≢ kind) → (a b : Bool) → (d == driver) ≡ a → (n == number) ≡ b → P (held k d n o)
-    by_key (inr apart) a b e f = subst P (sym (hands.others k d n (λ same. absurd (apart same)))) before
-    by_key (inl same) false b e f =
-        subst P (sym (hands.others k d n (λ k_is d_is n_is. false≢true (sym e ∙ eq-eqb d driver d_is)))) before
-    by_key (inl same) true false e f =
-        subst P (sym (hands.others k d n (λ k_is d_is n_is. false≢true (sym f ∙ eq-eqb n number n_is)))) before
-    by_key (inl same) true true e f =
-        let d_is = eqb-true d driver e in
-        let n_is = eqb-true n number f in
-        subst P (sym ((λ i. held (same i) (d_is i) (n_is i) o) ∙ hands.this)) (this same)
+    elim (same_kind kind k) [
+      | inr apart ↦ rw (hands.others k d n (λ same. absurd (apart same))) before
+      | inl same ↦ elim (cases_eq d driver) [
+        | inr apart ↦ rw (hands.others k d n (λ k_is d_is. absurd (apart d_is))) before
+        | inl d_is ↦ elim (cases_eq n number) [
+          | inr apart ↦ rw (hands.others k d n (λ k_is d_is n_is. apart n_is)) before
+          | inl n_is ↦ rw (same, d_is, n_is, hands.this) (this same)
+        ]
+      ]
+    ]
 
 -- the pair that was handed lies below the mark afterwards
 keeps_shared : (kind : PairKind) (e : Bounds) (pair : ℕ × ℕ) → may_share kind e pair ≡ true
     → may_keep kind e pair ≡ true
-keeps_shared kind e pair may = by_test (is_buffer kind)
-  where
-    by_test : (b : Bool) → cond b (may_share kind e pair) true ≡ true
-    by_test true = may
-    by_test false = refl
+keeps_shared kind e pair may = cond_both (is_buffer kind) _ true (λ b. b ≡ true) (λ e. may) (λ e. refl)
 
 this_kind : (kind : PairKind) (pair : ℕ × ℕ) (e : Bounds) → may_share kind e pair ≡ true
     → may_keep kind (at_mark (marked kind pair e)) pair ≡ true
@@ -194,17 +171,13 @@ this_kind kind pair e may =
     by_kind : (k : PairKind) → may_keep k e pair ≡ true
         → may_keep k (record e { mark = (marked k pair e).mark; brk = (marked k pair e).mark }) pair ≡ true
     by_kind Upcall may = refl
-    by_kind ReadOnly may = wider ReadOnly e (raised pair e).mark pair (raised_covers pair e) may
-    by_kind ReadWrite may = wider ReadWrite e (raised pair e).mark pair (raised_covers pair e) may
-    by_kind Readable may = wider Readable e (raised pair e).mark pair (raised_covers pair e) may
+    by_kind k may = wider k e (raised pair e).mark pair (raised_covers pair e) may
 
 -- what a pair may be kept by is accessible RAM and flash alone
 alike : (k : PairKind) (e : Bounds) (mark : ℕ) (pair : ℕ × ℕ)
     → may_keep k (record e { mark = mark }) pair ≡ may_keep k e pair
 alike Upcall e mark pair = refl
-alike ReadOnly e mark pair = refl
-alike ReadWrite e mark pair = refl
-alike Readable e mark pair = refl
+alike k e mark pair = refl
 
 -- and so do the others
 other_kind : (kind k : PairKind) (pair other : ℕ × ℕ) (e : Bounds) → may_keep k (at_mark e) other ≡ true

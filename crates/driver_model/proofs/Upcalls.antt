@@ -20,6 +20,7 @@ use Rattle.driver_model.specs.Upcalls.{DriversScheduleHeld, DriversScheduleTheir
 use Rattle.driver_model.proofs.Outcomes.{of_buttons, of_command}
 use Rattle.driver_model.proofs.Scheduled.{schedules_none}
 use Rattle.driver_model.proofs.Services.{if_waits, of_services}
+use Rattle.std.proofs.lemmas.Bool.{cond_both}
 
 pub drivers_schedule_held : DriversScheduleHeld
 drivers_schedule_held =
@@ -42,15 +43,11 @@ fires now own (Some armed) = refl
 OfRandom : Progress → Type 0
 OfRandom p = IsOfDriver random.random p.step.schedules
 
-if_so : (b : Bool) (p q : Progress) → OfRandom p → OfRandom q → OfRandom (cond b p q)
-if_so true p q first second = first
-if_so false p q first second = second
-
 draws : (left : ℕ) (request : RandomRequest) (own : Own) (word : Option ℕ)
     → OfRandom (random.drawing left request own word)
 unfolding OfRandom
 draws left request own None = refl
-draws left request own (Some word) = if_so (nat_le left 4) _ _ refl tt
+draws left request own (Some word) = cond_both (nat_le left 4) _ _ OfRandom (λ last. refl) (λ more. tt)
 
 -- a storage request that is served
 serves : (fault : Bool) (kind : StorageKind) (flash : ℕ → ℕ) (bytes : List ℕ) (request : StorageRequest) (own : Own)
@@ -91,7 +88,8 @@ drivers_schedule_their_own = record {
   drawn = λ word own.
       if_waits (λ (a : RequestAnswered (Option ℕ)). IsOfDriver random.random a.step.schedules) _ _
       (waiting_in randoms own) tt
-      (λ request. if_so (nat_le (random.wanted request own) request.written) _ _ refl (draws _ request own word));
+      (λ request. cond_both (nat_le (random.wanted request own) request.written) _ _ OfRandom (λ enough. refl)
+      (λ more. draws _ request own word));
   stored = λ fault flash bytes own.
       if_waits (λ (a : RequestAnswered (Option (ℕ × List ℕ))). IsOfDriver storage.storage a.step.schedules) _ _
       (waiting_in storages own) tt (λ request. serves fault request.kind flash bytes request own);

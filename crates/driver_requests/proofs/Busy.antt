@@ -1,5 +1,5 @@
 -- A request that is refused since one waits already: its process is as it was.
-use Rattle.std.proofs.Common.{◌≡◌, ℕ, ◌-◌, ◌≤◌, Bool, true, false, cond, List, length, take, refl, ap, sym, Option}
+use Rattle.std.proofs.Common.{◌≡◌, ℕ, ◌-◌, Bool, false, cond, List, take, refl, ap, sym, Option}
 use Rattle.std.proofs.Common.{None, Some, option_and_then, Err, eq-eqb, subst, arith, ◌∙◌}
 use Rattle.std.specs.Option.{option_map}
 use Rattle.std.proofs.lemmas.List.{take_all}
@@ -14,24 +14,18 @@ use Rattle.process_model.specs.Own.{Own, kernel_break_of}
 use Rattle.process_model.specs.Handed.{own_entering}
 use Rattle.process_model.specs.Served.{kept, with_kept}
 use Rattle.driver_model.specs.Requests.{RequestKind, asking, request_in}
-use Rattle.driver_model.specs.Parts.{asking_beside}
-use Rattle.driver_model.specs.Steps.{own_after}
 use Rattle.grant_enter.specs.Homes.{ChangesOnly, Homes, IsInPlace, own_of}
 use Rattle.process_seat.specs.Seen.{Seen}
 use Rattle.process_seat.specs.Visits.{GrantVisit, Visited}
 use Rattle.driver_requests.specs.Asking.{Obeys}
 use Rattle.driver_requests.specs.Begins.{Begins}
-use Rattle.driver_requests.specs.Waiting.{queue_after}
 use Rattle.driver_requests.proofs.Keeping.{kept_still}
-
-no_more : (n : ℕ) (xs : List ℕ) → length xs ≡ n → length xs ≤ n
-no_more n xs e = omega arith
 
 -- a driver that is entered already is entered again without a change
 entered_again : (driver : ℕ) (own : Own) (g : Grant) → IsInPlace own → grant_of driver own.grants ≡ Some g
     → own_entering driver own ≡ own
 entered_again driver own g place is =
-    ap entering_by is ∙ ap (λ xs. record own { ram = xs }) (take_all _ own.ram (no_more _ own.ram place.ram))
+    ap entering_by is ∙ ap (λ xs. record own { ram = xs }) (take_all _ own.ram (omega (arith, place.ram)))
   where
     entering_by : Option Grant → Own
     entering_by found =
@@ -79,10 +73,8 @@ module _ {R T V : Type 0} {visit : GrantVisit T V Bool} {life : ℕ} {flash : Li
   never : request_kind.told (keeps visited.was) ≡ None → IsBusy request_kind old new
   never e =
       let b = subst (λ o. Begins request_kind o request (keeps visited.was) begun (keeps visited.value)) e begins in
-      absurd (no begun b.0 refused)
-    where
-      no : (b : Bool) → b ≡ true → b ≡ false → ⊥
-      no b e f = cc
+      let begins = b.0 in
+      absurd cc
 
   is_there : (g : Grant) → grant_of driver old.grants ≡ Some g → (told : Option R)
       → request_kind.told (keeps visited.was) ≡ told → IsBusy request_kind old new
@@ -102,12 +94,9 @@ module _ {R T V : Type 0} {visit : GrantVisit T V Bool} {life : ℕ} {flash : Li
 
   by_grant : (found : Option Grant) → grant_of driver old.grants ≡ found → IsBusy request_kind old new
   by_grant None none =
-      let fresh_is : keeps visited.was ≡ fresh_value driver = some_same
-      (sym visited.kept ∙ kept_first driver old none) in
+      let both = sym visited.kept ∙ kept_first driver old none in
+      let fresh_is : keeps visited.was ≡ fresh_value driver = cc in
       never (ap request_kind.told (fresh_is ∙ ap (value_or_none fresh_by) by_is) ∙ first)
-    where
-      some_same : {a b : KeptValue} → ◌≡◌ {A = Option KeptValue} (Some a) (Some b) → a ≡ b
-      some_same e = cc
   by_grant (Some g) there = is_there g there _ refl
 
   pub is_busy : IsBusy request_kind old new
@@ -116,11 +105,9 @@ module _ {R T V : Type 0} {visit : GrantVisit T V Bool} {life : ℕ} {flash : Li
 pub obeys_busy : {R : Type 0} (request_kind : RequestKind R) (request : R) (id : ProcessId) (ids : List ProcessId)
     (old new : Homes) → IsBusy request_kind (own_of old id.slot) (own_of new id.slot) → ChangesOnly id.slot old new
     → Obeys request_kind.line id (asking request_kind request) ids old (Err Busy) ids new
-obeys_busy request_kind request id ids old new busy rest =
-    let own = own_of old id.slot in
-    let is = sym busy.waits in record {
-      answer = ap (λ o. (asking_beside request_kind o request own).answer) is;
-      own = busy.same ∙ ap (λ o. own_after (asking_beside request_kind o request own).step) is;
-      waiting = ap (λ o. queue_after request_kind.line id ids (asking_beside request_kind o request own).acts) is;
-      rest = rest;
-    }
+obeys_busy request_kind request id ids old new busy rest = record {
+  answer = rw (busy.waits) refl;
+  own = rw (busy.waits) busy.same;
+  waiting = rw (busy.waits) refl;
+  rest = rest;
+}

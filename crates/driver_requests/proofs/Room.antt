@@ -1,8 +1,9 @@
 -- No more wait than there are slots, since of each slot at most one does.
-use Rattle.std.proofs.Common.{◌≡◌, ℕ, zero, suc, ◌==◌, ◌||◌, ◌<◌, ◌≤◌, Bool, true, false, cond, List, [], ◌∷◌, ◌++◌}
-use Rattle.std.proofs.Common.{length, filter, refl, ap, ◌∙◌, arith}
+use Rattle.std.proofs.Common.{◌≡◌, ℕ, zero, suc, ◌==◌, ◌||◌, ◌<◌, ◌≤◌, Bool, true, false, List, [], ◌∷◌, ◌++◌}
+use Rattle.std.proofs.Common.{length, filter, refl, ap, ◌∙◌, arith, inl, inr}
 use Rattle.std.specs.Cmp.{IsEquivalence}
 use Rattle.std.specs.List.{AllByRecursion, IsDistinct, list_any}
+use Rattle.std.proofs.lemmas.Bool.{cases_Bool, cond_both}
 use Rattle.std.proofs.lemmas.Cmp.{nat_eq_equiv, on_equiv}
 use Rattle.std.proofs.lemmas.Map.Keys.{IsDistinct-push}
 use Rattle.std.proofs.lemmas.Map.Made.{length-le_from_is_member}
@@ -29,12 +30,11 @@ is_below a b h f = grind arith
 is_of_each : (id : ProcessId) (n : ℕ) → id.slot < n → list_any (of_same_slot id) (of_each n) ≡ true
 unfolding of_each
 is_of_each id zero h = absurd (omega arith)
-is_of_each id (suc n) h = by_test (id.slot == n) refl (is_of_each id n)
-  where
-    by_test : (b : Bool) → (id.slot == n) ≡ b → (id.slot < n → list_any (of_same_slot id) (of_each n) ≡ true)
-        → (b || list_any (of_same_slot id) (of_each n)) ≡ true
-    by_test true e later = refl
-    by_test false e later = later (is_below id.slot n h e)
+is_of_each id (suc n) h =
+    elim (cases_Bool (id.slot == n)) [
+      | inl e ↦ rw (e) refl
+      | inr e ↦ rw (e) (is_of_each id n (is_below id.slot n h e))
+    ]
 
 equal_below : (a b : ℕ) → (a == b) ≡ true → b < SLOT_COUNT → a < SLOT_COUNT
 equal_below a b e h = grind arith
@@ -43,12 +43,11 @@ equal_below a b e h = grind arith
 is_slot : (id : ProcessId) (ids : List ProcessId) → AllByRecursion (λ other. other.slot < SLOT_COUNT) ids
     → list_any (of_same_slot id) ids ≡ true → id.slot < SLOT_COUNT
 is_slot id [] all e = absurd cc
-is_slot id (other ∷ ids) all e = by_test (id.slot == other.slot) refl (is_slot id ids all.1)
-  where
-    by_test : (b : Bool) → (id.slot == other.slot) ≡ b → (list_any (of_same_slot id) ids ≡ true → id.slot < SLOT_COUNT)
-        → id.slot < SLOT_COUNT
-    by_test true f later = equal_below id.slot other.slot f all.0
-    by_test false f later = later (or_false _ _ e f)
+is_slot id (other ∷ ids) all e =
+    elim (cases_Bool (id.slot == other.slot)) [
+      | inl f ↦ equal_below id.slot other.slot f all.0
+      | inr f ↦ is_slot id ids all.1 (or_false _ _ e f)
+    ]
 
 pub at_most_one_each : (ids : List ProcessId) → OnceEach ids → length ids ≤ SLOT_COUNT
 unfolding of_each
@@ -64,23 +63,18 @@ all_push P (x ∷ xs) y all p = (all.0, all_push P xs y all.1 p)
 all_filter : {X : Type 0} (P : X → Type 0) (test : X → Bool) (xs : List X) → AllByRecursion P xs
     → AllByRecursion P (filter test xs)
 all_filter P test [] all = tt
-all_filter P test (x ∷ xs) all = by_test (test x) (all_filter P test xs all.1)
-  where
-    by_test : (b : Bool) → AllByRecursion P (filter test xs)
-        → AllByRecursion P (cond b (x ∷ filter test xs) (filter test xs))
-    by_test true rest = (all.0, rest)
-    by_test false rest = rest
+all_filter P test (x ∷ xs) all =
+    let rest = all_filter P test xs all.1 in
+    cond_both (test x) _ _ (AllByRecursion P) (λ e. (all.0, rest)) (λ e. rest)
 
 distinct_filter : {X : Type 0} (equal : X → X → Bool) (test : X → Bool) (xs : List X) → IsDistinct equal xs
     → IsDistinct equal (filter test xs)
 unfolding IsDistinct
 distinct_filter equal test [] apart = tt
-distinct_filter equal test (x ∷ xs) apart = by_test (test x) (distinct_filter equal test xs apart.1)
-  where
-    by_test : (b : Bool) → IsDistinct equal (filter test xs)
-        → IsDistinct equal (cond b (x ∷ filter test xs) (filter test xs))
-    by_test true rest = (all_filter (λ y. equal x y ≡ false) test xs apart.0, rest)
-    by_test false rest = rest
+distinct_filter equal test (x ∷ xs) apart =
+    let rest = distinct_filter equal test xs apart.1 in
+    cond_both (test x) _ _ (IsDistinct equal) (λ e. (all_filter (λ y. equal x y ≡ false) test xs apart.0, rest))
+    (λ e. rest)
 
 flipped : (slot : ℕ) (ids : List ProcessId) → list_any (λ id. slot == id.slot) ids ≡ waits slot ids
 flipped slot [] = refl

@@ -1,16 +1,16 @@
 -- A visit to the request of a process.
 use Rattle.std.proofs.Common.{◌≡◌, ℕ, ◌==◌, Bool, true, false, cond, not, ◌&&◌, Option, None, Some, IfSome}
-use Rattle.std.proofs.Common.{option_and_then, unwrap_or, Result, refl, ap, sym, subst, ◌∙◌}
+use Rattle.std.proofs.Common.{option_and_then, unwrap_or, Result, refl, ap, sym, ◌∙◌}
 use Rattle.grant_values.specs.Values.{KeptValue, NoValue}
 use Rattle.process_model.specs.Own.{Own}
 use Rattle.process_model.specs.Served.{kept, with_kept}
 use Rattle.driver_model.specs.Requests.{RequestKind, request_in, with_request}
-use Rattle.driver_model.specs.Steps.{DriverStep}
 use Rattle.driver_model.proofs.Requesting.{requesting_commutes}
 use Rattle.process_seat.specs.Seen.{Seen}
 use Rattle.process_seat.specs.Visits.{FoundProcess, GrantVisit, Visited, is_stale, seen_by}
 use Rattle.driver_requests.specs.Asking.{waiting_of}
-use Rattle.driver_requests.specs.Visits.{ServesWaiting, VisitsRequest}
+use Rattle.driver_requests.specs.Visits.{RequestVisit, ServesWaiting, VisitsRequest}
+use Rattle.driver_requests.specs.declared.visit.Attended.{Attended}
 use Rattle.driver_requests.proofs.Keeping.{kept_still}
 
 -- what holds of the request that a process keeps holds of the one in the value
@@ -33,13 +33,12 @@ present true true request e = refl
 present true false request e = cc
 present false same request e = cc
 
-module _ {R T A V W : Type 0} {visit : GrantVisit T W (Result A V)} {process : FoundProcess} {answer : Result A V}
-    {new : Own} (request_kind : RequestKind R) (visitor : V) (step : R → Seen → DriverStep)
-    (rest : R → Seen → Option R) (answers : R → Seen → A → Type 0) (v : Visited visit process answer new)
-    (present_is : is_stale process.life process.own ≡ false) (is : visit.grants.driver ≡ request_kind.driver)
+module _ {R T A V W : Type 0} {visit : GrantVisit T W (Result (Attended A) V)} {process : FoundProcess}
+    {answer : Result (Attended A) V} {new : Own} (to : RequestVisit R A V) (v : Visited visit process answer new)
+    (present_is : is_stale process.life process.own ≡ false) (is : visit.grants.driver ≡ to.kind.driver)
     (says : (value value' : T) (seen : Seen) (own : Own) → visit.leaves visit.visitor value seen answer value' own
-    → ServesWaiting request_kind visitor step rest answers seen (request_kind.told (visit.keeps value))
-    (visit.keeps value) answer (visit.keeps value') own) where
+    → ServesWaiting to seen (to.kind.told (visit.keeps value)) (visit.keeps value) answer (visit.keeps value')
+    own) where
   abbrev driver : ℕ
   driver = visit.grants.driver
 
@@ -53,33 +52,29 @@ module _ {R T A V W : Type 0} {visit : GrantVisit T W (Result A V)} {process : F
   seen = seen_by visit.grants process.flash old
 
   -- the value that was kept
-  was : kept request_kind.driver old ≡ Some (keeps v.was)
+  was : kept to.kind.driver old ≡ Some (keeps v.was)
   was = ap (λ d. kept d old) (sym is) ∙ v.kept
 
-  serves : (waiting : Option R)
-      → ServesWaiting request_kind visitor step rest answers seen waiting (keeps v.was) answer (keeps v.value) v.own
-      → VisitsRequest request_kind visitor step rest answers seen waiting answer new
+  serves : (waiting : Option R) → ServesWaiting to seen waiting (keeps v.was) answer (keeps v.value) v.own
+      → VisitsRequest to seen waiting answer new
   serves None s = (
     s.0,
-    v.after ∙ ap (λ k. with_kept driver k v.own) s.1 ∙ ap (with_kept driver (keeps v.was)) s.2
-        ∙ ap (λ gs. record old { grants = gs }) (kept_still driver (keeps v.was) old.grants v.kept),
+    rw (v.after, s.1, s.2) (ap (λ gs. record old { grants = gs }) (kept_still driver (keeps v.was) old.grants v.kept)),
   )
   serves (Some request) s =
-      let kind = request_kind in
-      let still = ap (kept kind.driver) v.serves.rest ∙ was in (
+      let rest = to.rest request seen in
+      let step = to.step request seen in
+      let still = ap (kept to.kind.driver) v.serves.rest ∙ was in (
         s.0,
         s.1,
         v.after ∙ ap (λ k. with_kept driver k v.own) s.2
-            ∙ ap (λ d. with_kept d (kind.with_request (rest request seen) (keeps v.was)) v.own) is
-            ∙ ap (λ k. with_kept kind.driver (kind.with_request (rest request seen) (unwrap_or k NoValue)) v.own)
-            (sym still)
-            ∙ ap (with_request kind (rest request seen)) s.3
-            ∙ requesting_commutes kind (rest request seen) (step request seen).schedules (step request seen).own,
+            ∙ ap (λ d. with_kept d (to.kind.with_request rest (keeps v.was)) v.own) is
+            ∙ ap (λ k. with_kept to.kind.driver (to.kind.with_request rest (unwrap_or k NoValue)) v.own) (sym still)
+            ∙ ap (with_request to.kind rest) s.3
+            ∙ requesting_commutes to.kind rest step.schedules step.own,
       )
 
-  pub visited : VisitsRequest request_kind visitor step rest answers seen (waiting_of request_kind process.life old)
-      answer new
+  pub visited : VisitsRequest to seen (waiting_of to.kind process.life old) answer new
   visited =
-      subst (λ o. VisitsRequest request_kind visitor step rest answers seen o answer new)
-      (sym (present old.lives (old.life == process.life) _ present_is ∙ ap (option_and_then request_kind.told) was))
-      (serves (request_kind.told (keeps v.was)) (says _ _ _ _ v.left))
+      rw (present old.lives (old.life == process.life) (request_in to.kind old) present_is, was)
+      (serves (to.kind.told (keeps v.was)) (says _ _ _ _ v.left))

@@ -8,7 +8,7 @@ use Rattle.board_devices.specs.declared.answer.Kind.TheVariants.{Taken, WriteDon
 use Rattle.driver_model.specs.Steps.{DriverStep, own_after}
 use Rattle.driver_model.specs.Told.{Telling}
 use Rattle.grant_enter.specs.Homes.{Homes, own_of, ChangesOnly}
-use Rattle.driver_requests.specs.declared.serve.Service.{Service}
+use Rattle.driver_requests.specs.declared.service.Service.{Service}
 use Rattle.driver_requests.specs.Waiting.{first_of, waiting_still}
 
 -- what devices tell, as kinds of an answer

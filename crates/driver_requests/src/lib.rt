@@ -9,12 +9,12 @@ mod begin;
 mod kinds;
 mod queue;
 mod request;
-mod serve;
+mod service;
 mod visit;
 mod waiting;
 
 pub use queue::RequestQueue;
 pub use request::Request;
-pub use serve::{Serve, Service};
-pub use visit::{VisitRequest, visit_request};
+pub use service::Service;
+pub use visit::{Attended, VisitRequest, visit_request};
 pub use waiting::Waiting;

@@ -1,14 +1,12 @@
 //! The processes that wait for a device.
-ghost use Rattle.std.specs.Prelude.{◌≡◌, ◌==◌, [], is_some, None, IfSome, OnErr};
-ghost use Rattle.grant_enter.specs.Homes.{own_of};
-ghost use Rattle.driver_requests.specs.Asking.{MayAskAt, MayBeTold, Obeys};
-ghost use Rattle.driver_requests.specs.Answers.{AnswersFirst};
+ghost use Rattle.std.specs.Prelude.{◌≡◌, ◌==◌, [], is_some, None, Some, IfOk, OnErr};
+ghost use Rattle.driver_requests.specs.Asking.{MayAskAt, Obeys};
 ghost use Rattle.driver_model.specs.Requests.{asking};
-ghost use Rattle.driver_requests.specs.Waiting.{first_of, without};
+ghost use Rattle.driver_requests.specs.Waiting.{first_of, waiting_still, without};
 
 use crate::begin::Begin;
 use crate::request::Request;
-use crate::serve::{Serve, Service};
+use crate::service::Service;
 use crate::waiting::{Waiting, WaitingList};
 use board_devices::Answer;
 use grant_enter::{Grant, Home};
@@ -76,6 +74,28 @@ impl<R> RequestQueue<R> {
     {
         self.waiting.remove(slot);
     }
+
+    /// Whom the device serves: the process that waits longest, or that of the one slot which is
+    /// served. [`NotReady`] comes exactly where none waits that is served.
+    pub fn first(&self, only: Option<Slot>) -> Result<ProcessId, NotReady>
+        ensures first { IfOk result (λ id. first_of only self.now ≡ Some id) }
+        ensures none { OnErr result (first_of only self.now ≡ None) }
+    {
+        self.waiting.first(only).ok_or(NotReady)
+    }
+
+    /// The process of an id was served: it waits no more exactly where its request completed. The
+    /// others keep their order. The answer is whom the device served, and what it told it.
+    pub fn answered(&mut self, id: ProcessId, service: Service) -> Answer
+        ensures answer { result ≡ record { to = id; kind = service.kind } }
+        ensures waiting { self.new ≡ waiting_still service.completed id.slot self.old }
+    {
+        let Service { kind, completed } = service;
+        if completed {
+            self.leave(id.slot);
+        }
+        Answer { to: id, kind }
+    }
 }
 
 impl<R: Request + Drop> RequestQueue<R> {
@@ -108,35 +128,6 @@ impl<R: Request + Drop> RequestQueue<R> {
         }
         self.waiting.push(last);
         Ok(Reply::Success)
-    }
-
-    /// Has a capsule's device answer the process that waits longest, or that of the one slot which
-    /// is served; it waits no more exactly where its request completed. Nothing of another slot
-    /// changes. It tells whom it served, and what it told it; [`NotReady`] comes exactly where none
-    /// waits that is served, and then nothing changes.
-    ///
-    /// It asks that the process may be told something, and what the device asks.
-    pub fn answer<C: Serve<R>>(
-        &mut self,
-        home: &mut Home,
-        device: &mut C::Device,
-        only: Option<Slot>,
-    ) -> Result<Answer, NotReady>
-        requires told { IfSome (first_of only self.old) (MayBeTold home.old) }
-        requires asks { IfSome (first_of only self.old)
-            (λ id. C.asks device.old (own_of home.old id.slot)) }
-        ensures none { OnErr result (first_of only self.old ≡ None) }
-        ensures answers { AnswersFirst only (C.answer_to device.old home.old) self.old device.old
-            home.old result self.new device.new home.new }
-    {
-        let Some(id) = self.waiting.first(only) else {
-            return Err(NotReady);
-        };
-        let Service { kind, completed } = C::serve(home, &id, device);
-        if completed {
-            self.leave(id.slot);
-        }
-        Ok(Answer { to: id, kind })
     }
 }
 

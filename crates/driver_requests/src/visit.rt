@@ -44,6 +44,15 @@ pub trait VisitRequest<R: Request> {
         ensures framed { Framed entered.old entered.new };
 }
 
+/// What the visit to a request that waits came to.
+#[derive(Drop)]
+pub struct Attended<A> {
+    /// What the visitor answers.
+    pub answer: A,
+    /// Whether the request completed: none of it waits still.
+    pub completed: bool,
+}
+
 /// Visits the request that a process keeps; where it keeps none, the visitor is handed back.
 #[derive(Drop)]
 struct OfRequest<R, V> {
@@ -55,28 +64,37 @@ impl<R: Request, V: VisitRequest<R> + Drop> Visit<R::Value> for OfRequest<R, V> 
     ghost use Rattle.std.specs.Prelude.{IfSome};
     ghost use Rattle.driver_requests.specs.Visits.{ServesWaiting};
 
-    type Answer = Result<V::Answer, V>;
+    type Answer = Result<Attended<V::Answer>, V>;
 
     ghost asks = { λ of value seen. IfSome (R.request_kind.told (R.Value.kept value))
         (λ request. V.asks of.visitor request seen) };
 
-    ghost leaves = { λ of value seen answer value' own. ServesWaiting R.request_kind of.visitor
-        (V.step of.visitor) (V.rest of.visitor) (V.answers of.visitor) seen
-        (R.request_kind.told (R.Value.kept value)) (R.Value.kept value) answer (R.Value.kept value')
-        own };
+    ghost leaves = { λ of value seen answer value' own. ServesWaiting (record {
+      kind = R.request_kind;
+      visitor = of.visitor;
+      step = V.step of.visitor;
+      rest = V.rest of.visitor;
+      answers = V.answers of.visitor;
+    }) seen (R.request_kind.told (R.Value.kept value)) (R.Value.kept value) answer
+        (R.Value.kept value') own };
 
-    fn run(self, value: &mut R::Value, entered: &mut Entered<'_>) -> Result<V::Answer, V> {
+    fn run(
+        self,
+        value: &mut R::Value,
+        entered: &mut Entered<'_>,
+    ) -> Result<Attended<V::Answer>, V> {
         frames_join();
         let OfRequest { visitor, .. } = self;
         let Some(request) = R::waiting_in(value) else {
             return Err(visitor);
         };
         let (answer, rest) = visitor.run(&request, entered);
+        let completed = rest.is_none();
         match rest {
             Some(rest) => rest.wait_in(value),
             None => R::take_out(value),
         }
-        Ok(answer)
+        Ok(Attended { answer, completed })
     }
 }
 
@@ -96,14 +114,19 @@ pub fn visit_request<
     home: &mut Home,
     id: ProcessId,
     visitor: V,
-) -> Result<V::Answer, V>
+) -> Result<Attended<V::Answer>, V>
     requires driver { grants.now.driver ≡ R.request_kind.driver }
     requires asks { let own = own_of home.old id.slot in
         (request : R) → request_in R.request_kind own ≡ Some request
         → V.asks visitor request (seen_by grants.now home.old.flash own) }
     ensures visits { let own = own_of home.old id.slot in
-        VisitsRequest R.request_kind visitor (V.step visitor) (V.rest visitor) (V.answers visitor)
-        (seen_by grants.now home.old.flash own) (waiting_of R.request_kind id.life own) result
+        VisitsRequest (record {
+          kind = R.request_kind;
+          visitor = visitor;
+          step = V.step visitor;
+          rest = V.rest visitor;
+          answers = V.answers visitor;
+        }) (seen_by grants.now home.old.flash own) (waiting_of R.request_kind id.life own) result
         (own_of home.new id.slot) }
     ensures rest { ChangesOnly id.slot home.old home.new }
 {

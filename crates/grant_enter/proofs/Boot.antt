@@ -19,7 +19,7 @@ use Rattle.grant_enter.specs.declared.home.Home.TheInside.{Inside}
 use Rattle.process_seat.specs.Places.{FitsMemory}
 use Rattle.grant_enter.specs.Homes.{CanMoveIn, EndsBefore, FootprintBefore, nobody}
 use Rattle.tk_base.specs.declared.limits.TheConstants.{FLASH_LIMIT}
-use Rattle.grant_enter.specs.Housed.{AreSettled, IsHome, layouts_of, owns_seated, homes_of}
+use Rattle.grant_enter.specs.Housed.{IsHome, layouts_of, owns_seated, homes_of}
 use Rattle.process_seat.specs.Seats.{IsKept, IsSeated, first_seat, own_in, TellsPermissions}
 use Rattle.process_seat.proofs.Windows.{zeros, length_zeros, zero_window}
 use Rattle.process_seat.proofs.Restarted.{no_bytes, none_back, none_kept}
@@ -53,11 +53,8 @@ module _ (law : IsReadBack) (flash : List ℕ) (ram : ℕ) (fs : List Footprint)
   each_settled : All (FitsMemory (length flash) ram) (map (λ (f : Footprint). f.layout) fs)
   each_settled i d b =
       let within : i < length fs = omega (arith, length-map fs (λ (f : Footprint). f.layout)) in
-      let e : Footprint = get_or fs i (record { object = nobody.object; layout = d }) in
-      subst (FitsMemory (length flash) ram)
-      (sym (get_or-map (λ (f : Footprint). f.layout) fs i
-      (record { object = nobody.object; layout = d }) d within))
-      (settled i (record { object = nobody.object; layout = d }) within).settled
+      let e : Footprint = record { object = nobody.object; layout = d } in
+      rw (get_or-map (λ (f : Footprint). f.layout) fs i e d within) (settled i e within).settled
 
   seat_kept : (f : Footprint) → CanMoveIn (length flash) ram f
       → IsSeated (length flash) (zeros ram) (first_seat flash f)
@@ -73,8 +70,7 @@ module _ (law : IsReadBack) (flash : List ℕ) (ram : ℕ) (fs : List Footprint)
   each_seated xs all i d b =
       let f : Footprint = record { object = d.object; layout = d.layout } in
       let within : i < length xs = omega (arith, length-map xs (first_seat flash)) in
-      subst (IsSeated (length flash) (zeros ram)) (sym (get_or-map (first_seat flash) xs i f d within))
-      (seat_kept (get_or xs i f) (all i f within))
+      rw (get_or-map (first_seat flash) xs i f d within) (seat_kept (get_or xs i f) (all i f within))
 
   each_tells : (xs : List Footprint) → All (TellsPermissions flash) (map (first_seat flash) xs)
   each_tells xs i d b =
@@ -90,8 +86,7 @@ module _ (law : IsReadBack) (flash : List ℕ) (ram : ℕ) (fs : List Footprint)
       get_or-map (λ (f : Footprint). f.layout) fs i f d (omega arith) in
       let second : get_or (map (λ (f : Footprint). f.layout) fs) j d ≡ (get_or fs j f).layout =
       get_or-map (λ (f : Footprint). f.layout) fs j f d long in
-      subst (λ (e : LayoutView). EndsBefore (get_or (map (λ (f : Footprint). f.layout) fs) i d) e) (sym second)
-      (subst (λ (e : LayoutView). EndsBefore e (get_or fs j f).layout) (sym first) (apart i j f l long))
+      rw (first, second) (apart i j f l long)
 
   pub home_booted : length flash ≤ FLASH_LIMIT → AllPairs FootprintBefore fs → IsHome h
   home_booted short apart =
@@ -101,14 +96,9 @@ module _ (law : IsReadBack) (flash : List ℕ) (ram : ℕ) (fs : List Footprint)
       let ram_is : length h.memory.ram ≡ ram = ap (λ (m : MemoryBytes). length m.ram) memory ∙ length_zeros ram in
       record {
         short = omega (arith, short, flash_is);
-        settled = subst (AreSettled (length h.memory.flash) (length h.memory.ram)) (sym layouts)
-            (subst (λ (n : ℕ). AreSettled n (length h.memory.ram) (map (λ (f : Footprint). f.layout) fs)) (sym flash_is)
-            (subst (λ (n : ℕ). AreSettled (length flash) n (map (λ (f : Footprint). f.layout) fs)) (sym ram_is)
-            (record { each = each_settled; apart = pairs_apart apart })));
-        seated = subst (λ (m : MemoryBytes). All (IsSeated (length m.flash) m.ram) h.seats.items) (sym memory)
-            (subst (All (IsSeated (length flash) (zeros ram))) (sym seats) (each_seated fs settled));
-        permissions = subst (λ (m : MemoryBytes). All (TellsPermissions m.flash) h.seats.items) (sym memory)
-            (subst (All (TellsPermissions flash)) (sym seats) (each_tells fs));
+        settled = rw (layouts, flash_is, ram_is) (record { each = each_settled; apart = pairs_apart apart });
+        seated = rw (memory, seats) (each_seated fs settled);
+        permissions = rw (memory, seats) (each_tells fs);
       }
 
   own_opened : (f : Footprint) → CanMoveIn (length flash) ram f → own_in (zeros ram) (first_seat flash f) ≡ opened f

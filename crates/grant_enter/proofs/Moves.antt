@@ -1,24 +1,23 @@
 -- What a change of one seat, or of the RAM in its block, makes of what contracts see: the list of owns with one place
 -- set. Blocks lie apart, so RAM that is the same outside of one block has the same windows for every other slot
 -- (`Reseats`); the home is a home again, and a relation of the own holds of what contracts see.
-use Rattle.std.proofs.Common.{◌≡◌, ◌≢◌, ℕ, ◌+◌, ◌-◌, ◌^◌, ◌<◌, ◌≤◌, ◌⊎◌, inl, inr, true}
+use Rattle.std.proofs.Common.{◌≡◌, ◌≢◌, ℕ, ◌+◌, ◌-◌, ◌^◌, ◌<◌, ◌≤◌, ◌⊎◌, inl, inr, true, rules}
 use Rattle.std.proofs.Common.{not, slice_get, List, [], length, get_or, refl, sym, ap, ap₂, subst, ◌∙◌, arith}
-use Rattle.std.specs.Prelude.{nat_lt, slice_index_or, slice_set, All}
+use Rattle.std.specs.Prelude.{nat_lt, slice_index_or, slice_set}
 use Rattle.std.specs.Vec.{with_item}
 use Rattle.std.proofs.lemmas.Bool.Decides.{nat_tests}
 use Rattle.std.proofs.lemmas.List.{get_or-set_same, length-map, set-get_or}
 use Rattle.tk_base.specs.declared.access.TheConstants.{RAM_START}
-use Rattle.process_layout.specs.LayoutView.{LayoutView}
 use Rattle.process_layout.specs.Bounds.{bounds_of, layout_within}
 use Rattle.process_layout.specs.Ordered.{IsOrdered}
-use Rattle.board_memory.specs.Memory.{MemoryBytes}
+use Rattle.board_memory.specs.Memory.{MemoryBytes, ram_between}
 use Rattle.process_model.specs.Own.{Own, layout_of}
 use Rattle.process_seat.specs.declared.seat.Seat.{Seat}
 use Rattle.grant_enter.specs.declared.home.Home.TheInside.{Inside}
 use Rattle.grant_enter.specs.Homes.{Homes, ChangesOnly, is_life, nobody, own_of, with_own}
-use Rattle.process_seat.specs.Places.{FitsMemory, has_permissions}
+use Rattle.process_seat.specs.Places.{has_permissions}
 use Rattle.grant_enter.specs.Housed.{AreSettled, IsHome, layouts_of, owns_seated, homes_of}
-use Rattle.process_seat.specs.Seats.{IsSeated, IsKept, Reseats, SitsIn, first_seat, TellsPermissions, owned, app_in}
+use Rattle.process_seat.specs.Seats.{IsSeated, IsKept, Reseats, SitsIn, first_seat, TellsPermissions, owned}
 use Rattle.process_seat.specs.Seats.{kernel_in, own_in}
 use Rattle.process_seat.specs.Visits.{FoundProcess, found_in}
 use Rattle.process_seat.proofs.Alive.{lives_so}
@@ -62,13 +61,8 @@ reads_seat h old slot home shown there =
 pub reads_there : (h : Inside) (old : Homes) (slot index life : ℕ) (seat : Seat) → IsHome h → homes_of h ≡ old
     → is_life life (slice_get old.owns slot) ≡ true → index ≡ slot → seat ≡ slice_index_or h.seats.items index seat
     → Reads h old slot index seat
-reads_there h old slot index life seat home shown present is read = record {
-  home = home;
-  shown = shown;
-  there = placed_there old.owns slot life present;
-  is = is;
-  read = read;
-}
+reads_there h old slot index life seat home shown present is read =
+    let there : slot < length old.owns = placed_there old.owns slot life present in search rules
 
 -- a home in which memory, and the seat at a place, are others
 abbrev pub with_seat : Inside → MemoryBytes → ℕ → Seat → Inside
@@ -93,9 +87,9 @@ module _ {h : Inside} {old : Homes} {slot index : ℕ} {seat : Seat} (r : Reads 
       let here : get_or h.seats.items slot seat ≡ seat =
       read_at h.seats.items slot index seat seat r.is r.read within in
       record {
-        settled = subst (λ (s : Seat). FitsMemory (length h.memory.flash) (length h.memory.ram) s.layout) here
+        settled = rw here at
             (settled_at (length h.memory.flash) (length h.memory.ram) h.seats.items slot seat r.home.settled within);
-        seated = subst (IsSeated (length h.memory.flash) h.memory.ram) here (r.home.seated slot seat within);
+        seated = rw here at (r.home.seated slot seat within);
       }
 
   -- a process that is there lives in its seat, in that life
@@ -116,8 +110,7 @@ module _ {h : Inside} {old : Homes} {slot index : ℕ} {seat : Seat} (r : Reads 
   object_ends =
       let lies : seat.object.address + seat.object.size ≤ 536870912 + length h.memory.flash =
       sits_before.seated.object.to in
-      subst (λ (o : Own). o.object.address + o.object.size < 2 ^ 32) (sym own_before)
-      (omega (arith, lies, r.home.short))
+      rw own_before (omega (arith, lies, r.home.short))
 
   -- the seat tells of the permissions of its object in flash
   pub told : TellsPermissions h.memory.flash seat
@@ -129,17 +122,6 @@ module _ {h : Inside} {old : Homes} {slot index : ℕ} {seat : Seat} (r : Reads 
   told_permissions =
       told ∙ ap₂ has_permissions (ap (λ (x : Homes). x.flash) r.shown) (sym (ap (λ (o : Own). o.object) own_before))
 
-  first_side : (e : LayoutView) → (e.end ≤ seat.layout.start) ⊎ (seat.layout.end ≤ e.start) → IsOrdered e
-      → (e.kernel_break - RAM_START ≤ seat.layout.start - RAM_START)
-      ⊎ (seat.layout.end - RAM_START ≤ e.start - RAM_START)
-  first_side e (inl l) o = inl (omega (arith, o.end, l))
-  first_side e (inr l) o = inr (omega (arith, l))
-
-  second_side : (e : LayoutView) → (e.end ≤ seat.layout.start) ⊎ (seat.layout.end ≤ e.start) → IsOrdered e
-      → (e.end - RAM_START ≤ seat.layout.start - RAM_START) ⊎ (seat.layout.end - RAM_START ≤ e.kernel_break - RAM_START)
-  second_side e (inl l) o = inl (omega (arith, l))
-  second_side e (inr l) o = inr (omega (arith, l, o.block, o.grants))
-
   -- a seat and the RAM in its block change: all else has its place, and is what it was
   module _ (m : MemoryBytes) (new : Seat) (changed : Reseats h.memory seat m new) where
     sides : (k : ℕ) (d : Seat) → k < length h.seats.items → k ≢ slot
@@ -147,33 +129,36 @@ module _ {h : Inside} {old : Homes} {slot index : ℕ} {seat : Seat} (r : Reads 
         ⊎ (seat.layout.end ≤ (get_or h.seats.items k d).layout.start)
     sides k d there ne =
         let here : get_or h.seats.items slot d ≡ seat = read_at h.seats.items slot index seat d r.is r.read within in
-        subst (λ (x : Seat). ((get_or h.seats.items k d).layout.end ≤ x.layout.start)
-        ⊎ (x.layout.end ≤ (get_or h.seats.items k d).layout.start)) here
-        (apart_at (length h.memory.flash) (length h.memory.ram) h.seats.items slot k d r.home.settled within there
-        ne)
+        rw here at (apart_at (length h.memory.flash) (length h.memory.ram) h.seats.items slot k d r.home.settled
+        within there ne)
 
-    app_same : (k : ℕ) (d : Seat) → k < length h.seats.items → k ≢ slot
-        → app_in m.ram (get_or h.seats.items k d).layout ≡ app_in h.memory.ram (get_or h.seats.items k d).layout
-    app_same k d there ne =
-        let e = (get_or h.seats.items k d).layout in
-        let s = settled_at (length h.memory.flash) (length h.memory.ram) h.seats.items k d r.home.settled there in
+    -- RAM as it was outside of the slot's block leaves each other slot's block as it was
+    block_same : (k : ℕ) (d : Seat) (a b : ℕ) → k < length h.seats.items → k ≢ slot
+        → (get_or h.seats.items k d).layout.start ≤ a → b ≤ (get_or h.seats.items k d).layout.end
+        → ram_between m.ram a b ≡ ram_between h.memory.ram a b
+    block_same k d a b there ne low high =
         windows_same h.memory.ram m.ram (seat.layout.start - RAM_START) (seat.layout.end - RAM_START)
-        (e.start - RAM_START) (e.kernel_break - RAM_START) changed.elsewhere
-        (first_side e (sides k d there ne) s.ordered)
+        (a - RAM_START) (b - RAM_START) changed.elsewhere
+        (elim (sides k d there ne) [ inl l ↦ inl (omega arith) | inr l ↦ inr (omega arith) ])
+
+    order : (k : ℕ) (d : Seat) → k < length h.seats.items → IsOrdered (get_or h.seats.items k d).layout
+    order k d there =
+        (settled_at (length h.memory.flash) (length h.memory.ram) h.seats.items k d r.home.settled there).ordered
 
     kernel_same : (k : ℕ) (d : Seat) → k < length h.seats.items → k ≢ slot
         → kernel_in m.ram (get_or h.seats.items k d).layout ≡ kernel_in h.memory.ram (get_or h.seats.items k d).layout
     kernel_same k d there ne =
         let e = (get_or h.seats.items k d).layout in
-        let s = settled_at (length h.memory.flash) (length h.memory.ram) h.seats.items k d r.home.settled there in
-        windows_same h.memory.ram m.ram (seat.layout.start - RAM_START) (seat.layout.end - RAM_START)
-        (e.kernel_break - RAM_START) (e.end - RAM_START) changed.elsewhere
-        (second_side e (sides k d there ne) s.ordered)
+        let o = order k d there in
+        block_same k d e.kernel_break e.end there ne (omega (arith, o.block, o.grants)) (omega arith)
 
-    -- RAM as it was outside of the slot's block leaves each other slot as it was
+    -- and so what is its own
     others : (k : ℕ) (d : Seat) → k < length h.seats.items → k ≢ slot
         → own_in m.ram (get_or h.seats.items k d) ≡ own_in h.memory.ram (get_or h.seats.items k d)
-    others k d there ne = ap₂ (owned (get_or h.seats.items k d)) (app_same k d there ne) (kernel_same k d there ne)
+    others k d there ne =
+        let e = (get_or h.seats.items k d).layout in
+        ap₂ (owned (get_or h.seats.items k d))
+        (block_same k d e.start e.kernel_break there ne (omega arith) (order k d there).end) (kernel_same k d there ne)
 
     others_seated : (k : ℕ) (d : Seat) → k < length h.seats.items → k ≢ slot
         → IsSeated (length h.memory.flash) h.memory.ram (get_or h.seats.items k d)
@@ -188,10 +173,7 @@ module _ {h : Inside} {old : Homes} {slot index : ℕ} {seat : Seat} (r : Reads 
     still_tells = changed.permissions ∙ told ∙ ap₂ has_permissions (sym changed.flash) (sym changed.object)
 
     still_settled : AreSettled (length m.flash) (length m.ram) (layouts_of h.seats.items)
-    still_settled =
-        subst (λ (n : ℕ). AreSettled n (length m.ram) (layouts_of h.seats.items)) (sym (ap length changed.flash))
-        (subst (λ (n : ℕ). AreSettled (length h.memory.flash) n (layouts_of h.seats.items)) (sym changed.elsewhere.long)
-        r.home.settled)
+    still_settled = rw (changed.flash, changed.elsewhere.long) r.home.settled
 
     pub reseated : IsHome (with_seat h m index new)
     reseated = record {
@@ -199,13 +181,10 @@ module _ {h : Inside} {old : Homes} {slot index : ℕ} {seat : Seat} (r : Reads 
       settled = layouts_set (length m.flash) (length m.ram) h.seats.items slot index seat new still_settled r.is r.read
           within changed.sits.settled changed.start changed.end;
       seated = all_changed (IsSeated (length h.memory.flash) h.memory.ram) (IsSeated (length m.flash) m.ram)
-          h.seats.items index new (λ k d there ne s.
-          subst (λ (n : ℕ). IsSeated n m.ram (get_or h.seats.items k d)) (sym (ap length changed.flash))
+          h.seats.items index new (λ k d there ne s. rw changed.flash
           (others_seated k d there (λ e. ne (e ∙ sym r.is)) s)) changed.sits.seated r.home.seated;
       permissions = all_changed (TellsPermissions h.memory.flash) (TellsPermissions m.flash) h.seats.items index new
-          (λ k d there ne s.
-          subst (λ (flash : List ℕ). TellsPermissions flash (get_or h.seats.items k d)) (sym changed.flash) s)
-          still_tells r.home.permissions;
+          (λ k d there ne s. rw changed.flash s) still_tells r.home.permissions;
     }
 
     reshown : (own : Own) → own_in m.ram new ≡ own → homes_of (with_seat h m index new) ≡ with_own old slot own
@@ -228,11 +207,7 @@ module _ {h : Inside} {old : Homes} {slot index : ℕ} {seat : Seat} (r : Reads 
     pub reseated_shows : (P : List ℕ → Own → Own → Type 0)
         → P h.memory.flash (own_in h.memory.ram seat) (own_in m.ram new)
         → P old.flash (own_of old slot) (own_of (homes_of (with_seat h m index new)) slot)
-    reseated_shows P made =
-        subst (λ (o : Own). P old.flash (own_of old slot) o) (sym own_after)
-        (subst (λ (o : Own). P old.flash o (own_in m.ram new)) (sym own_before)
-        (subst (λ (f : List ℕ). P f (own_in h.memory.ram seat) (own_in m.ram new)) (ap (λ (x : Homes). x.flash) r.shown)
-        made))
+    reseated_shows P made = rw (own_after, own_before, ← ap (λ (x : Homes). x.flash) r.shown) made
 
     -- so it does of the process as a driver finds it
     pub reseated_found : (P : FoundProcess → Own → Type 0) (life : ℕ) → seat.life ≡ life
@@ -260,19 +235,15 @@ module _ {h : Inside} {old : Homes} {slot index : ℕ} {seat : Seat} (r : Reads 
         let i = reseated m seat changed in
         record {
           short = i.short;
-          settled = subst (λ (xs : List Seat). AreSettled (length m.flash) (length m.ram) (layouts_of xs)) same_items
-              i.settled;
-          seated = subst (λ (xs : List Seat). All (IsSeated (length m.flash) m.ram) xs) same_items i.seated;
-          permissions = subst (λ (xs : List Seat). All (TellsPermissions m.flash) xs) same_items i.permissions;
+          settled = rw same_items at i.settled;
+          seated = rw same_items at i.seated;
+          permissions = rw same_items at i.permissions;
         }
 
     pub still_only : ChangesOnly slot old (homes_of (record { memory = m; seats = h.seats }))
-    still_only = subst (λ (xs : List Seat). ChangesOnly slot old
-        (record { flash = m.flash; owns = owns_seated m.ram xs })) same_items (reseated_only m seat changed)
+    still_only = rw same_items at (reseated_only m seat changed)
 
     pub still_shows : (P : List ℕ → Own → Own → Type 0)
         → P h.memory.flash (own_in h.memory.ram seat) (own_in m.ram seat)
         → P old.flash (own_of old slot) (own_of (homes_of (record { memory = m; seats = h.seats })) slot)
-    still_shows P made =
-        subst (λ (xs : List Seat). P old.flash (own_of old slot) (slice_index_or (owns_seated m.ram xs) slot nobody))
-        same_items (reseated_shows m seat changed P made)
+    still_shows P made = rw same_items at (reseated_shows m seat changed P made)

@@ -12,7 +12,6 @@ use Rattle.pmp_regions.specs.Check.{denied_by_registers}
 use Rattle.board_memory.specs.Memory.{MemoryBytes}
 use Rattle.board_memory.specs.Bytes.{memory_byte_at}
 use Rattle.board_memory.specs.Registers.{Protect}
-use Rattle.process_model.specs.Own.{Own}
 use Rattle.process_model.specs.Instruction.{Sees, instruction_of, ram_after, with_write}
 use Rattle.grant_enter.specs.declared.home.Home.TheInside.{Inside}
 use Rattle.process_seat.specs.declared.seat.Seat.{Seat}
@@ -68,9 +67,8 @@ module _ (laws : InstructionLaws) (pmp : List Entry) (s : Seat) (p : Protect pmp
     none regs later left n g =
         let same : left ≡ m.ram = laws.tells m.flash m.flash m.ram left n g.1 in
         record {
-          reseats = subst (λ (ram : List ℕ). Reseats m s (record m { ram = ram }) s) (sym same)
-              (same_memory m s s refl refl refl refl t);
-          made = (ap (λ (ram : List ℕ). own_in ram s) same, g.0);
+          reseats = rw same (same_memory m s s refl refl refl refl t);
+          made = (rw same, g.0);
         }
 
     -- one and then others
@@ -91,8 +89,7 @@ module _ (laws : InstructionLaws) (pmp : List Entry) (s : Seat) (p : Protect pmp
                 let same = its_own seen regs looks in (
                   ap (λ (x : UserTurn). x.end) (sym same) ∙ goes,
                   subst (λ (x : UserTurn). MakesAll k m.flash (with_write (own_in m.ram s) x) x.regs (own_in left s)
-                      later) same
-                      (subst (λ (o : Own). MakesAll k m.flash o turn.regs (own_in left s) later) by.own rest.made),
+                      later) same (rw by.own at rest.made),
                 ),
           );
         }
@@ -113,8 +110,7 @@ module _ (laws : InstructionLaws) (pmp : List Entry) (s : Seat) (p : Protect pmp
   leads zero m regs later left t n g = none m t regs later left n g
   leads (suc k) m regs later left t n g = one_more m t k regs later left (first_of m.flash k regs later m.ram left g).0
       (leads k (record m { ram = then }) turn.regs later left by.reseats.sits (n ∙ sym by.reseats.elsewhere.long)
-      (subst (λ (b : ℕ → ℕ). Goes (denied_by_registers pmp) k turn.regs b later (memory_byte_at m.flash left))
-      (sym (seen_after m t regs)) (first_of m.flash k regs later m.ram left g).1))
+      (rw (seen_after m t regs) (first_of m.flash k regs later m.ram left g).1))
     where
       turn : UserTurn
       turn = turn_under pmp m.flash m.ram regs
@@ -134,7 +130,7 @@ module _ {h : Inside} {old : Homes} {slot index : ℕ} {s : Seat} (r : Reads h o
   led = leads laws pmp s (protects r pmp p) k h.memory regs later m.ram (sits_before r) long g
 
   pub changed : Reseats h.memory s m s
-  changed = subst (λ (x : MemoryBytes). Reseats h.memory s x s) (sym is) led.reseats
+  changed = rw is led.reseats
 
   pub all_made : MakesAll k old.flash (own_of old slot) regs
       (own_of (homes_of (record { memory = m; seats = h.seats })) slot) later

@@ -2,6 +2,7 @@
 use Rattle.std.proofs.Common.{◌≡◌, ◌≢◌, ℕ, zero, suc, ◌<◌, ◌≤◌, ◌⊎◌, inl, inr, List, [], ◌∷◌, length, map, get_or, refl}
 use Rattle.std.proofs.Common.{sym, ap, ap₂, subst, ◌∙◌, arith}
 use Rattle.std.specs.Prelude.{slice_index_or, slice_set, All}
+use Rattle.std.proofs.lemmas.Bool.{cases_lt}
 use Rattle.std.proofs.lemmas.List.{get_or-map, map-set, length-map, length-set}
 use Rattle.std.proofs.lemmas.List.Elements.{All-set}
 use Rattle.process_layout.specs.LayoutView.{LayoutView}
@@ -59,21 +60,9 @@ pub apart_at : (flash ram : ℕ) (seats : List Seat) (i k : ℕ) (d : Seat) → 
     → i < length seats → k < length seats → k ≢ i
     → ((get_or seats k d).layout.end ≤ (get_or seats i d).layout.start)
     ⊎ ((get_or seats i d).layout.end ≤ (get_or seats k d).layout.start)
-apart_at flash ram seats i k d settled h g ne = by_order (order k i ne)
+apart_at flash ram seats i k d settled h g ne =
+    elim (cases_lt k i) [ inl l ↦ inl (before k i l g h) | inr l ↦ inr (before i k (omega arith) h g) ]
   where
-    order : (a b : ℕ) → a ≢ b → (a < b) ⊎ (b < a)
-    order zero zero ne = absurd (ne refl)
-    order zero (suc b) ne = inl (omega arith)
-    order (suc a) zero ne = inr (omega arith)
-    order (suc a) (suc b) ne = later (order a b (λ e. ne (ap suc e)))
-      where
-        later : (a < b) ⊎ (b < a) → (suc a < suc b) ⊎ (suc b < suc a)
-        later (inl l) = inl (omega arith)
-        later (inr l) = inr (omega arith)
-
-    layout : Seat → LayoutView
-    layout s = s.layout
-
     before : (a b : ℕ) → a < b → a < length seats → b < length seats
         → (get_or seats a d).layout.end ≤ (get_or seats b d).layout.start
     before a b l p q =
@@ -83,14 +72,7 @@ apart_at flash ram seats i k d settled h g ne = by_order (order k i ne)
         get_or-map (λ (s : Seat). s.layout) seats a d d.layout p in
         let second : get_or (layouts_of seats) b d.layout ≡ (get_or seats b d).layout =
         get_or-map (λ (s : Seat). s.layout) seats b d d.layout q in
-        subst (λ (e : LayoutView). EndsBefore (get_or seats a d).layout e) second
-        (subst (λ (e : LayoutView). EndsBefore e (get_or (layouts_of seats) b d.layout)) first pair)
-
-    by_order : (k < i) ⊎ (i < k)
-        → ((get_or seats k d).layout.end ≤ (get_or seats i d).layout.start)
-        ⊎ ((get_or seats i d).layout.end ≤ (get_or seats k d).layout.start)
-    by_order (inl l) = inl (before k i l g h)
-    by_order (inr l) = inr (before i k l h g)
+        rw (first, second) at pair
 
 same_field : (f : LayoutView → ℕ) (xs : List LayoutView) (s : ℕ) (y d : LayoutView) (i : ℕ) (e : LayoutView)
     → s < length xs → f y ≡ f (get_or xs s d) → f (get_or (slice_set xs s y) i e) ≡ f (get_or xs i e)

@@ -46,11 +46,7 @@ sum-apart (size ∷ sizes) (suc i) (suc j) less =
 pub place-within : (kind : PairKind) (n : ℕ) (counts : Counts) → n < count_of kind counts
     → pair_place kind n counts < pair_count counts
 place-within kind n counts small =
-    within (pairs_before kind counts) (count_of kind counts) (pair_count counts) n
-    (sum-within (pair_counts counts) (rank_of kind)) small
-  where
-    within : (before count all n : ℕ) → before + count ≤ all → n < count → before + n < all
-    within before count all n h small = omega arith
+    omega (arith, sum-within (pair_counts counts) (rank_of kind), small)
 
 -- a place in a window is one in the whole
 pub get-window : (xs : List (ℕ × ℕ)) (before count n : ℕ) → n < count
@@ -81,11 +77,7 @@ count-window kind g has =
     let counts = shape_of g.driver in
     let before = pairs_before kind counts in
     length-take-le (count_of kind counts) (drop before g.pairs)
-    (room before (count_of kind counts) (pair_count counts) (length g.pairs) (length (drop before g.pairs))
-    (sum-within (pair_counts counts) (rank_of kind)) has (length-drop before g.pairs))
-  where
-    room : (before count all n rest : ℕ) → before + count ≤ all → n ≡ all → rest ≡ n - before → count ≤ rest
-    room before count all n rest h e f = omega arith
+    (omega (arith, sum-within (pair_counts counts) (rank_of kind), has, length-drop before g.pairs))
 
 this-window : (kind : PairKind) (n : ℕ) (pair : ℕ × ℕ) (g : Grant) → HasPairs g → n < count_of kind (shape_of g.driver)
     → pair_of kind n (Some (with_pair kind n pair g)) ≡ pair
@@ -102,40 +94,25 @@ others-window kind other n m pair g small apart = by_rank (cases_lt (rank_of kin
     counts : Counts
     counts = shape_of g.driver
 
-    window : List (ℕ × ℕ) → List (ℕ × ℕ)
-    window xs = take (count_of other counts) (drop (pairs_before other counts) xs)
-
     at : List (ℕ × ℕ) → ℕ × ℕ
     at ps = get_or ps m (0, 0)
 
-    under : (before count past n : ℕ) → before + count ≤ past → n < count → before + n < past
-    under before count past n h small = omega arith
-
-    over : (before count past n : ℕ) → before + count ≤ past → before + count ≤ past + n
-    over before count past n h = omega arith
-
-    alike : (k : PairKind) → k ≡ kind → m ≢ n → pair_of k m (Some (with_pair kind n pair g)) ≡ pair_of k m (Some g)
-    alike k same differs =
-        subst (λ k. pair_of k m (Some (with_pair kind n pair g)) ≡ pair_of k m (Some g)) (sym same)
-        (ap at (set-window g.pairs (pairs_before kind counts) (count_of kind counts) n pair small)
-        ∙ get_or-set_other (pairs_of kind g) n m pair (0, 0) differs)
+    alike : other ≡ kind → m ≢ n → pair_of other m (Some (with_pair kind n pair g)) ≡ pair_of other m (Some g)
+    alike same differs = rw same (ap at (set-window g.pairs (pairs_before kind counts) (count_of kind counts) n pair
+        small) ∙ get_or-set_other (pairs_of kind g) n m pair (0, 0) differs)
 
     by_order : (rank_of other < rank_of kind) ⊎ (rank_of kind ≤ rank_of other) → rank_of other ≤ rank_of kind
         → pair_of other m (Some (with_pair kind n pair g)) ≡ pair_of other m (Some g)
     by_order (inl less) most =
         ap at (set-window-past g.pairs (pairs_before other counts) (count_of other counts) (pair_place kind n counts)
-        pair
-        (over (pairs_before other counts) (count_of other counts) (pairs_before kind counts) n
-        (sum-apart (pair_counts counts) (rank_of other) (rank_of kind) less)))
-    by_order (inr least) most = let same = same_rank kind other (omega arith) in alike other same (apart same)
+        pair (omega (arith, sum-apart (pair_counts counts) (rank_of other) (rank_of kind) less)))
+    by_order (inr least) most = let same = same_rank kind other (omega arith) in alike same (apart same)
 
     by_rank : (rank_of kind < rank_of other) ⊎ (rank_of other ≤ rank_of kind)
         → pair_of other m (Some (with_pair kind n pair g)) ≡ pair_of other m (Some g)
     by_rank (inl less) =
         ap at (set-window-below g.pairs (pairs_before other counts) (count_of other counts) (pair_place kind n counts)
-        pair
-        (under (pairs_before kind counts) (count_of kind counts) (pairs_before other counts) n
-        (sum-apart (pair_counts counts) (rank_of kind) (rank_of other) less) small))
+        pair (omega (arith, sum-apart (pair_counts counts) (rank_of kind) (rank_of other) less, small)))
     by_rank (inr most) = by_order (cases_lt (rank_of other) (rank_of kind)) most
 
 -- so each pair is the one that was put, or what it was

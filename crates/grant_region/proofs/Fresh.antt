@@ -4,13 +4,12 @@ use Rattle.std.proofs.Common.{◌∷◌, ◌++◌, length, set, replicate, Optio
 use Rattle.std.specs.Prelude.{option_map}
 use Rattle.std.specs.List.{AllByRecursion}
 use Rattle.std.proofs.lemmas.List.{replicate-append-replicate, length-replicate, append-nil}
-use Rattle.tk_base.specs.declared.upcall.Counts.{Counts}
 use Rattle.tk_base.specs.Kinds.{pair_count}
 use Rattle.grant_values.specs.declared.drivers.Driver.{Driver}
 use Rattle.grant_values.specs.declared.drivers.Driver.TheVariants as of
 use Rattle.grant_values.specs.Words.{IsWord, bytes_of_words}
 use Rattle.grant_values.specs.Drivers.{cost_of, counts_by, counts_of, driver_of}
-use Rattle.grant_values.specs.Values.{KeptValue, fresh_by, fresh_value, value_by, value_words}
+use Rattle.grant_values.specs.Values.{fresh_by, fresh_value, value_by, value_words}
 use Rattle.grant_model.specs.Grants.{shape_of, fresh}
 use Rattle.grant_values.specs.ByNumber.{counts_or_none, value_or_none}
 use Rattle.grant_model.specs.Encoding.{CanBeKept, body_size, padding_of, pair_words, padded_words, body_words, IsSound}
@@ -40,21 +39,13 @@ zero_value driver = by_driver (driver_of driver)
         ≡ replicate ((counts_or_none (option_map counts_by found)).value / 4) 0
     by_driver None = refl
     by_driver (Some of.Alarm) = refl
-    by_driver (Some of.Console) = refl
-    by_driver (Some of.Leds) = refl
-    by_driver (Some of.Buttons) = refl
-    by_driver (Some of.Random) = refl
-    by_driver (Some of.Storage) = refl
+    by_driver (Some other) = refl
 
 value_back : (found : Option Driver)
     → value_or_none (value_by (value_words (value_or_none fresh_by found))) found ≡ value_or_none fresh_by found
 value_back None = refl
 value_back (Some of.Alarm) = refl
-value_back (Some of.Console) = refl
-value_back (Some of.Leds) = refl
-value_back (Some of.Buttons) = refl
-value_back (Some of.Random) = refl
-value_back (Some of.Storage) = refl
+value_back (Some other) = refl
 
 fresh_kept : (driver : ℕ) → CanBeKept driver (fresh_value driver)
 fresh_kept driver = record {
@@ -101,7 +92,7 @@ pub fresh_tells : IsReadBack → (driver cost : ℕ) (zeros one two : List ℕ) 
 fresh_tells law driver cost zeros one two costs small fit is first second =
     let k = known driver cost costs in
     let b = body_size (shape_of driver) in
-    let n : cost ≡ 4 * suc (suc b) = k.cost_is ∙ cost-words (shape_of driver) ∙ two_on b in
+    let n : cost ≡ 4 * suc (suc b) = k.cost_is ∙ cost-words (shape_of driver) ∙ omega arith in
     let words : zeros ≡ bytes_of_words (replicate (suc (suc b)) 0) =
     is ∙ ap (λ m. replicate m 0) n ∙ zero_bytes (suc (suc b)) in
     let put : two ≡ bytes_of_words (driver ∷ cost ∷ replicate b 0) =
@@ -113,6 +104,3 @@ fresh_tells law driver cost zeros one two costs small fit is first second =
     ∙ ap (λ z. bytes_of_words (driver ∷ cost_of (shape_of driver) ∷ z)) (sym body) in
     subst (λ bytes. Tells bytes (fresh driver ∷ [])) (sym bytes)
     (law.back (fresh driver ∷ []) (fresh_sound driver cost costs small fit, tt))
-  where
-    two_on : (n : ℕ) → 4 * (2 + n) ≡ 4 * suc (suc n)
-    two_on n = omega arith

@@ -1,5 +1,5 @@
 -- A walk over areas.
-use Rattle.std.proofs.Common.{arith, refl, ap, sym, ◌∙◌, ◌≡◌, ◌<◌, ◌≤◌, ℕ, suc, ◌+◌, ◌-◌, ◌*◌, ◌==◌, List, [], ◌∷◌}
+use Rattle.std.proofs.Common.{arith, refl, ap, sym, ◌∙◌, ◌≡◌, ◌<◌, ◌≤◌, ℕ, suc, ◌+◌, ◌*◌, ◌==◌, List, [], ◌∷◌}
 use Rattle.std.proofs.Common.{◌++◌, length, drop, get_or, cond, length-drop, length-append, false, true, None, Some}
 use Rattle.std.specs.List.{AllByRecursion}
 use Rattle.std.proofs.lemmas.List.{drop_at, drop-drop, get_or-drop}
@@ -48,7 +48,7 @@ here_at : IsReadBack → (ws : List ℕ) (driver offset : ℕ) (all : List Grant
     → area_place driver offset (g ∷ gs) ≡ area_place driver 0 all → Here ws driver offset all
 here_at law ws driver offset all g gs s sound words within same =
     let n = body_size (shape_of g.driver) in
-    let area : length (area_words g) ≡ 2 + n = ap (λ k. suc (suc k)) (law.size g s) ∙ two_on n in
+    let area : length (area_words g) ≡ 2 + n = omega (arith, law.size g s) in
     let first : get_or (drop offset ws) 0 0 ≡ g.driver = ap (λ z. get_or z 0 0) words in
     let second : get_or (drop offset ws) 1 0 ≡ cost_of (shape_of g.driver) = ap (λ z. get_or z 1 0) words in
     let zero_on : offset + 0 ≡ offset = omega arith in
@@ -56,8 +56,7 @@ here_at law ws driver offset all g gs s sound words within same =
     ap length words ∙ length-append (area_words g) (areas gs) ∙ ap (λ k. k + length (areas gs)) area in
     let far : drop (offset + (2 + n)) ws ≡ areas gs =
     sym (drop-drop (2 + n) offset ws) ∙ ap (drop (2 + n)) words ∙ drop_at (area_words g) (areas gs) (2 + n) area in
-    let fits : offset + (2 + n) ≤ length ws =
-    inside (length ws) offset n (length (areas gs)) (sym (length-drop offset ws) ∙ long) in
+    let fits : offset + (2 + n) ≤ length ws = omega (arith, length-drop offset ws, long) in
     record {
       head = g.driver;
       size = n;
@@ -73,12 +72,6 @@ here_at law ws driver offset all g gs s sound words within same =
         within = fits;
       };
     }
-  where
-    two_on : (n : ℕ) → suc (suc n) ≡ 2 + n
-    two_on n = omega arith
-
-    inside : (l o n r : ℕ) → l - o ≡ 2 + n + r → o + (2 + n) ≤ l
-    inside l o n r e = omega arith
 
 here_rest : IsReadBack → (ws : List ℕ) (driver offset : ℕ) (all rest : List Grant) → AllByRecursion IsSound rest
     → drop offset ws ≡ areas rest → offset < length ws → area_place driver offset rest ≡ area_place driver 0 all
@@ -99,10 +92,7 @@ ended_rest : (ws : List ℕ) (driver offset : ℕ) (all rest : List Grant) → d
 ended_rest ws driver offset all [] words h same = same
 ended_rest ws driver offset all (g ∷ gs) words h same =
     let l : length (drop offset ws) ≡ suc (suc (length (body_words g ++ areas gs))) = ap length words in
-    absurd (some (length ws) offset (length (body_words g ++ areas gs)) (sym (length-drop offset ws) ∙ l) h)
-  where
-    some : (l o n : ℕ) → l - o ≡ suc (suc n) → l ≤ o → ⊥
-    some l o n e h = omega arith
+    absurd (omega (arith, l, length-drop offset ws, h))
 
 pub ended : (ws : List ℕ) (driver offset : ℕ) (all : List Grant) → Ahead ws driver offset all → length ws ≤ offset
     → None ≡ area_place driver 0 all

@@ -25,7 +25,7 @@ xor_before zero i h g l small = refl
 xor_before (suc n) i h g l small =
     ap (λ s. bit_xor s (cond (n == 3) 0 (word_at g (4 * n)))) (xor_before n i h g l (omega arith))
     ∙ ap (λ w. bit_xor (xor_of_words n h) (cond (n == 3) 0 w))
-    (word_below (4 * i) (4 * i + 4) h g (4 * n) l (omega arith))
+    (word_below (4 * n) l (omega arith))
 
 xor_behind : (n i v : ℕ) (h g : List ℕ) → (i ≡ 3 → ⊥) → IsLike (4 * i) (4 * i + 4) h g → word_at g (4 * i) ≡ v → i < n
     → xor_of_words n g ≡ bit_xor (xor_of_words n h) (bit_xor (word_at h (4 * i)) v)
@@ -35,7 +35,7 @@ xor_behind (suc n) i v h g other l e large =
       | inl more ↦
           ap (λ s. bit_xor s (cond (n == 3) 0 (word_at g (4 * n)))) (xor_behind n i v h g other l e more)
           ∙ ap (λ w. bit_xor (bit_xor (xor_of_words n h) (bit_xor (word_at h (4 * i)) v)) (cond (n == 3) 0 w))
-          (word_above (4 * i) (4 * i + 4) h g (4 * n) l (omega arith))
+          (word_above (4 * n) l (omega arith))
           ∙ swapped (xor_of_words n h) (bit_xor (word_at h (4 * i)) v) (cond (n == 3) 0 (word_at h (4 * n)))
       | inr same ↦
           let here : n ≡ i = omega arith in

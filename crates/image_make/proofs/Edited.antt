@@ -4,10 +4,10 @@
 use Rattle.std.proofs.Common.{◌≡◌, ℕ, ◌+◌, ◌-◌, ◌<◌, ◌≤◌, ◌==◌, Bool, true, false, cond, ◌⊎◌, inl, inr, List, map}
 use Rattle.std.proofs.Common.{length, drop, slice_index, Option, Some, None, option_and_then, Result, Ok, refl, sym, ap}
 use Rattle.std.proofs.Common.{◌≢◌, ◌/◌, ◌%◌, [], ◌∷◌, is_some}
-use Rattle.std.specs.Prelude.{IsSomeAnd}
 use Rattle.std.specs.Option.{option_map_or}
 use Rattle.std.proofs.Common.{◌∙◌, subst, arith}
-use Rattle.std.proofs.lemmas.Bool.{eqb-true, eq-eqb, ne_eqb, cases_lt, cond-true, false≢true}
+use Rattle.std.proofs.lemmas.Bool.{cases_Bool, eqb-true, eq-eqb, ne_eqb, cases_lt, cond-true, false≢true}
+use Rattle.std.proofs.lemmas.Option.{same_Some, cond_some}
 use Rattle.std.proofs.lemmas.List.{get_or-take, get_or-drop}
 use Rattle.tk_base.specs.declared.access.TheConstants.{FLASH_START}
 use Rattle.tk_base.specs.declared.access.Width.TheVariants.{Half, Word}
@@ -46,11 +46,10 @@ flagged_like : AStoreIsPut → (object : List ℕ) (flags : ℕ) → 16 ≤ leng
 unfolding with_flags
 flagged_like stores object flags h =
     let p = put object 8 Word flags in
-    let one : IsLike 8 16 object p = like_wider 8 12 8 16 object p (omega arith) (omega arith)
-    (put_like stores object 8 Word flags (omega arith)) in
+    let one : IsLike 8 16 object p =
+    like_wider 8 16 (omega arith) (omega arith) (put_like stores object 8 Word flags (omega arith)) in
     let size = one.size in
-    like_join 8 16 object p (mended p) one (like_wider 12 16 8 16 p (mended p) (omega arith) (omega arith)
-    (mended_like stores p (omega arith)))
+    like_join one (like_wider 8 16 (omega arith) (omega arith) (mended_like stores p (omega arith)))
 
 with_enabled_below : (on : Bool) (flags : ℕ) → flags < 4294967296 → with_enabled on flags < 4294967296
 with_enabled_below true flags h = omega arith
@@ -90,15 +89,8 @@ record Makes (flash : List ℕ) (f : Found) (object : List ℕ) (m : Meaning) : 
 found_again : (flash : List ℕ) (at : ℕ) (f : Found) → object_found at (objects flash) ≡ Some f
     → object_found f.offset (objects flash) ≡ Some f
 found_again flash at f e =
-    let same : f.offset ≡ at = eqb-true _ _ (found_passes (λ x. x.offset == at) (objects flash) f e) in
-    subst (λ (p : ℕ). object_found p (objects flash) ≡ Some f) (sym same) e
-
-walked_again : (flash : List ℕ) (at : ℕ) (f : Found) (object : List ℕ) (m : Meaning)
-    → object_found at (objects flash) ≡ Some f → Makes flash f object m
-    → objects (replaced flash f.offset object) ≡ map (with_reading f.offset (Ok m)) (objects flash)
-walked_again flash at f object m e made =
-    one_object_changes flash object f.offset f (found_again flash at f e) made.size made.version made.total
-    ∙ ap (λ (r : Result Meaning HeaderFault). map (with_reading f.offset r) (objects flash)) made.read
+    subst (λ (p : ℕ). object_found p (objects flash) ≡ Some f)
+    (sym (eqb-true _ _ (found_passes (λ x. x.offset == at) (objects flash) f e))) e
 
 -- an object that is found and has no fault
 record Whole (flash : List ℕ) (at : ℕ) (f : Found) : Type 0 where
@@ -130,7 +122,8 @@ edit_leaves flash at f object m w made =
     record {
       size = (replaced_like flash object f.offset (omega arith)).size;
       bytes = λ k same. replaced_byte flash f object k w.sound made.size same;
-      walked = walked_again flash at f object m w.found made;
+      walked = rw (← made.read) (one_object_changes flash object f.offset f (found_again flash at f w.found) made.size
+          made.version made.total);
     }
 
 -- the object at an offset is found still, with the verdict of what its header is read as
@@ -138,25 +131,11 @@ found_with : (found : List Found) (at : ℕ) (r : Result Meaning HeaderFault) (f
     → object_found at found ≡ Some f
     → object_found at (map (with_reading at r) found) ≡ Some (record f { verdict = verdict_of (FLASH_START + at) r })
 found_with [] at r f e = absurd (cc)
-found_with (x ∷ xs) at r f e = by_test (x.offset == at) refl e (found_with xs at r f)
-  where
-    with_verdict : Found → Found
-    with_verdict g = record g { verdict = verdict_of (FLASH_START + at) r }
-
-    rest : Option Found
-    rest = object_found at (map (with_reading at r) xs)
-
-    shown : Bool → Option Found
-    shown b = let y = cond b (with_verdict x) x in cond (y.offset == at) (Some y) rest
-
-    by_test : (b : Bool) → (x.offset == at) ≡ b → cond b (Some x) (object_found at xs) ≡ Some f
-        → (object_found at xs ≡ Some f → rest ≡ Some (with_verdict f))
-        → shown (x.offset == at) ≡ Some (with_verdict f)
-    by_test true is found later =
-        let same : x ≡ f = cc in
-        ap shown is ∙ ap (λ (b : Bool). cond b (Some (with_verdict x)) rest) is
-        ∙ ap (λ (g : Found). Some (with_verdict g)) same
-    by_test false is found later = ap shown is ∙ ap (λ (b : Bool). cond b (Some x) rest) is ∙ later found
+found_with (x ∷ xs) at r f e =
+    elim (cases_Bool (x.offset == at)) [
+      | inl is ↦ let same : x ≡ f = same_Some x f (rw is at e) in rw (is, is, same) refl
+      | inr is ↦ rw (is, is) (found_with xs at r f (rw is at e))
+    ]
 
 -- the flags of a header that is read
 flags_read : (bytes : List ℕ) (m : Meaning) → header_reading bytes ≡ Ok m → word_at bytes 8 ≡ m.flags
@@ -180,9 +159,8 @@ even_verdict start h even some = by_main h.main some
 none_disabled : (even bad wrong : Bool) → even ≡ false
     → cond even Disabled (cond bad BadEntry (cond wrong WrongFlash App)) ≢ Disabled
 none_disabled true bad wrong is e = false≢true (sym is)
-none_disabled false true wrong is e = cc
 none_disabled false false true is e = cc
-none_disabled false false false is e = cc
+none_disabled even bad wrong is e = cc
 
 odd_verdict : (start : ℕ) (h : Meaning) → h.flags % 2 ≡ 1 → verdict_of start (Ok h) ≢ Disabled
 odd_verdict start h odd = by_main h.main
@@ -202,48 +180,40 @@ enabled_is_walked stores on flash at f bytes e =
     let like : IsLike 8 16 object new = flagged_like stores object flags w.large in
     let made : Makes flash f new m = record {
       size = like.size ∙ w.sound.long;
-      version = half_below 8 16 object new 0 like (omega arith) ∙ w.sound.version;
-      total = word_below 8 16 object new 4 like (omega arith) ∙ w.sound.total;
+      version = half_below 0 like (omega arith) ∙ w.sound.version;
+      total = word_below 4 like (omega arith) ∙ w.sound.total;
       read = flags_are_read stores object flags (meaning_of object) w.bytes
           (with_enabled_below on (word_at object 8) (word_limit object 8 w.bytes)) w.sound.read;
     } in
     let left = edit_leaves flash at f new m w made in
     let within = w.sound.within in
     let word : word_at (found_bytes f (replaced flash f.offset new)) 8 ≡ flags =
-    ap (λ (xs : List ℕ). word_at xs 8) (object_replaced flash new f.offset f.size (omega arith) made.size)
-    ∙ flags_read new m made.read in
+    rw (object_replaced flash new f.offset f.size (omega arith) made.size) (flags_read new m made.read) in
     let bits = one_bit on (word_at object 8) in
     let there : object_found f.offset (objects (replaced flash f.offset new))
     ≡ Some (record f { verdict = verdict_of (FLASH_START + f.offset) (Ok m) }) =
-    ap (object_found f.offset) left.walked
-    ∙ found_with (objects flash) f.offset (Ok m) f (found_again flash at f w.found) in
+    rw left.walked (found_with (objects flash) f.offset (Ok m) f (found_again flash at f w.found)) in
     record {
       size = left.size;
       bytes = λ k out. left.bytes k (λ j same. elim out [
         | inl low ↦ like.below j (omega arith)
         | inr high ↦ like.above j (omega arith)
       ]);
-      bit = ap (λ (n : ℕ). n % 2) word ∙ bits.0;
-      others = ap (λ (n : ℕ). n / 2) word ∙ bits.1;
+      bit = rw word bits.0;
+      others = rw word bits.1;
       walked = left.walked;
       off = λ is_off some.
-          subst (λ (o : Option Found). IsSomeAnd o (λ g. g.verdict ≡ Disabled)) (sym there)
-          (even_verdict (FLASH_START + f.offset) m (bits.0 ∙ ap (λ (b : Bool). cond b 1 0) is_off) some);
+          rw there (even_verdict (FLASH_START + f.offset) m (bits.0 ∙ ap (λ (b : Bool). cond b 1 0) is_off) some);
       on_again = λ is_on.
-          subst (λ (o : Option Found). IsSomeAnd o (λ g. g.verdict ≢ Disabled)) (sym there)
-          (odd_verdict (FLASH_START + f.offset) m (bits.0 ∙ ap (λ (b : Bool). cond b 1 0) is_on));
+          rw there (odd_verdict (FLASH_START + f.offset) m (bits.0 ∙ ap (λ (b : Bool). cond b 1 0) is_on));
     }
-
-some_of_test : (b : Bool) (x at : ℕ) → cond b (Some x) None ≡ Some at → (b ≡ true) × (x ≡ at)
-some_of_test true x at e = (refl, cc)
-some_of_test false x at e = cc
 
 place_parts : (name object : List ℕ) (o : Option ℕ) (at : ℕ) → option_and_then (if_as_long name object) o ≡ Some at
     → (o ≡ Some at) × (rounded_up (length name) ≡ rounded_up (length_at (header_of object) at))
 place_parts name object None at e = cc
 place_parts name object (Some x) at e =
-    let parts = some_of_test (rounded_up (length name) == rounded_up (length_at (header_of object) x)) x at e in
-    (ap Some parts.1, eqb-true _ _ parts.0 ∙ ap (λ p. rounded_up (length_at (header_of object) p)) parts.1)
+    let parts = cond_some (rounded_up (length name) == rounded_up (length_at (header_of object) x)) x at e in
+    rw (← parts.1) (refl, eqb-true _ _ parts.0)
 
 -- what renaming leaves of an object
 record Renamed (object new name : List ℕ) (at : ℕ) : Type 0 where
@@ -265,14 +235,11 @@ renamed_is stores object name at m bytes letters few long read place same =
     let l = c.like in
     let low = c.low in
     let size_c : length changed ≡ length object = l.size in
-    let b = at + 4 + rounded_up (length_at (header_of object) at) in
     let k : IsLike 12 16 changed (mended changed) = mended_like stores changed (omega arith) in
     record {
       size = k.size ∙ l.size;
-      version = half_below 12 16 changed (mended changed) 0 k (omega arith)
-          ∙ half_below (at + 2) b object changed 0 l (omega arith);
-      total = word_below 12 16 changed (mended changed) 4 k (omega arith)
-          ∙ word_below (at + 2) b object changed 4 l (omega arith);
+      version = half_below 0 k (omega arith) ∙ half_below 0 l (omega arith);
+      total = word_below 4 k (omega arith) ∙ word_below 4 l (omega arith);
       bytes = λ j sum tlv.
           elim sum [
             | inl h ↦ k.below j h

@@ -1,6 +1,6 @@
 -- Files packed one after another.
 use Rattle.std.proofs.Common.{◌≡◌, ℕ, zero, suc, ◌+◌, ◌%◌, ◌≤◌, Bool, true, false, cond, inl, inr, List, [], ◌∷◌, ◌++◌}
-use Rattle.std.proofs.Common.{map, length, All, Option, Some, None, Result, Ok, refl, sym, ap, ◌∙◌, arith, append_assoc}
+use Rattle.std.proofs.Common.{length, All, Option, Some, None, Result, Ok, refl, sym, ap, ◌∙◌, arith, append_assoc}
 use Rattle.std.proofs.Common.{append-nil}
 use Rattle.std.proofs.lemmas.Bool.{ltb-false, cases_Bool}
 use Rattle.std.proofs.lemmas.List.{length-append, length-map}
@@ -10,16 +10,16 @@ use Rattle.tk_base.specs.declared.limits.TheConstants.{OBJECT_LIMIT}
 use Rattle.tbf_headers.specs.Meaning.{header_reading}
 use Rattle.tbf_headers.specs.Objects.{object_at}
 use Rattle.flash_walk.specs.declared.found.Found.{Found}
-use Rattle.flash_walk.specs.Image.{objects, objects_from, ends_at, size_at, object_bytes, verdict_of, IsObject}
+use Rattle.flash_walk.specs.Image.{objects, objects_from, ends_at, size_at, IsObject}
 use Rattle.image_make.specs.declared.packs.PackFault.{PackFault}
 use Rattle.image_make.specs.declared.packs.PackFault.TheVariants.{Objects, Size}
-use Rattle.image_make.specs.Images.{covered, packed, moved, but_link}
+use Rattle.image_make.specs.Images.{covered, packed}
 use Rattle.image_make.specs.Packs.{pack_refusal, pack_from, one_after_another, PackIsWalked, KeepsVerdict}
 use Rattle.image_make.specs.Laws.{PacksAt}
 use Rattle.image_make.specs.Parts.{pack_next}
 use Rattle.image_make.specs.Packs.{ObjectsMove}
-use Rattle.image_make.proofs.Walked.{stands, from_end, from_more, from_none}
-use Rattle.image_make.proofs.Moves.{packed_is_walked, length_packed, verdicts_move, covered_more}
+use Rattle.image_make.proofs.Walked.{stands, from_end, from_none}
+use Rattle.image_make.proofs.Moves.{packed_is_walked, length_packed, verdicts_move, covered_suc}
 
 ok_next : (o : Option PackFault) (rest : Result (List ℕ) PackFault) (image : List ℕ) → pack_next o rest ≡ Ok image
     → (o ≡ None) × (rest ≡ Ok image)
@@ -45,8 +45,7 @@ goes_on n before file files image count whole e =
     let few : n + length (objects file) ≤ OBJECT_LIMIT = ltb-false _ _ (none_refused _ _ parts.0) in
     let p = packed_is_walked before file whole (omega arith) in
     let counted : length (objects (before ++ packed file)) ≡ length (objects before) + length (objects file) =
-    ap length p.walked ∙ length-append (objects before) (map (moved (length before) file) (objects file))
-    ∙ ap (λ k. length (objects before) + k) (length-map (objects file) (moved (length before) file)) in
+    rw p.walked (simp (length-append, length-map)) in
     record { behind = p; count = omega arith; rest = parts.1 }
 
 -- behind an image that is wholly walked
@@ -58,13 +57,15 @@ pack_walked [] n before image count whole e = ap objects (let same : image ≡ b
     ∙ sym (append-nil (objects before))
 pack_walked (file ∷ files) n before image count whole e =
     let next = goes_on n before file files image count whole e in
-    let long : length (before ++ packed file) ≡ length before + covered (objects file)
-    = length-append before (packed file) ∙ ap (λ k. length before + k) (length_packed file) in
-    pack_walked files (n + length (objects file)) (before ++ packed file) image next.count next.behind.whole next.rest
-    ∙ ap (λ k. objects (before ++ packed file) ++ one_after_another k files) long
-    ∙ ap (λ xs. xs ++ one_after_another (length before + covered (objects file)) files) next.behind.walked
-    ∙ append_assoc (objects before) (map (moved (length before) file) (objects file))
-    (one_after_another (length before + covered (objects file)) files)
+    let long : length (before ++ packed file) ≡ length before + covered (objects file) =
+    rw (length-append before (packed file), length_packed file) refl in
+    rw (
+      pack_walked files (n + length (objects file)) (before ++ packed file) image next.count next.behind.whole
+          next.rest,
+      next.behind.walked,
+      long,
+      append_assoc,
+    ) refl
 
 pub nothing : objects [] ≡ []
 nothing = from_end OBJECT_LIMIT [] 0 refl
@@ -77,25 +78,20 @@ pack_is_walked files image e =
 moved_verdict : (distance : ℕ) (file : List ℕ) (f : Found) → distance % 4 ≡ 0 → IsObject file f
     → KeepsVerdict distance file f
 moved_verdict distance file f h o =
-    let r = header_reading (object_at file f.offset f.size) in
     let start : FLASH_START + (distance + f.offset) ≡ distance + (FLASH_START + f.offset) = omega arith in
-    ap (λ (p : ℕ). but_link (verdict_of p r)) start
-    ∙ verdicts_move distance (FLASH_START + f.offset) r h
-    ∙ ap but_link (sym o.judged)
+    rw (start, o.judged)
+    (verdicts_move distance (FLASH_START + f.offset) (header_reading (object_at file f.offset f.size)) h)
 
 covered_aligned : (n : ℕ) (b : List ℕ) (p : ℕ) → covered (objects_from n b p) % 4 ≡ 0
-covered_aligned zero b p = ap (λ xs. covered xs % 4) (from_none b p)
+covered_aligned zero b p = rw (from_none b p) refl
 covered_aligned (suc n) b p =
     elim (cases_Bool (ends_at b p)) [
-      | inl t ↦ ap (λ xs. covered xs % 4) (from_end (suc n) b p t)
+      | inl t ↦ rw (from_end (suc n) b p t) refl
       | inr f ↦
           let s = stands b p f in
           let even = s.aligned in
           let rest = covered_aligned n b (p + size_at b p) in
-          let total : covered (objects_from (suc n) b p) ≡ size_at b p + covered (objects_from n b (p + size_at b p))
-          = ap covered (from_more n b p f) ∙ covered_more p (size_at b p) (object_bytes b p)
-          (objects_from n b (p + size_at b p)) in
-          omega arith
+          omega (arith, covered_suc n b p f)
     ]
 
 pub objects_move : (file : List ℕ) → All (IsObject file) (objects file) → ObjectsMove file

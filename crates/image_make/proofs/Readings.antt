@@ -2,10 +2,10 @@
 -- checksum (`IsSound`); an edit of the flags touches neither sizes nor elements, and once the checksum is mended the
 -- header is sound, and means what it meant but for the edit.
 use Rattle.std.proofs.Common.{◌≡◌, ℕ, zero, suc, ◌+◌, ◌*◌, ◌/◌, ◌%◌, ◌<◌, ◌≤◌, ◌==◌, nat_lt, ◌||◌, not, Bool, true}
-use Rattle.std.proofs.Common.{false, cond, inl, inr, List, length, take, slice_index, Option, Some, None, option_map}
-use Rattle.std.proofs.Common.{Result, Ok, Err, refl, sym, ap, ◌∙◌, subst, arith}
+use Rattle.std.proofs.Common.{false, cond, inl, inr, List, length, take, slice_index, Option, Some, None}
+use Rattle.std.proofs.Common.{Result, Ok, Err, refl, ap, ◌∙◌, arith}
 use Rattle.std.proofs.lemmas.Bool.Decides.{nat_tests}
-use Rattle.std.proofs.lemmas.Bool.{cases_lt, eq-eqb, ltb-false, cond-false}
+use Rattle.std.proofs.lemmas.Bool.{cases_lt, eq-eqb, ltb-false}
 use Rattle.std.proofs.lemmas.Nat.{xor_lt}
 use Rattle.std.proofs.lemmas.List.{length-take, get_or-take, get_or_past}
 use Rattle.tk_base.specs.declared.access.Width.{Width}
@@ -19,8 +19,6 @@ use Rattle.tbf_headers.specs.Tlv.{content}
 use Rattle.tbf_headers.specs.Parts.{first_bad}
 use Rattle.tbf_headers.specs.Meaning.{Meaning, header_reading, meaning_of, header_of, has_bad_sizes}
 use Rattle.tbf_headers.specs.Parts.{unless_bad}
-use Rattle.tbf_headers.specs.Meaning.{program_or_main}
-use Rattle.tbf_headers.specs.Parts.{fixed_of}
 use Rattle.image_make.specs.Edits.{mended, with_flags}
 use Rattle.image_make.specs.Laws.{AreBytes, FlagsAreRead}
 use Rattle.image_make.proofs.Likeness.{IsLike, half_below, word_below, take_like, like_wider, put_like, word_put}
@@ -63,9 +61,7 @@ sound_where_read bytes m h =
 pub read_where_sound : (bytes : List ℕ) → IsSound bytes → header_reading bytes ≡ Ok (meaning_of bytes)
 unfolding header_reading
 read_where_sound bytes s =
-    cond-false _ _ _ s.well.long ∙ cond-false _ _ _ s.well.version ∙ cond-false _ _ _ s.well.sizes
-    ∙ cond-false _ _ _ s.sum
-    ∙ ap (λ o. unless_bad o (meaning_of bytes)) s.well.good
+    rw (s.well.long, s.well.version, s.well.sizes, s.sum, s.well.good) refl
 
 taken_byte : (n : ℕ) (xs : List ℕ) (k : ℕ) → slice_index xs k < 256 → slice_index (take n xs) k < 256
 taken_byte n xs k b =
@@ -100,68 +96,35 @@ xor_below zero h bytes = omega arith
 xor_below (suc n) h bytes = xor_lt 32 (xor_of_words n h) _ (xor_below n h bytes)
     (word_or_none (n == 3) (word_at h (4 * n)) (word_below_limit h (4 * n) bytes))
 
-made : ℕ → ℕ → ℕ → Option (List ℕ) → Option (List ℕ) → Option (List ℕ) → Option (List ℕ) → Option (List ℕ)
-    → Option (List ℕ) → Meaning
-made hs ts fl c9 c1 c5 c3 c2 c6 = record {
-  header_size = hs;
-  total_size = ts;
-  flags = fl;
-  main = program_or_main c9 c1;
-  fixed = option_map fixed_of c5;
-  name = c3;
-  regions = c2;
-  permissions = c6;
-}
-
-made_of : (b : List ℕ) → meaning_of b ≡ made (half b 2) (word_at b 4) (word_at b 8) (content 9 (header_of b))
-    (content 1 (header_of b)) (content 5 (header_of b)) (content 3 (header_of b)) (content 2 (header_of b))
-    (content 6 (header_of b))
-unfolding meaning_of made
-made_of b = refl
-
-made_flagged : (f hs ts fl : ℕ) (c9 c1 c5 c3 c2 c6 : Option (List ℕ))
-    → record (made hs ts fl c9 c1 c5 c3 c2 c6) { flags = f } ≡ made hs ts f c9 c1 c5 c3 c2 c6
-unfolding made
-made_flagged f hs ts fl c9 c1 c5 c3 c2 c6 = refl
-
 header_like : (a : ℕ) (b c : List ℕ) → 4 ≤ a → IsLike a 16 b c → IsLike a 16 (header_of b) (header_of c)
 header_like a b c h l =
-    subst (λ (n : ℕ). IsLike a 16 (header_of b) (take n c)) (sym (half_below a 16 b c 2 l (omega arith)))
-    (take_like (half b 2) a 16 b c l)
+    rw (half_below 2 l (omega arith)) (take_like (half b 2) l)
 
 -- bytes that differ in flags and checksum alone mean the same but for the flags
 pub meaning_like : (b c : List ℕ) → IsLike 8 16 b c → meaning_of c ≡ record (meaning_of b) { flags = word_at c 8 }
+unfolding meaning_of
 meaning_like b c l =
     let h = header_like 8 b c (omega arith) l in
-    let hl : IsLike 0 16 (header_of b) (header_of c) = like_wider 8 16 0 16 (header_of b) (header_of c) (omega arith)
-    (omega arith) h in
-    let size = half_below 8 16 b c 2 l (omega arith) in
-    let total = word_below 8 16 b c 4 l (omega arith) in
+    let hl : IsLike 0 16 (header_of b) (header_of c) = like_wider 0 16 (omega arith) (omega arith) h in
     let same = λ (kind : ℕ). content_like kind (header_of b) (header_of c) hl in
-    made_of c
-    ∙ ap (λ n. made n (word_at c 4) (word_at c 8) (content 9 (header_of c)) (content 1 (header_of c))
-    (content 5 (header_of c)) (content 3 (header_of c)) (content 2 (header_of c)) (content 6 (header_of c))) size
-    ∙ ap (λ n. made (half b 2) n (word_at c 8) (content 9 (header_of c)) (content 1 (header_of c))
-    (content 5 (header_of c)) (content 3 (header_of c)) (content 2 (header_of c)) (content 6 (header_of c))) total
-    ∙ cc (same 9, same 1, same 5, same 3, same 2, same 6)
-    ∙ sym (made_flagged (word_at c 8) (half b 2) (word_at b 4) (word_at b 8) (content 9 (header_of b))
-    (content 1 (header_of b))
-    (content 5 (header_of b)) (content 3 (header_of b)) (content 2 (header_of b)) (content 6 (header_of b)))
-    ∙ ap (λ (m : Meaning). record m { flags = word_at c 8 }) (sym (made_of b))
+    rw (
+      same 9,
+      same 1,
+      same 5,
+      same 3,
+      same 2,
+      same 6,
+      half_below 2 l (omega arith),
+      word_below 4 l (omega arith),
+    ) refl
 
-sizes_of : ℕ → ℕ → ℕ → Bool
+abbrev sizes_of : ℕ → ℕ → ℕ → Bool
 sizes_of n total size =
     total == 0 || nat_lt n total || not (total % 4 == 0) || nat_lt size 16 || nat_lt total size || not (size % 4 == 0)
 
-sizes_is : (b : List ℕ) → has_bad_sizes b ≡ sizes_of (length b) (word_at b 4) (half b 2)
-unfolding sizes_of
-sizes_is b = refl
-
 pub sizes_same : (b c : List ℕ) → length c ≡ length b → half c 2 ≡ half b 2 → word_at c 4 ≡ word_at b 4
     → has_bad_sizes c ≡ has_bad_sizes b
-sizes_same b c long size total =
-    sizes_is c ∙ ap (λ n. sizes_of n (word_at c 4) (half c 2)) long ∙ ap (λ n. sizes_of (length b) n (half c 2)) total
-    ∙ ap (λ n. sizes_of (length b) (word_at b 4) n) size ∙ sym (sizes_is b)
+sizes_same b c long size total = rw (long, size, total) refl
 
 -- the sizes of a header that is well
 pub record Sized (n total size : ℕ) : Type 0 where
@@ -171,60 +134,43 @@ pub record Sized (n total size : ℕ) : Type 0 where
   pub aligned : size % 4 ≡ 0
 
 sized_from : (n total size : ℕ) → sizes_of n total size ≡ false → Sized n total size
-unfolding sizes_of
 sized_from n total size h = record {
   long = grind (arith, nat_tests);
   within = grind (arith, nat_tests);
-  whole
-      = grind (arith, nat_tests);
+  whole = grind (arith, nat_tests);
   aligned = grind (arith, nat_tests);
 }
 
 pub sized : (b : List ℕ) → IsWell b → Sized (length b) (word_at b 4) (half b 2)
-sized b w = sized_from (length b) (word_at b 4) (half b 2) (sym (sizes_is b) ∙ w.sizes)
-
-made_named : (f : Option (List ℕ)) (hs ts fl : ℕ) (c9 c1 c5 c3 c2 c6 : Option (List ℕ))
-    → record (made hs ts fl c9 c1 c5 c3 c2 c6) { name = f } ≡ made hs ts fl c9 c1 c5 f c2 c6
-unfolding made
-made_named f hs ts fl c9 c1 c5 c3 c2 c6 = refl
+sized b w = sized_from (length b) (word_at b 4) (half b 2) w.sizes
 
 -- bytes that differ in the name alone mean the same but for the name
 pub meaning_named : (b c name : List ℕ) → half c 2 ≡ half b 2 → word_at c 4 ≡ word_at b 4 → word_at c 8 ≡ word_at b 8
     → content 3 (header_of c) ≡ Some name → ((kind : ℕ) → (kind ≡ 3 → ⊥)
     → content kind (header_of c) ≡ content kind (header_of b))
     → meaning_of c ≡ record (meaning_of b) { name = Some name }
+unfolding meaning_of
 meaning_named b c name size total flags new same =
-    made_of c
-    ∙ ap (λ n. made n (word_at c 4) (word_at c 8) (content 9 (header_of c)) (content 1 (header_of c))
-    (content 5 (header_of c)) (content 3 (header_of c)) (content 2 (header_of c)) (content 6 (header_of c))) size
-    ∙ ap (λ n. made (half b 2) n (word_at c 8) (content 9 (header_of c)) (content 1 (header_of c))
-    (content 5 (header_of c)) (content 3 (header_of c)) (content 2 (header_of c)) (content 6 (header_of c))) total
-    ∙ ap (λ n. made (half b 2) (word_at b 4) n (content 9 (header_of c)) (content 1 (header_of c))
-    (content 5 (header_of c)) (content 3 (header_of c)) (content 2 (header_of c)) (content 6 (header_of c))) flags
-    ∙ cc (
+    rw (
+      new,
       same 9 (λ e. omega arith),
       same 1 (λ e. omega arith),
       same 5 (λ e. omega arith),
-      new,
-      same 2
-          (λ e. omega arith),
+      same 2 (λ e. omega arith),
       same 6 (λ e. omega arith),
-    )
-    ∙ sym (made_named (Some name) (half b 2) (word_at b 4) (word_at b 8) (content 9 (header_of b))
-    (content 1 (header_of b))
-    (content 5 (header_of b)) (content 3 (header_of b)) (content 2 (header_of b)) (content 6 (header_of b)))
-    ∙ ap (λ (m : Meaning). record m { name = Some name }) (sym (made_of b))
+      size,
+      total,
+      flags,
+    ) refl
 
 pub well_like : (b c : List ℕ) → IsLike 8 16 b c → IsWell b → IsWell c
 well_like b c l w =
     let h = header_like 8 b c (omega arith) l in
     record {
-      long = ap (λ n. nat_lt n 16) l.size ∙ w.long;
-      version = ap (λ n. not (n == 2)) (half_below 8 16 b c 0 l (omega arith)) ∙ w.version;
-      sizes = sizes_same b c l.size (half_below 8 16 b c 2 l (omega arith)) (word_below 8 16 b c 4 l (omega arith))
-          ∙ w.sizes;
-      good = first_bad_like (header_of b) (header_of c) (like_wider 8 16 0 16 (header_of b) (header_of c) (omega arith)
-          (omega arith) h) ∙ w.good;
+      long = rw l.size w.long;
+      version = rw (half_below 0 l (omega arith)) w.version;
+      sizes = sizes_same b c l.size (half_below 2 l (omega arith)) (word_below 4 l (omega arith)) ∙ w.sizes;
+      good = first_bad_like (header_of b) (header_of c) (like_wider 0 16 (omega arith) (omega arith) h) ∙ w.good;
     }
 
 pub mended_like : AStoreIsPut → (p : List ℕ) → 16 ≤ length p → IsLike 12 16 p (mended p)
@@ -235,37 +181,30 @@ mended_sum : AStoreIsPut → (p : List ℕ) → 16 ≤ length p → AreBytes p
     → word_at (mended p) 12 ≡ checksum (header_of (mended p))
 unfolding mended
 mended_sum stores p h bytes =
-    word_put stores p 12 (checksum (header_of p)) h (xor_below (length (header_of p) / 4) (header_of p)
-    (take_bytes (half p 2) p bytes))
-    ∙ sym (checksum_like (header_of p) (header_of (put p 12 Word (checksum (header_of p))))
-    (header_like 12 p (put p 12 Word (checksum (header_of p))) (omega arith)
-    (put_like stores p 12 Word (checksum (header_of p)) h)))
-
-same_flags : (p : List ℕ) → record (meaning_of p) { flags = word_at p 8 } ≡ meaning_of p
-unfolding meaning_of
-same_flags p = refl
+    rw (checksum_like (header_of p) (header_of (mended p)) (header_like 12 p (mended p) (omega arith)
+    (mended_like stores p h)))
+    (word_put stores p 12 (checksum (header_of p)) h (xor_below (length (header_of p) / 4) (header_of p)
+    (take_bytes (half p 2) p bytes)))
 
 -- once the checksum is mended nothing is wrong, and the bytes mean what they meant
 pub mended_reading : AStoreIsPut → (p : List ℕ) → AreBytes p → IsWell p → header_reading (mended p) ≡ Ok (meaning_of p)
+unfolding meaning_of
 mended_reading stores p bytes w =
     let long : 16 ≤ length p = ltb-false _ _ w.long in
     let like : IsLike 12 16 p (mended p) = mended_like stores p long in
-    let wide : IsLike 8 16 p (mended p) = like_wider 12 16 8 16 p (mended p) (omega arith) (omega arith) like in
-    let sum : not (word_at (mended p) 12 == checksum (header_of (mended p)))
-    ≡ false = ap not (eq-eqb _ _ (mended_sum stores p long bytes)) in
+    let wide : IsLike 8 16 p (mended p) = like_wider 8 16 (omega arith) (omega arith) like in
+    let sum = ap not (eq-eqb _ _ (mended_sum stores p long bytes)) in
     read_where_sound (mended p) (record { well = well_like p (mended p) wide w; sum = sum })
-    ∙ ap Ok (meaning_like p (mended p) wide ∙ ap (λ (f : ℕ). record (meaning_of p) { flags = f })
-    (word_below 12 16 p (mended p) 8 like (omega arith)) ∙ same_flags p)
+    ∙ rw (meaning_like p (mended p) wide, word_below 8 like (omega arith)) refl
 
 pub flags_are_read : AStoreIsPut → FlagsAreRead
 unfolding with_flags
 flags_are_read stores object flags m bytes small read =
     let s = sound_where_read object m read in
     let long : 16 ≤ length object = ltb-false _ _ s.0.well.long in
-    let like : IsLike 8 16 object (put object 8 Word flags) = like_wider 8 12 8 16 object (put object 8 Word flags)
-    (omega arith) (omega arith) (put_like stores object 8 Word flags (omega arith)) in
-    mended_reading stores (put object 8 Word flags) (put_bytes stores object 8 Word flags (omega arith) bytes)
-    (well_like object (put object 8 Word flags) like s.0.well)
-    ∙ ap Ok (meaning_like object (put object 8 Word flags) like
-    ∙ ap (λ (f : ℕ). record (meaning_of object) { flags = f }) (word_put stores object 8 flags (omega arith) small)
-    ∙ ap (λ (w : Meaning). record w { flags = flags }) s.1)
+    let p = put object 8 Word flags in
+    let like : IsLike 8 16 object p = like_wider 8 16 (omega arith) (omega arith)
+    (put_like stores object 8 Word flags (omega arith)) in
+    mended_reading stores p (put_bytes stores object 8 Word flags (omega arith) bytes)
+    (well_like object p like s.0.well)
+    ∙ rw (meaning_like object p like, word_put stores object 8 flags (omega arith) small, s.1) refl

@@ -1,20 +1,18 @@
 -- What a turn leaves of its process's alarm, by the end of its instruction and by its call. A call asks nothing of the
 -- board unless its turn shows that it may act, and leaves the alarm unless it shows that it may arm it (`Leaves`); of
 -- all calls only commands and exits do either, which their class, driver and number show.
-use Rattle.std.proofs.Common.{◌≡◌, ℕ, zero, suc, ◌==◌, ◌&&◌, Bool, true, false, cond, not, nat_lt, List, []}
-use Rattle.std.proofs.Common.{Option, None, Some, slice_index, refl, ap, ap₂, sym}
-use Rattle.std.proofs.Common.{is_none, subst, ◌∙◌, arith, eqb-true}
+use Rattle.std.proofs.Common.{◌≡◌, ℕ, zero, suc, ◌==◌, ◌&&◌, Bool, true, false, not, nat_lt, List, []}
+use Rattle.std.proofs.Common.{Option, None, Some, refl, ap, sym}
+use Rattle.std.proofs.Common.{subst, ◌∙◌, arith, eqb-true}
 use Rattle.std.proofs.lemmas.Bool.{false≢true}
 use Rattle.std.proofs.lemmas.Bool.Decides.{nat_tests}
 use Rattle.tk_base.specs.Regs.{Registers}
 use Rattle.tk_base.specs.declared.access.Denial.{Denial}
-use Rattle.tk_base.specs.declared.call.CallRule.{CallRule}
 use Rattle.grant_values.specs.Drivers.{drivers}
-use Rattle.rv32_model.specs.declared.turn_end.TurnEnd.TheVariants as ends
 use Rattle.syscall_abi.specs.declared.form.CallForm.{CallForm}
 use Rattle.syscall_abi.specs.declared.form.CallForm.TheVariants as forms
 use Rattle.syscall_abi.specs.declared.reply.Reply.{Reply}
-use Rattle.syscall_abi.specs.Call.{a0, a1, call_of, class}
+use Rattle.syscall_abi.specs.Call.{call_of, class}
 use Rattle.process_model.specs.Own.{Own}
 use Rattle.driver_model.specs.Steps.{own_after}
 use Rattle.grant_model.specs.Grants.{Grant}
@@ -32,7 +30,6 @@ use Rattle.kernel_model.specs.Calls.{served}
 use Rattle.kernel_model.specs.Parts.{commanded}
 use Rattle.kernel_model.specs.Calls.{yielding}
 use Rattle.kernel_model.specs.Turn.{Turned, made, rule_shown, surroundings}
-use Rattle.kernel_model.specs.Parts.{calls}
 use Rattle.kernel_model.specs.Turn.{turn_counted, turned}
 use Rattle.kernel_model.proofs.Calling.{of_commanded, of_served}
 use Rattle.kernel_model.proofs.Classes.{IsCommand, made_as}
@@ -64,18 +61,11 @@ alarm_kept own o same = (ap (λ (gs : List Grant). alarm_in (record own { grants
 -- a command that acts, and one that arms, as its turn shows it
 command_acts : (regs : Registers) (driver number : ℕ) (reply : Reply) → IsCommand regs driver number
     → may_act (made regs (Replied reply None)) ≡ not (only_asks driver number)
-command_acts regs driver number reply is =
-    ap (λ (c : ℕ). cond (c == 2) (not (only_asks (a0 regs) (a1 regs))) (c == 6)) is.class_is
-    ∙ ap (λ (d : ℕ). not (only_asks d (a1 regs))) is.driver_is
-    ∙ ap (λ (n : ℕ). not (only_asks driver n)) is.number_is
+command_acts regs driver number reply is = rw (is.class_is, is.driver_is, is.number_is) refl
 
 command_arms : (regs : Registers) (driver number : ℕ) (reply : Reply) → IsCommand regs driver number
     → may_arm (made regs (Replied reply None)) ≡ (not (only_asks driver number) && driver == alarm_driver)
-command_arms regs driver number reply is =
-    ap (λ (b : Bool). b && cond (class regs == 2) (a0 regs == alarm_driver) true)
-    (command_acts regs driver number reply is)
-    ∙ ap (λ (c : ℕ). not (only_asks driver number) && cond (c == 2) (a0 regs == alarm_driver) true) is.class_is
-    ∙ ap (λ (d : ℕ). not (only_asks driver number) && d == alarm_driver) is.driver_is
+command_arms regs driver number reply is = rw (is.class_is, is.driver_is, is.number_is) refl
 
 -- a command leaves the alarm, and asks nothing of the board
 abbrev IsNoted : Own → Commanded → Type 0
@@ -138,34 +128,14 @@ module _ (law : RefusedByAnyDriver) (around : CommandContext) (r : Record) where
       })
       (λ rule answers.
       let refuses = law driver taker around number b2 b3 r.own rule is answers in
-      leaves r _ (ap (λ (c : Commanded). c.acts) refuses)
-      (subst (λ (c : Commanded). HasSameAlarm r.own (own_after c.step)) (sym refuses) (same_alarm r.own)))
+      rw refuses (leaves r _ refl (same_alarm r.own)))
 
   -- an exit that is not refused may act, and change an alarm
-  of_end_of_life : (s : Served) → may_act (made r.process.regs s.outcome) ≡ true
-      → may_arm (made r.process.regs s.outcome) ≡ true → Leaves r s
-  of_end_of_life s acts arms = record {
-    asks_nothing = λ quiet. absurd (false≢true (sym quiet ∙ acts));
-    same = λ quiet. absurd (false≢true (sym quiet ∙ arms));
-  }
-
   ends_life : (s : Served) → rule_shown s.outcome ≡ None → class r.process.regs ≡ 6 → Leaves r s
-  ends_life s none six = of_end_of_life s acts arms
-    where
-      asks : Bool
-      asks = only_asks (a0 r.process.regs) (a1 r.process.regs)
-
-      acts : (is_none (rule_shown s.outcome)
-          && cond (class r.process.regs == 2) (not asks) (class r.process.regs == 6)) ≡ true
-      acts =
-          ap₂ (λ (o : Option CallRule) (c : ℕ). is_none o && cond (c == 2) (not asks) (c == 6)) none six
-
-      arms : ((is_none (rule_shown s.outcome)
-          && cond (class r.process.regs == 2) (not asks) (class r.process.regs == 6))
-          && cond (class r.process.regs == 2) (a0 r.process.regs == alarm_driver) true) ≡ true
-      arms =
-          ap₂ (λ (o : Option CallRule) (c : ℕ). (is_none o && cond (c == 2) (not asks) (c == 6))
-          && cond (c == 2) (a0 r.process.regs == alarm_driver) true) none six
+  ends_life s none six = record {
+    asks_nothing = λ quiet. absurd (false≢true (sym quiet ∙ rw (none, six) refl));
+    same = λ quiet. absurd (false≢true (sym quiet ∙ rw (none, six) refl));
+  }
 
   of_call : (strict : Bool) (call : CallForm) → call_of r.process.regs ≡ Some call
       → Leaves r (served strict around r call)
@@ -222,8 +192,7 @@ not_armed : (call : Option CallMade) (denial : Option Denial) → may_have_acted
     → may_have_armed call denial ≡ false
 not_armed call (Some why) e = e
 not_armed None None e = refl
-not_armed (Some made) None e =
-    ap (λ (b : Bool). b && cond (made.class == 2) (slice_index made.args 0 == alarm_driver) true) e
+not_armed (Some made) None e = rw e refl
 
 pub quiet_turns_leave_alarms : RefusedByAnyDriver → QuietTurnsLeaveAlarms
 quiet_turns_leave_alarms law settings time r shown =

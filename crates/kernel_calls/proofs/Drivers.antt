@@ -1,5 +1,5 @@
 -- What serving a call comes to, where it is for no driver to answer.
-use Rattle.std.proofs.Common.{◌≡◌, ℕ, Bool, true, false, not, ◌&&◌, if◌then◌else◌, List, [], Option, None, Some}
+use Rattle.std.proofs.Common.{◌≡◌, ℕ, Bool, true, false, not, ◌&&◌, List, [], Option, None, Some}
 use Rattle.std.proofs.Common.{is_some, refl, sym, ap, ◌∙◌}
 use Rattle.tk_base.specs.declared.call.CallRule.TheVariants.{NoDriver, Permission}
 use Rattle.syscall_abi.specs.declared.form.CallForm.{CallForm}
@@ -9,8 +9,7 @@ use Rattle.syscall_filter.specs.Permission.{permitted}
 use Rattle.syscall_filter.proofs.Unlisted.{without_list}
 use Rattle.syscall_abi.specs.declared.reply.Reply.{Reply}
 use Rattle.process_record.specs.declared.outcome.Outcome.{Outcome}
-use Rattle.process_record.specs.declared.outcome.Outcome.TheVariants.{Replied, ToDriver, Waits, Delivered, GoesOn}
-use Rattle.process_record.specs.declared.outcome.Outcome.TheVariants.{Ended, Again}
+use Rattle.process_record.specs.declared.outcome.Outcome.TheVariants.{ToDriver}
 use Rattle.driver_model.specs.Drivers.{CommandContext, CommandHandler, handler_of}
 use Rattle.kernel_model.specs.Record.{Record}
 use Rattle.kernel_model.specs.Calls.{Served, by_form, failure_of, refused, refused_with, served}
@@ -51,12 +50,7 @@ comes_so law strict old new call ToDriver free comes =
 
     nothing : CommandContext
     nothing = record { now = 0; leds = 0; buttons = 0; pressed = 0; storage = 0 }
-comes_so law strict old new call (Replied reply rule) free comes = record { not_for_driver = free; comes = comes }
-comes_so law strict old new call Waits free comes = record { not_for_driver = free; comes = comes }
-comes_so law strict old new call Delivered free comes = record { not_for_driver = free; comes = comes }
-comes_so law strict old new call GoesOn free comes = record { not_for_driver = free; comes = comes }
-comes_so law strict old new call Ended free comes = record { not_for_driver = free; comes = comes }
-comes_so law strict old new call Again free comes = record { not_for_driver = free; comes = comes }
+comes_so law strict old new call other free comes = record { not_for_driver = free; comes = comes }
 
 -- a call that is not permitted
 pub not_permitted : (law : NoneIsLeft) (strict : Bool) (old new : Called) (call : CallForm) (o : Outcome)
@@ -67,10 +61,7 @@ unfolding served
 not_permitted law strict old new call o failure forbidden is refuses =
     comes_so law strict old new call o (ap (λ (b : Bool). b && is_taken call) forbidden)
     (λ around beside. let r = record_of old beside in
-    ap (λ (b : Bool). if b then by_form around r call else refused_with r Permission (failure_of call Permission))
-    forbidden
-    ∙ ap (refused_with r Permission) (sym is)
-    ∙ refuses beside)
+    rw (forbidden, ← is) (refuses beside))
 
 -- one that is, of a form that is for no driver to answer
 pub permitted_so : (law : NoneIsLeft) (strict : Bool) (old new : Called) (call form : CallForm) (o : Outcome)
@@ -81,7 +72,4 @@ unfolding served
 permitted_so law strict old new call form o is permitted free comes =
     comes_so law strict old new call o (ap (λ (b : Bool). b && is_taken call) permitted ∙ ap is_taken (sym is) ∙ free)
     (λ around beside. let r = record_of old beside in
-    ap (λ (b : Bool). if b then by_form around r call else refused_with r Permission (failure_of call Permission))
-    permitted
-    ∙ ap (by_form around r) (sym is)
-    ∙ comes around beside)
+    rw (permitted, ← is) (comes around beside))

@@ -1,7 +1,7 @@
 -- What is lent keeps its place, and comes back in its place. The place says where the block lies and what RAM stands
 -- before and behind it; where it is the same the change was in the block alone (`comes_back` makes `Reseats` of it), so
 -- one call after another is lent the same, and what contracts see is the new own.
-use Rattle.std.proofs.Common.{◌≡◌, ℕ, ◌+◌, ◌-◌, ◌<◌, ◌≤◌, ◌⊎◌, inl, inr, List, length, slice_index, sym, ap, ap₂, subst}
+use Rattle.std.proofs.Common.{◌≡◌, ℕ, ◌+◌, ◌-◌, ◌<◌, ◌≤◌, ◌⊎◌, inl, inr, List, length, slice_index, sym, ap, ap₂}
 use Rattle.std.proofs.Common.{◌∙◌, arith, rules}
 use Rattle.std.specs.Prelude.{slice_range, OnOk, OnErr}
 use Rattle.std.proofs.lemmas.Bool.{cases_lt}
@@ -79,16 +79,11 @@ comes_back m seat m' seat' flash same sits = record {
 
     before : slice_range m'.ram 0 (seat.layout.start - RAM_START)
         ≡ slice_range m.ram 0 (seat.layout.start - RAM_START)
-    before = subst (λ (n : ℕ). slice_range m'.ram 0 (n - RAM_START)
-        ≡ slice_range m.ram 0 (seat.layout.start - RAM_START)) start (ap (λ (p : Place). p.before) same)
+    before = rw start at (ap (λ (p : Place). p.before) same)
 
     behind : slice_range m'.ram (seat.layout.end - RAM_START) (length m.ram)
         ≡ slice_range m.ram (seat.layout.end - RAM_START) (length m.ram)
-    behind = subst (λ (n : ℕ). slice_range m'.ram (n - RAM_START) (length m.ram)
-        ≡ slice_range m.ram (seat.layout.end - RAM_START) (length m.ram)) end
-        (subst (λ (n : ℕ). slice_range m'.ram (seat'.layout.end - RAM_START) n
-        ≡ slice_range m.ram (seat.layout.end - RAM_START) (length m.ram)) long
-        (ap (λ (p : Place). p.behind) same))
+    behind = rw (long, end) at (ap (λ (p : Place). p.behind) same)
 
     by_end : (k : ℕ) → seat.layout.end - RAM_START ≤ k → (k < length m.ram) ⊎ (length m.ram ≤ k)
         → slice_index m'.ram k ≡ slice_index m.ram k
@@ -125,12 +120,7 @@ pub shows_both : (k : Inside) (old : Called) (m' : MemoryBytes) (seat' : Seat) (
       loan = record (called k).loan { place = place_in m' seat' };
     } ≡ record old { process = q; own = f old.own }
 shows_both k old m' seat' q f is r made =
-    subst (λ (o : Called). record {
-      flash = m'.flash;
-      process = q;
-      own = own_in m'.ram seat';
-      loan = record (called k).loan { place = place_in m' seat' };
-    } ≡ record o { process = q; own = f o.own }) is
+    rw (← is)
     (ap₂ (λ (flash : List ℕ) (own : Own). record {
       flash = flash;
       process = q;
@@ -179,12 +169,7 @@ still_owned : (flash : List ℕ) (p : Process) (own : Own) (b m : ℕ) → IsOwn
     → IsOwn flash p (record own { layout = record own.layout { brk = b; mark = m } })
 still_owned flash p own b m is = record {
   object = record {
-    lies = record {
-      from = is.object.lies.from;
-      to = is.object.lies.to;
-      accessible_from = is.object.lies.accessible_from;
-      accessible_to = is.object.lies.accessible_to;
-    };
+    lies = let lies = is.object.lies in search (rules, lies);
     application = still_starts p.object.address own.layout b m (header_reading (object_in flash p.object))
         is.object.application;
   };
@@ -197,7 +182,6 @@ pub break_owned : (flash : List ℕ) (p : Process) (ram : List ℕ) (seat : Seat
     → OnTrue moved (e ≡ record seat.layout { brk = rounded_up new }) → OnFalse moved (e ≡ seat.layout)
     → IsOwn flash p (own_in ram seat) → IsOwn flash p (own_in ram (record seat { layout = e }))
 break_owned flash p ram seat new e true was kept is =
-    subst (λ (x : LayoutView). IsOwn flash p (own_in ram (record seat { layout = x }))) (sym was)
-    (still_owned flash p (own_in ram seat) (rounded_up new) seat.layout.mark is)
+    rw was (still_owned flash p (own_in ram seat) (rounded_up new) seat.layout.mark is)
 break_owned flash p ram seat new e false was kept is =
-    subst (λ (x : LayoutView). IsOwn flash p (own_in ram (record seat { layout = x }))) (sym kept) is
+    rw kept is

@@ -8,10 +8,10 @@ use Rattle.std.specs.List.{zip}
 pub zip-set : {X Y : Type 0} (xs : List X) (ys : List Y) (i : ℕ) (x : X) (y : Y)
     → zip (slice_set xs i x) (slice_set ys i y) ≡ slice_set (zip xs ys) i (x, y)
 zip-set [] ys i x y = refl
+zip-set (a ∷ xs) (b ∷ ys) (suc i) x y = ap (λ zs. (a, b) ∷ zs) (zip-set xs ys i x y)
 zip-set (a ∷ xs) [] zero x y = refl
 zip-set (a ∷ xs) [] (suc i) x y = refl
 zip-set (a ∷ xs) (b ∷ ys) zero x y = refl
-zip-set (a ∷ xs) (b ∷ ys) (suc i) x y = ap (λ zs. (a, b) ∷ zs) (zip-set xs ys i x y)
 
 -- the pair at a place
 pub zip-get : {X Y : Type 0} (xs : List X) (ys : List Y) (i : ℕ) (x : X) (y : Y) → slice_get xs i ≡ Some x

@@ -1,12 +1,10 @@
 -- A process that starts again, and records that keep their object.
-use Rattle.std.proofs.Common.{◌≡◌, ◌≢◌, ℕ, List, refl, subst, ap, ap₂, sym, ◌∙◌, arith}
+use Rattle.std.proofs.Common.{◌≡◌, ◌≢◌, ℕ, List, refl, subst, ap, sym, ◌∙◌, arith}
 use Rattle.std.proofs.lemmas.Bool.Decides.{nat_tests}
 use Rattle.tk_base.specs.Regs.{Registers}
 use Rattle.tk_base.specs.declared.call.CallRule.TheVariants.{NoOperation}
-use Rattle.process_layout.specs.LayoutView.{first_break}
 use Rattle.process_model.specs.Own.{Own, own_restarted}
 use Rattle.process_record.specs.Process.{restarted_with_regs}
-use Rattle.process_model.specs.declared.place.Object.{Object}
 use Rattle.process_record.specs.declared.outcome.Outcome.{Outcome}
 use Rattle.process_record.specs.declared.process.Process.{Process}
 use Rattle.kernel_model.specs.Record.{Record}
@@ -23,13 +21,7 @@ use Rattle.kernel_calls.specs.Outcomes.{acts_for, ServingComesTo}
 pub of_object : (flash : List ℕ) (p q : Process) (own : Own) (beside : Beside) → q.object ≡ p.object
     → with_process (record_in flash p own beside) q ≡ record_in flash q own beside
 of_object flash p q own beside same =
-    ap (λ (x : Object). record {
-      process = q;
-      object = object_in flash x;
-      own = own;
-      storage = beside.storage;
-      pressed = beside.pressed;
-    }) (sym same)
+    rw same refl
 
 -- what a call comes to that changes the process alone, and not its object
 pub made_so : (f : Record → Served) (old : Called) (flash : List ℕ) (p q : Process) (own : Own) (beside : Beside)
@@ -66,20 +58,4 @@ pub starts_again : (flash : List ℕ) (p q : Process) (own own_after : Own) (bes
 unfolding restart
 starts_again flash p q own own_after beside k =
     let r = record_in flash p own beside in
-    let first = first_break own.layout.start k.m.minimum_ram in
-    ap (λ (o : Object). record {
-      process = q;
-      object = object_in flash o;
-      own = own_after;
-      storage = beside.storage;
-      pressed = beside.pressed;
-    })
-    (ap (λ (x : Process). x.object) k.process)
-    ∙ ap₂ (λ (x : Process) (o : Own). record {
-      process = x;
-      object = object_in flash p.object;
-      own = o;
-      storage = beside.storage;
-      pressed = beside.pressed;
-    }) k.process k.own
-    ∙ sym (ap (restarted_by r) k.read ∙ ap (restarted_main r k.h) k.main)
+    rw (k.process, k.own) refl ∙ sym (ap (restarted_by r) k.read ∙ ap (restarted_main r k.h) k.main)

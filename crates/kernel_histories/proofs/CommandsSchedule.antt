@@ -1,39 +1,38 @@
 -- What a command schedules, which its driver, its number and its answer tell: upcall 2 of the console, where it cancels
 -- a read, and nothing else; by the rows of each driver's table.
 use Rattle.std.proofs.Math.Bool.{and-false}
-use Rattle.std.proofs.Common.{◌≡◌, ℕ, ◌+◌, ◌==◌, ◌&&◌, nat_le, nat_lt, Bool, true, false, cond, List, [], ◌∷◌, find}
-use Rattle.std.proofs.Common.{Option, None, Some, is_some, Ok, unwrap_or, refl, sym, ap, subst, ◌∙◌, eqb-true}
+use Rattle.std.proofs.Common.{◌≡◌, ℕ, ◌+◌, ◌==◌, ◌&&◌, nat_le, nat_lt, Bool, true, false, cond, List, [], ◌∷◌}
+use Rattle.std.proofs.Common.{Option, None, Some, is_some, refl, ap, subst, eqb-true}
 use Rattle.std.specs.Prelude.{is_none}
-use Rattle.std.specs.Option.{option_map}
 use Rattle.std.specs.Result.{result_err}
-use Rattle.tk_base.specs.declared.call.CallRule.TheVariants.{Busy, Empty, NoCommand, NoRoom}
+use Rattle.tk_base.specs.declared.call.CallRule.TheVariants.{Empty, NoCommand}
 use Rattle.tk_base.specs.declared.kinds.PairKind.TheVariants.{Upcall}
 use Rattle.tk_base.specs.declared.upcall.Upcall.{Upcall as Scheduled}
 use Rattle.syscall_abi.specs.declared.reply.Reply.TheVariants.{Success}
 use Rattle.grant_values.specs.declared.alarm.Armed.{Armed}
 use Rattle.grant_values.specs.declared.console.WaitingRead.{WaitingRead}
-use Rattle.grant_values.specs.declared.console.WaitingWrite.{WaitingWrite}
 use Rattle.grant_values.specs.declared.drivers.Driver.{Driver}
 use Rattle.grant_values.specs.declared.drivers.Driver.TheVariants.{Alarm, Buttons, Console, Leds, Random, Storage}
 use Rattle.grant_values.specs.declared.storage.StorageRequest.{StorageRequest}
 use Rattle.grant_values.specs.Drivers.{number_of_driver}
 use Rattle.process_model.specs.Own.{Own}
-use Rattle.process_model.specs.Handed.{has_place, own_entering}
+use Rattle.process_model.specs.Handed.{has_place}
 use Rattle.process_model.specs.Pairs.{OnlyHandingChangesPairs}
-use Rattle.process_model.specs.Served.{ScheduledUpcall, upcall_of}
+use Rattle.process_model.specs.Served.{upcall_of}
 use Rattle.driver_model.specs.Alarm as alarm
 use Rattle.driver_model.specs.Buttons as buttons
-use Rattle.driver_model.specs.Commands.{Commanded, Switch, Waits, accepting, by_number, refusing}
+use Rattle.driver_model.specs.Commands.{Commanded, Switch, accepting, by_number, refusing}
 use Rattle.driver_model.specs.Console as console
 use Rattle.driver_model.specs.Console.{cancelling, console_reads, console_writes}
 use Rattle.driver_model.specs.Drivers.{CommandContext, CommandHandler, handler_by, handler_of}
 use Rattle.driver_model.specs.Leds as leds
 use Rattle.driver_model.specs.Random as random
 use Rattle.driver_model.specs.Requests.{RequestKind, asking, request_in, with_request}
-use Rattle.driver_model.specs.Steps.{silently}
 use Rattle.driver_model.specs.Storage as storage
 use Rattle.kernel_laws.specs.Scheduled.{scheduled_by}
 use Rattle.kernel_model.proofs.Commands.{handled}
+use Rattle.std.proofs.lemmas.Bool.{cases_Bool}
+use Rattle.std.proofs.Common.{inl, inr}
 
 -- what holds of each row of a table, by its number, holds of what comes of a command
 module _ (own : Own) (number : ℕ) (P : Commanded → Type 0) (none : P (refusing NoCommand own)) where
@@ -43,13 +42,11 @@ module _ (own : Own) (number : ℕ) (P : Commanded → Type 0) (none : P (refusi
 
   found : (rows : List (ℕ × Commanded)) → EachRow rows → P (by_number (λ o. rows) number own)
   found [] each = none
-  found (row ∷ rows) each = by_row (row.0 == number) refl (found rows each.1)
-    where
-      by_row : (b : Bool) → (row.0 == number) ≡ b → P (by_number (λ o. rows) number own)
-          → P (unwrap_or (option_map (λ (r : ℕ × Commanded). r.1)
-          (cond b (Some row) (find (λ (r : ℕ × Commanded). r.0 == number) rows))) (refusing NoCommand own))
-      by_row true is later = each.0 is
-      by_row false is later = later
+  found (row ∷ rows) each =
+      elim (cases_Bool (row.0 == number)) [
+        | inl is ↦ rw is (each.0 is)
+        | inr is ↦ rw is (found rows each.1)
+      ]
 
 -- a command that schedules nothing
 abbrev IsSilent : Commanded → Type 0
@@ -65,12 +62,8 @@ cancelled own = upcall_of 0x1 2 (8 ∷ 0 ∷ 0 ∷ []) own
 
 module _ (own : Own) where
   asking_silent : {R : Type 0} (kind : RequestKind R) (request : R) → IsSilent (asking kind request own)
-  asking_silent {R} kind request =
-      if_silent (is_some (request_in kind own)) (refusing Busy own) (cond (has_place kind.driver own) (record {
-        answer = Ok Success;
-        step = silently (with_request kind (Some request) (own_entering kind.driver own));
-        acts = Waits kind.line ∷ [];
-      }) (refusing NoRoom own)) refl (if_silent (has_place kind.driver own) _ _ refl refl)
+  asking_silent kind request =
+      if_silent (is_some (request_in kind own)) _ _ refl (if_silent (has_place kind.driver own) _ _ refl refl)
 
   stopping_silent : (armed : Option Armed) → IsSilent (alarm.stopping armed own)
   stopping_silent None = refl
@@ -142,21 +135,19 @@ Schedules own driver number c =
 
 silent : (own : Own) (driver number : ℕ) (c : Commanded) → (driver == 0x1 && number == 3) ≡ false → IsSilent c
     → Schedules own driver number c
-silent own driver number c apart none =
-    ap (option_map (λ (u : ScheduledUpcall). upcall_of u.driver u.number u.args c.step.own)) none
-    ∙ sym (ap (λ (b : Bool). cond (is_none (result_err c.answer) && b) (Some (cancelled own)) None) apart
-    ∙ ap (λ (b : Bool). cond b (Some (cancelled own)) None) (and-false (is_none (result_err c.answer))))
+silent own driver number c apart none = rw (none, apart, and-false (is_none (result_err c.answer))) refl
 
 module _ (law : OnlyHandingChangesPairs) (own : Own) (number : ℕ) where
   row : (n : ℕ) (c : Commanded) → (n == 3) ≡ false → IsSilent c → (n == number) ≡ true → Schedules own 0x1 number c
-  row n c apart none is = silent own 0x1 number c (ap (λ (k : ℕ). k == 3) (sym (eqb-true n number is)) ∙ apart) none
+  row n c apart none is = silent own 0x1 number c (rw (← eqb-true n number is) apart) none
 
-  cancels : (read : Option WaitingRead) → (number == 3) ≡ true → Schedules own 0x1 number (cancelling read own)
+  cancels : (read : Option WaitingRead) → (3 == number) ≡ true → Schedules own 0x1 number (cancelling read own)
   cancels None is = refl
   cancels (Some read) is =
-      ap (λ (pair : ℕ × ℕ). Some (record (cancelled own) { function = pair.0; app = pair.1 }))
-      (law.held own (with_request console_reads None own) (law.keeping 0x1 _ own) Upcall 0x1 2)
-      ∙ sym (ap (λ (b : Bool). cond b (Some (cancelled own)) None) is)
+      rw (← eqb-true 3 number is) (ap (λ (pair : ℕ × ℕ). Some (record (cancelled own) {
+        function = pair.0;
+        app = pair.1;
+      })) (law.held own (with_request console_reads None own) (law.keeping 0x1 _ own) Upcall 0x1 2))
 
   of_console : (count : ℕ) → Schedules own 0x1 number (by_number (console.commands count) number own)
   unfolding console.commands
@@ -164,20 +155,15 @@ module _ (law : OnlyHandingChangesPairs) (own : Own) (number : ℕ) where
       found own number (Schedules own 0x1 number) refl (console.commands count own) (
         row 0 (accepting Success own) refl refl,
         (
-          row 1 (asking console_writes writes own) refl (asking_silent own console_writes writes),
+          row 1 (asking console_writes (record { length = count; taken = 0 }) own) refl
+              (asking_silent own console_writes _),
           (
-            row 2 (cond (count == 0) (refusing Empty own) (asking console_reads reads own)) refl
-                (if_silent (count == 0) (refusing Empty own) _ refl (asking_silent own console_reads reads)),
-            (λ is. cancels (request_in console_reads own) (ap (λ (k : ℕ). k == 3) (sym (eqb-true 3 number is))), tt),
+            row 2 (cond (count == 0) (refusing Empty own) (asking console_reads (record { length = count }) own)) refl
+                (if_silent (count == 0) _ _ refl (asking_silent own console_reads _)),
+            (cancels (request_in console_reads own), tt),
           ),
         ),
       )
-    where
-      writes : WaitingWrite
-      writes = record { length = count; taken = 0 }
-
-      reads : WaitingRead
-      reads = record { length = count }
 
   module _ (around : CommandContext) (x y : ℕ) where
     of_driver : (d : Driver) → Schedules own (number_of_driver d) number (handler_by d around number x y own)

@@ -1,11 +1,12 @@
 -- How many upcalls are dropped adds up over any choices.
-use Rattle.std.proofs.Common.{◌≡◌, ℕ, ◌+◌, ◌==◌, Bool, true, false, not, ◌&&◌, cond, List, [], ◌∷◌, ◌++◌}
+use Rattle.std.proofs.Common.{◌≡◌, ℕ, ◌+◌, ◌==◌, List, [], ◌∷◌}
 use Rattle.std.proofs.Common.{slice_get, Option, None, Some, refl, sym, ap, ◌∙◌, arith}
 use Rattle.std.specs.Prelude.{unwrap_or}
+use Rattle.std.proofs.lemmas.Bool.{cases_Bool}
+use Rattle.std.proofs.Common.{inl, inr}
 use Rattle.std.specs.Option.{option_map}
 use Rattle.tk_base.specs.declared.process.Choice.{Choice}
 use Rattle.tk_base.specs.declared.upcall.Upcall.{Upcall as Scheduled}
-use Rattle.tk_base.specs.declared.upcall.Wait.TheVariants.{Given}
 use Rattle.rv32_model.specs.Laws.{CallsAreOfEcall}
 use Rattle.upcall_queue.specs.declared.inbox.Inbox.{Inbox}
 use Rattle.upcall_queue.specs.Pending.{awaits, has_room, scheduled}
@@ -15,12 +16,11 @@ use Rattle.kernel_model.specs.Record.{Record}
 use Rattle.kernel_model.specs.declared.settings.Settings.{Settings}
 use Rattle.kernel_model.specs.Edges.{IsThenScheduled}
 use Rattle.kernel_model.specs.Laws.{OnlyItsOwnEvents}
-use Rattle.kernel_model.specs.Turn.{Event, Turn, Alarmed, Edge, Taken, WriteDone, Input, Word, NoWord, Stored, Act}
+use Rattle.kernel_model.specs.Turn.{Event, Turn, Act}
 use Rattle.kernel_model.specs.Turn.{apply}
 use Rattle.kernel_model.specs.World.{Answer, World, after}
 use Rattle.kernel_model.specs.Parts.{happens}
 use Rattle.kernel_model.specs.Replay.{after_all}
-use Rattle.kernel_model.proofs.Steps.{IsAnswer}
 use Rattle.kernel_laws.specs.Scheduled.{answer_schedules, answer_step, event_schedules, step_schedules}
 use Rattle.kernel_laws.specs.Scheduled.{upcall_told}
 use Rattle.kernel_laws.proofs.EdgeSteps.{answer_leaves, step_happens}
@@ -31,17 +31,17 @@ use Rattle.kernel_histories.specs.Drops.{DropsAddUp, drops_by, drops_in, drops_o
 -- an upcall is counted where it is dropped
 counts_drop : (u : Scheduled) (inbox : Inbox)
     → (scheduled u inbox).dropped ≡ inbox.dropped + drops_by (Some u) inbox
-counts_drop u inbox = by_test_of (awaits inbox.wait u) (u.function == 0) (has_room inbox.pending)
-  where
-    by_test_of : (awaited null room : Bool)
-        → (cond awaited (record inbox { wait = Given u.args }) (cond null inbox
-        (cond room (record inbox { pending = inbox.pending ++ u ∷ [] })
-        (record inbox { dropped = inbox.dropped + 1 })))).dropped
-        ≡ inbox.dropped + cond (not awaited && (not null && not room)) 1 0
-    by_test_of true null room = omega arith
-    by_test_of false true room = omega arith
-    by_test_of false false true = omega arith
-    by_test_of false false false = refl
+counts_drop u inbox =
+    elim (cases_Bool (awaits inbox.wait u)) [
+      | inl e ↦ rw e (omega arith)
+      | inr e ↦ rw e (elim (cases_Bool (u.function == 0)) [
+        | inl null ↦ rw null (omega arith)
+        | inr null ↦ rw null (elim (cases_Bool (has_room inbox.pending)) [
+          | inl room ↦ rw room (omega arith)
+          | inr full ↦ rw full refl
+        ])
+      ])
+    ]
 
 -- so is what is scheduled at once, where else none more is counted
 counts_drops : (upcall : Option Scheduled) (before later : Inbox) → IsThenScheduled upcall before later
@@ -54,24 +54,13 @@ counts_drops (Some u) before later leaves whole = ap (λ (i : Inbox). i.dropped)
 module _ (law : DriversScheduleTheirOwn) (refuse : RefusedByAnyDriver) (of_ecall : CallsAreOfEcall)
     (only : OnlyItsOwnEvents) where
   -- what happens to a process schedules at once
-  told_at_once : (settings : Settings) (event : Event) (r : Record) → IsAnswer event
-      → AtOnce (upcall_told event r) r.own.inbox (apply settings event r).own.inbox
-  told_at_once settings event r is =
-      at_once (upcall_told event r) r.own.inbox (apply settings event r).own.inbox (told_inbox settings event r is)
-
   event_at_once : (settings : Settings) (event : Event) (r : Record)
       → AtOnce (event_schedules settings event r) r.own.inbox (apply settings event r).own.inbox
   unfolding apply answer_step
   event_at_once settings (Turn time) r = (turn_leaves refuse of_ecall settings time r).whole
-  event_at_once settings (Alarmed now) r = told_at_once settings (Alarmed now) r refl
-  event_at_once settings (Edge button pressed) r = told_at_once settings (Edge button pressed) r refl
-  event_at_once settings Taken r = told_at_once settings Taken r refl
-  event_at_once settings WriteDone r = told_at_once settings WriteDone r refl
-  event_at_once settings (Input bytes) r = told_at_once settings (Input bytes) r refl
-  event_at_once settings (Word word) r = told_at_once settings (Word word) r refl
-  event_at_once settings NoWord r = told_at_once settings NoWord r refl
-  event_at_once settings (Stored moved) r = told_at_once settings (Stored moved) r refl
   event_at_once settings (Act verb) r = tt
+  event_at_once settings event r =
+      at_once (upcall_told event r) r.own.inbox (apply settings event r).own.inbox (told_inbox settings event r refl)
 
   happens_at_once : (settings : Settings) (told : Option Answer) (r : Record)
       → AtOnce (answer_schedules settings told r) r.own.inbox (happens settings told r).own.inbox

@@ -1,19 +1,19 @@
 -- Each edge of a button schedules one upcall for a process that is told of it, in every run. One step schedules a value
 -- (`step_schedules`), of which those of edges are exactly the edge that the process hears (`step_happens`); in a run
 -- they follow one another, by induction on the choices.
-use Rattle.std.proofs.Common.{◌≡◌, ℕ, Bool, true, false, cond, List, [], ◌∷◌, ◌++◌, filter, slice_get, Option, None}
+use Rattle.std.proofs.Common.{◌≡◌, ℕ, Bool, false, cond, List, [], ◌∷◌, ◌++◌, filter, slice_get, Option, None}
 use Rattle.std.proofs.Common.{Some}
-use Rattle.std.proofs.Common.{◌+◌, ◌==◌, IfSome, refl, sym, ap, subst, ◌∙◌, eq-eqb}
+use Rattle.std.proofs.Common.{IfSome, refl, ap, ◌∙◌, eq-eqb}
 use Rattle.std.specs.Prelude.{option_and_then}
 use Rattle.std.specs.List.{cons_option}
 use Rattle.std.specs.Option.{option_map}
-use Rattle.std.proofs.lemmas.Bool.{false≢true}
+use Rattle.std.proofs.lemmas.Bool.{cases_Bool}
+use Rattle.std.proofs.Common.{inl, inr}
 use Rattle.tk_base.specs.declared.process.Choice.{Choice}
 use Rattle.tk_base.specs.declared.upcall.Upcall.{Upcall as Scheduled}
-use Rattle.tk_base.specs.declared.upcall.Wait.TheVariants.{Given}
 use Rattle.rv32_model.specs.Laws.{CallsAreOfEcall}
 use Rattle.upcall_queue.specs.declared.inbox.Inbox.{Inbox}
-use Rattle.upcall_queue.specs.Pending.{awaits, has_room, scheduled}
+use Rattle.upcall_queue.specs.Pending.{awaits, scheduled}
 use Rattle.process_model.specs.Own.{Own}
 use Rattle.driver_model.specs.Laws.{RefusedByAnyDriver}
 use Rattle.driver_model.specs.Upcalls.{DriversScheduleTheirOwn}
@@ -53,43 +53,31 @@ told_in slot w choice = cond (is_ready w choice) (answer_by w choice slot) None
 
 pub step_told : (slot : ℕ) (w : World) (choice : Choice) (o : Option Record) → slice_get w.records slot ≡ o
     → step_schedules slot w choice ≡ option_and_then (answer_schedules w.settings (told_in slot w choice)) o
-step_told slot w choice o there = by_ready (is_ready w choice)
+step_told slot w choice o there =
+    elim (cases_Bool (is_ready w choice)) [
+      | inl e ↦ rw (e, there) refl
+      | inr e ↦ rw e (nothing o)
+    ]
   where
     nothing : (x : Option Record) → ◌≡◌ {A = Option Scheduled} None
         (option_and_then (answer_schedules w.settings None) x)
     nothing None = refl
     nothing (Some r) = refl
 
-    by_ready : (b : Bool)
-        → cond b (option_and_then (answer_schedules w.settings (answer_by w choice slot))
-        (slice_get w.records slot)) None
-        ≡ option_and_then (answer_schedules w.settings (cond b (answer_by w choice slot) None)) o
-    by_ready true = ap (option_and_then (answer_schedules w.settings (answer_by w choice slot))) there
-    by_ready false = nothing o
-
 -- a null upcall for which the process does not wait changes nothing
 null_changes_nothing : (u : Scheduled) (before : Inbox) → awaits before.wait u ≡ false → u.function ≡ 0
     → scheduled u before ≡ before
-null_changes_nothing u before unawaited null =
-    by_test_of (awaits before.wait u) (u.function == 0) unawaited (eq-eqb u.function 0 null)
-  where
-    by_test_of : (awaited null : Bool) → awaited ≡ false → null ≡ true
-        → cond awaited (record before { wait = Given u.args }) (cond null before
-        (cond (has_room before.pending) (record before { pending = before.pending ++ u ∷ [] })
-        (record before { dropped = before.dropped + 1 }))) ≡ before
-    by_test_of true null e f = absurd (false≢true (sym e))
-    by_test_of false true e f = refl
-    by_test_of false false e f = absurd (false≢true f)
+null_changes_nothing u before unawaited null = rw (unawaited, eq-eqb u.function 0 null) refl
 
 -- of what is scheduled none is of an edge, where no upcall of one is in it
 none_of_edge : (upcall : Option Scheduled) → filter is_of_edge (cons_option upcall []) ≡ []
     → IfSome upcall (λ u. is_of_edge u ≡ false)
 none_of_edge None none = tt
-none_of_edge (Some u) none = by_test_of (is_of_edge u) none
-  where
-    by_test_of : (b : Bool) → cond b (u ∷ []) [] ≡ [] → b ≡ false
-    by_test_of true e = cc
-    by_test_of false e = refl
+none_of_edge (Some u) none =
+    elim (cases_Bool (is_of_edge u)) [
+      | inl e ↦ let some = rw e at none in absurd (cc)
+      | inr e ↦ e
+    ]
 
 -- an edge of which a process is told comes once; where it is told of none, none does
 comes_once : (edge : Option (ℕ × Bool)) (upcall : Option Scheduled) (own o : Own) → SchedulesEdge edge own o
@@ -99,8 +87,7 @@ comes_once None upcall own o schedules filters = none_of_edge upcall filters
 comes_once (Some edge) upcall own o schedules filters =
     let u = edge_upcall own edge in
     let is : o.inbox ≡ scheduled u own.inbox = ap (λ (x : Own). x.inbox) schedules in
-    subst (λ (inbox : Inbox). ComesOnce (Some u) upcall own.inbox inbox) (sym is)
-    (each_is_scheduled_once u own.inbox, null_changes_nothing u own.inbox)
+    rw is (each_is_scheduled_once u own.inbox, null_changes_nothing u own.inbox)
 
 -- what holds in every step holds throughout any choices
 throughout : (P : World → Choice → Type 0) → ((w : World) (choice : Choice) → P w choice)
@@ -133,11 +120,10 @@ module _ (law : DriversScheduleTheirOwn) (refuse : RefusedByAnyDriver) (of_ecall
           → filter is_of_edge (cons_option (step_schedules slot w choice) us)
           ≡ cons_option (option_and_then (λ (r : Record). option_map (edge_upcall r.own) (told_edge_in w choice r)) o)
           (filter is_of_edge us)
-      by_record None there =
-          ap (λ (o : Option Scheduled). filter is_of_edge (cons_option o us)) (step_told slot w choice None there)
+      by_record None there = rw (step_told slot w choice None there) refl
       by_record (Some r) there =
-          ap (λ (o : Option Scheduled). filter is_of_edge (cons_option o us)) (step_told slot w choice (Some r) there)
-          ∙ (step_serves law refuse of_ecall w slot r there choice).filters us
+          rw (step_told slot w choice (Some r) there)
+          ((step_serves law refuse of_ecall w slot r there choice).filters us)
 
   step_leaves : (w : World) (choice : Choice) (r s : Record) → slice_get w.records slot ≡ Some r
       → slice_get (after w choice).records slot ≡ Some s
@@ -146,10 +132,7 @@ module _ (law : DriversScheduleTheirOwn) (refuse : RefusedByAnyDriver) (of_ecall
       let told = told_in slot w choice in
       let is = same_record law refuse of_ecall (slice_get (after w choice).records slot) (happens w.settings told r) s
       (step_happens law refuse of_ecall only w slot choice ∙ ap (option_map (happens w.settings told)) there) left in
-      subst (λ (o : Option Scheduled). IsThenScheduled o r.own.inbox s.own.inbox)
-      (sym (step_told slot w choice (Some r) there))
-      (subst (λ (x : Record). IsThenScheduled (answer_schedules w.settings told r) r.own.inbox x.own.inbox) is
-      (answer_leaves law refuse of_ecall w.settings told r))
+      rw (step_told slot w choice (Some r) there, ← is) (answer_leaves law refuse of_ecall w.settings told r)
 
   step_comes : (w : World) (choice : Choice) (r s : Record) → slice_get w.records slot ≡ Some r
       → slice_get (after w choice).records slot ≡ Some s
@@ -157,8 +140,7 @@ module _ (law : DriversScheduleTheirOwn) (refuse : RefusedByAnyDriver) (of_ecall
   step_comes w choice r s there left =
       let is : edge_scheduled slot w choice ≡ option_map (edge_upcall r.own) (told_edge_in w choice r) =
       ap (option_and_then (λ (x : Record). option_map (edge_upcall x.own) (told_edge_in w choice x))) there in
-      subst (λ (o : Option Scheduled). ComesOnce o (step_schedules slot w choice) r.own.inbox s.own.inbox) (sym is)
-      (comes_once (told_edge_in w choice r) (step_schedules slot w choice) r.own s.own
+      rw is (comes_once (told_edge_in w choice r) (step_schedules slot w choice) r.own s.own
       (steps_serve_edges law refuse of_ecall only w choice slot r s there left).schedules
       (step_filters w choice [] ∙ ap (λ (o : Option Scheduled). cons_option o []) is))
 

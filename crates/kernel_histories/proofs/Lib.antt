@@ -1,3 +1,4 @@
+mod Walk
 mod Swaps
 mod Histories
 mod Deliveries

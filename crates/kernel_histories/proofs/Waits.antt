@@ -1,10 +1,9 @@
 -- A process that waits for one upcall alone gets the arguments of the first scheduling of it. What it waits for is a
 -- fold over what is scheduled since (`over`), which the first of its upcall decides; each step without a turn of it
 -- adds to the fold, by induction on the choices, and it has no turn before.
-use Rattle.std.proofs.Common.{◌≡◌, ◌≢◌, ℕ, ◌+◌, ◌==◌, Bool, true, false, cond, List, [], ◌∷◌, ◌++◌, find, slice_get}
-use Rattle.std.proofs.Common.{Option, None, Some, IfSome, refl, sym, ap, ap₂, ◌∙◌, eqb-true, eq-eqb, subst, not, ◌&&◌}
-use Rattle.std.proofs.Common.{is_some}
-use Rattle.std.specs.Prelude.{All, IsSomeAnd, filter_map, option_and_then, unwrap_or}
+use Rattle.std.proofs.Common.{◌≡◌, ◌≢◌, ℕ, ◌==◌, true, false, cond, List, [], ◌∷◌, ◌++◌, slice_get}
+use Rattle.std.proofs.Common.{Option, None, Some, IfSome, refl, sym, ap, ◌∙◌, eqb-true, eq-eqb, subst, not, ◌&&◌}
+use Rattle.std.specs.Prelude.{All, IsSomeAnd, filter_map, option_and_then}
 use Rattle.std.specs.List.{cons_option, flat_map, list_any}
 use Rattle.std.specs.Option.{option_map}
 use Rattle.std.proofs.lemmas.Bool.{false≢true}
@@ -18,18 +17,16 @@ use Rattle.tk_base.specs.declared.upcall.Wait.TheVariants.{For, Given}
 use Rattle.rv32_model.specs.Laws.{CallsAreOfEcall}
 use Rattle.upcall_queue.specs.declared.inbox.Delivery.TheVariants.{Arguments}
 use Rattle.upcall_queue.specs.declared.inbox.Inbox.{Inbox}
-use Rattle.upcall_queue.specs.Pending.{awaits, due, due_by, has_room, is_of, place_of, scheduled}
+use Rattle.upcall_queue.specs.Pending.{awaits, due, has_room, is_of, place_of, scheduled}
 use Rattle.driver_model.specs.Upcalls.{scheduled_if}
 use Rattle.process_record.specs.declared.process.Process.{Process}
 use Rattle.process_record.specs.declared.process.State.{State}
-use Rattle.process_record.specs.declared.process.State.TheVariants.{Running, Yielded, Faulted, Terminated}
+use Rattle.process_record.specs.declared.process.State.TheVariants.{Yielded}
 use Rattle.process_record.specs.Process.{after_turn, delivered}
 use Rattle.kernel_model.specs.Record.{Record}
 use Rattle.kernel_model.specs.declared.settings.Settings.{Settings}
-use Rattle.kernel_model.specs.Calls.{yield_for}
-use Rattle.kernel_model.specs.Turn.{Act, Event, Turn, apply, is_turn, turn_counted, turn_in}
-use Rattle.kernel_model.specs.Parts.{delivery}
-use Rattle.kernel_model.specs.Turn.{has_turn, may_turn, turned, Turned}
+use Rattle.kernel_model.specs.Turn.{Act, Event, apply, is_turn, turn_in}
+use Rattle.kernel_model.specs.Turn.{has_turn, may_turn, turned}
 use Rattle.kernel_model.specs.World.{Answer, DeviceStep, Label, Stepped, World, after, carried_out, device_step_of}
 use Rattle.kernel_model.specs.World.{done, labels}
 use Rattle.kernel_model.specs.World.{labels_told, ran}
@@ -50,6 +47,9 @@ use Rattle.kernel_model.proofs.Told.{labels_at, told_at, told_there}
 use Rattle.kernel_laws.proofs.Scheduled.{told_inbox}
 use Rattle.kernel_histories.proofs.Takings.{OfTakings, step_takes, each_turn_told}
 use Rattle.std.proofs.Math.Bool.{and-false}
+use Rattle.std.proofs.lemmas.Bool.{and_parts, cases_Bool, cond_both}
+use Rattle.std.proofs.Common.{inl, inr, ne_eqb}
+use Rattle.kernel_model.specs.Turn.{TurnTrace}
 
 -- what a process waits for after an upcall was scheduled for it, and after some
 abbrev wait_after : Wait → Scheduled → Wait
@@ -69,31 +69,24 @@ over_given args (u ∷ us) = over_given args us
 
 over_for : (driver number : ℕ) (us : List Scheduled) → over (For driver number) us ≡ awaited driver number us
 over_for driver number [] = refl
-over_for driver number (u ∷ us) = by_test (is_of driver number u) (over_for driver number us)
-  where
-    by_test : (b : Bool) → over (For driver number) us ≡ awaited driver number us
-        → over (cond b (Given u.args) (For driver number)) us
-        ≡ unwrap_or (option_map (λ upcall. Given upcall.args) (cond b (Some u) (find (is_of driver number) us)))
-        (For driver number)
-    by_test true rest = over_given u.args us
-    by_test false rest = rest
+over_for driver number (u ∷ us) =
+    elim (cases_Bool (is_of driver number u)) [
+      | inl e ↦ rw e (over_given u.args us)
+      | inr e ↦ rw e (over_for driver number us)
+    ]
 
 wait_scheduled : (u : Scheduled) (inbox : Inbox) → (scheduled u inbox).wait ≡ wait_after inbox.wait u
-wait_scheduled u inbox = by_test (awaits inbox.wait u) (u.function == 0) (has_room inbox.pending)
-  where
-    by_test : (awaited null room : Bool)
-        → (cond awaited (record inbox { wait = Given u.args }) (cond null inbox
-        (cond room (record inbox { pending = inbox.pending ++ u ∷ [] })
-        (record inbox { dropped = inbox.dropped + 1 })))).wait ≡ cond awaited (Given u.args) inbox.wait
-    by_test true null room = refl
-    by_test false true room = refl
-    by_test false false true = refl
-    by_test false false false = refl
+wait_scheduled u inbox =
+    elim (cases_Bool (awaits inbox.wait u)) [
+      | inl e ↦ rw e refl
+      | inr e ↦ rw e (cond_both (u.function == 0) _ _ (λ (i : Inbox). i.wait ≡ inbox.wait) (λ null. refl)
+          (λ null. cond_both (has_room inbox.pending) _ _ (λ (i : Inbox). i.wait ≡ inbox.wait) (λ room. refl)
+          (λ room. refl)))
+    ]
 
 -- those that an option holds
 abbrev listed : Option Scheduled → List Scheduled
-listed None = []
-listed (Some u) = u ∷ []
+listed o = cons_option o []
 
 wait_if : (o : Option Scheduled) (inbox : Inbox) → (scheduled_if o inbox).wait ≡ over inbox.wait (listed o)
 wait_if None inbox = refl
@@ -102,11 +95,9 @@ wait_if (Some u) inbox = wait_scheduled u inbox
 -- a process that has yielded, after an answer
 waits_on : (state : State) (a b wait : Wait) (us : List Scheduled) → wait_in state a ≡ Some wait → b ≡ over a us
     → wait_in state b ≡ Some (over wait us)
-waits_on Running a b wait us is left = absurd (cc)
 waits_on Yielded a b wait us is left =
     let same : a ≡ wait = cc in ap Some (left ∙ ap (λ (x : Wait). over x us) same)
-waits_on Faulted a b wait us is left = absurd (cc)
-waits_on (Terminated code) a b wait us is left = absurd (cc)
+waits_on _ a b wait us is left = absurd (cc)
 
 after_answer : (settings : Settings) (event : Event) (r : Record) → IsAnswer event → (wait : Wait)
     → wait_of r ≡ Some wait → wait_of (apply settings event r) ≡ Some (over wait (listed (upcall_told event r)))
@@ -149,43 +140,27 @@ module _ (w : World) (slot : ℕ) where
 
   of_ran : (other : ℕ) (o : Option Record) → slice_get w.records other ≡ o → Does (ran w other o)
   of_ran other None there none goes_on wait is = is
-  of_ran other (Some r) there none goes_on wait is = by_slot (other == slot) refl none
-    where
-      by_slot : (b : Bool) → (other == slot) ≡ b
-          → cond b ((turned w.settings w.clock.time r).told ∷ []) [] ++ [] ≡ []
-          → option_and_then wait_of (slice_get (ran w other (Some r)).after.records slot)
-          ≡ Some (over wait (cons_option (cond b (option_and_then (upcall_told (Turn w.clock.time))
-          (slice_get w.records slot)) None) []))
-      by_slot true e none = absurd (cc)
-      by_slot false e none =
-          ap (option_and_then wait_of)
-          (ran-other w other slot (Some r) (λ same. false≢true (sym e ∙ eq-eqb other slot (sym same)))) ∙ is
+  of_ran other (Some r) there none goes_on wait is =
+      elim (cases_Bool (other == slot)) [
+        | inl e ↦ let told_one = rw e at none in absurd (cc)
+        | inr e ↦ rw e (ap (option_and_then wait_of)
+            (ran-other w other slot (Some r) (λ same. false≢true (sym e ∙ eq-eqb other slot (sym same)))) ∙ is)
+      ]
 
   -- what a device's step tells it, if it tells it anything
   of_deed : (o : Option DeviceStep) → IfSome o (λ deed. TellsNoTurn deed.told) → Does (done w o)
   of_deed None answers none goes_on wait is = is
   of_deed (Some deed) answers none goes_on wait is =
-      ap (option_and_then wait_of) (told_at w.settings deed.told w.records slot)
-      ∙ by_record (slice_get w.records slot) refl is
-      ∙ ap (λ (us : List Scheduled). Some (over wait us)) (sym heard)
+      rw (told_at w.settings deed.told w.records slot, heard) (by_record (slice_get w.records slot) refl is)
     where
       others : (label : Label) (us : List Scheduled) → label.slot ≢ slot → cons_option (told label) us ≡ us
-      others label us apart = by_slot (label.slot == slot) refl
-        where
-          by_slot : (b : Bool) → (label.slot == slot) ≡ b
-              → cons_option (cond b (option_and_then (upcall_told label.event) (slice_get w.records slot)) None) us ≡ us
-          by_slot true e = absurd (apart (eqb-true label.slot slot e))
-          by_slot false e = refl
+      others label us apart = rw (ne_eqb label.slot slot apart) refl
 
       heard : filter_map told (labels_told deed.told 0 w.records)
           ≡ filter_map told (labels_of slot (told_there deed.told w.records slot slot))
       heard =
           labels_at (filter_map told) (λ label us. cons_option (told label) us) (λ label ls. refl) slot others deed.told
           w.records
-
-      as_listed : (o : Option Scheduled) → listed o ≡ cons_option o []
-      as_listed None = refl
-      as_listed (Some u) = refl
 
       by_answer : (r : Record) → slice_get w.records slot ≡ Some r → wait_of r ≡ Some wait → (o : Option Answer)
           → deed.told slot ≡ o
@@ -194,11 +169,7 @@ module _ (w : World) (slot : ℕ) where
       by_answer r there waits (Some a) e =
           after_told w.settings a.event r (answers slot a e) (sym (ended_told w slot deed r a there e) ∙ goes_on) wait
           waits
-          ∙ ap (λ (us : List Scheduled). Some (over wait us)) (as_listed (upcall_told a.event r)
-          ∙ ap (λ (o : Option Record). cons_option (option_and_then (upcall_told a.event) o) []) (sym there)
-          ∙ ap (λ (b : Bool). cons_option (cond b (option_and_then (upcall_told a.event)
-          (slice_get w.records slot)) None)
-          []) (sym (eq-eqb slot slot refl)))
+          ∙ rw (eq-eqb slot slot refl, there) refl
 
       by_record : (o : Option Record) → slice_get w.records slot ≡ o → option_and_then wait_of o ≡ Some wait
           → option_and_then wait_of (option_map (happens w.settings (deed.told slot)) o)
@@ -240,10 +211,7 @@ begins_to_wait = record {
   asks = λ r asked_driver asked_number runs driver number e none.
       let same_driver : asked_driver ≡ driver = cc in
       let same_number : asked_number ≡ number = cc in
-      let pending = r.own.inbox.pending in
-      ap₂ (λ (d n : ℕ). wait_of (yield_for (turn_counted r) d n (slice_get pending (place_of d n pending))).after)
-      same_driver same_number
-      ∙ ap (λ (o : Option Scheduled). wait_of (yield_for (turn_counted r) driver number o).after) none;
+      rw (same_driver, same_number, none) refl;
   woken = λ r yielded driver number e none. absurd (cc);
 }
 
@@ -252,16 +220,13 @@ given_turn : (settings : Settings) (time : ℕ) (r : Record) (args : List ℕ) �
     → wait_of r ≡ Some (Given args)
     → (turned settings time r).after.process ≡ delivered (Arguments args) (after_turn r.process)
 given_turn settings time r args free waits =
-    ap (λ (t : Turned). t.after.process) (free_turned settings time r free) ∙ by_state r.process.state waits
+    rw (free_turned settings time r free) (by_state r.process.state waits)
   where
     by_state : (state : State) → wait_in state r.own.inbox.wait ≡ Some (Given args)
         → (turn_in settings time state r).after.process ≡ delivered (Arguments args) (after_turn r.process)
-    by_state Running is = absurd (cc)
     by_state Yielded is =
-        let given : r.own.inbox.wait ≡ Given args = cc in
-        ap (λ (wait : Wait). (delivery r (due_by wait r.own.inbox.pending)).after.process) given
-    by_state Faulted is = absurd (cc)
-    by_state (Terminated code) is = absurd (cc)
+        let given : r.own.inbox.wait ≡ Given args = cc in rw given refl
+    by_state _ is = absurd (cc)
 
 step_gives : (w : World) (slot : ℕ) (choice : Choice) (r s : Record) (args : List ℕ)
     → slice_get w.records slot ≡ Some r → slice_get (after w choice).records slot ≡ Some s
@@ -277,34 +242,21 @@ waiting_rests r driver number waits = by_state r.process.state waits
   where
     by_state : (state : State) → wait_in state r.own.inbox.wait ≡ Some (For driver number)
         → (not r.process.held && has_turn state (due r.own.inbox)) ≡ false
-    by_state Running is = absurd (cc)
     by_state Yielded is =
-        let alone : r.own.inbox.wait ≡ For driver number = cc in
-        ap (λ (wait : Wait). not r.process.held && is_some (due_by wait r.own.inbox.pending)) alone
-        ∙ and-false (not r.process.held)
-    by_state Faulted is = absurd (cc)
-    by_state (Terminated code) is = absurd (cc)
+        let alone : r.own.inbox.wait ≡ For driver number = cc in rw (alone, and-false (not r.process.held)) refl
+    by_state _ is = absurd (cc)
 
 -- so none of the labels of a step tells one
 no_turns : (v : World) (slot : ℕ) (r : Record) → slice_get v.records slot ≡ Some r → may_turn r ≡ false
     → (ls : List Label) → All (IsOfReady v) ls → flat_map (turns_in slot) ls ≡ []
 no_turns v slot r there none [] ready = refl
 no_turns v slot r there none (label ∷ ls) ready =
-    by_turn (is_turn label.event) refl (label.slot == slot) refl
-    (no_turns v slot r there none ls (All-tail (IsOfReady v) label ls ready))
-  where
-    may_not : is_turn label.event ≡ true → (label.slot == slot) ≡ true → ⊥
-    may_not turn here =
-        let at : label.slot ≡ slot = eqb-true label.slot slot here in
-        false≢true (sym none ∙ subst (λ (o : Option Record). IsSomeAnd o (λ q. may_turn q ≡ true))
-        (ap (slice_get v.records) at ∙ there) (All-head (IsOfReady v) label ls ready turn))
-
-    by_turn : (turn : Bool) → is_turn label.event ≡ turn → (here : Bool) → (label.slot == slot) ≡ here
-        → flat_map (turns_in slot) ls ≡ []
-        → cond (turn && here) (label.trace ∷ []) [] ++ flat_map (turns_in slot) ls ≡ []
-    by_turn true turn true here rest = absurd (may_not turn here)
-    by_turn true turn false here rest = rest
-    by_turn false turn here at rest = rest
+    let rest = no_turns v slot r there none ls (All-tail (IsOfReady v) label ls ready) in
+    cond_both (is_turn label.event && label.slot == slot) _ _ (λ (front : List TurnTrace).
+    front ++ flat_map (turns_in slot) ls ≡ []) (λ e. let both = and_parts (is_turn label.event) _ e in
+    absurd (false≢true (sym none ∙ subst (λ (o : Option Record). IsSomeAnd o (λ q. may_turn q ≡ true))
+    (ap (slice_get v.records) (eqb-true label.slot slot both.1) ∙ there)
+    (All-head (IsOfReady v) label ls ready both.0)))) (λ e. rest)
 
 waiting_has_none : TurnsAreOfReadyProcesses → (v : World) (slot : ℕ) (choice : Choice) (driver number : ℕ)
     → wait_in_slot slot v ≡ Some (For driver number) → told_in slot v choice ≡ []

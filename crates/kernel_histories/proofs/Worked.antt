@@ -56,10 +56,7 @@ is_the_one = (refl, λ null. omega (arith, null))
 
 none_of_another : IsSubscribed subscribed.own (record (upcall 7) { function = 0x30000 }) → ⊥
 unfolding counts_of drivers shape_of
-none_of_another is = by_pair is.0
-  where
-    by_pair : ◌≡◌ {A = ℕ × ℕ} (0x20000, 9) (0x30000, 9) → ⊥
-    by_pair same = let function = ap (λ (pair : ℕ × ℕ). pair.0) same in omega (arith, function)
+none_of_another is = let function = ap (λ (pair : ℕ × ℕ). pair.0) is.0 in omega (arith, function)
 
 -- A yield with 0 takes the first of two; a kernel that loses the other one on the way.
 one_is_taken : LeavesInbox (waiting (upcall 7 ∷ upcall 8 ∷ [])) (waiting (upcall 8 ∷ [])) (yields 0)
@@ -69,38 +66,35 @@ one_is_taken = record { inbox = λ free can. refl }
 none_is_lost : LeavesInbox (waiting (upcall 7 ∷ upcall 8 ∷ [])) (waiting []) (yields 0) → ⊥
 unfolding counts_of drivers shape_of
 none_is_lost leaves =
-    by_pending (ap (λ (x : Inbox). x.pending) (leaves.inbox refl (λ ends. absurd (false≢true ends))))
-  where
-    by_pending : ◌≡◌ {A = List Scheduled} [] (upcall 8 ∷ []) → ⊥
-    by_pending same = cc
+    let same : ◌≡◌ {A = List Scheduled} [] (upcall 8 ∷ [])
+    = ap (λ (x : Inbox). x.pending) (leaves.inbox refl (λ ends. absurd (false≢true ends))) in
+    cc
 
 -- nor does one come in a turn that makes no call
 none_comes_alone : LeavesInbox (waiting []) (waiting (upcall 7 ∷ [])) untraced → ⊥
 unfolding counts_of drivers shape_of
 none_comes_alone leaves =
-    by_pending (ap (λ (x : Inbox). x.pending) (leaves.inbox refl (λ ends. absurd (false≢true ends))))
-  where
-    by_pending : ◌≡◌ {A = List Scheduled} (upcall 7 ∷ []) [] → ⊥
-    by_pending same = cc
+    let same : ◌≡◌ {A = List Scheduled} (upcall 7 ∷ []) []
+    = ap (λ (x : Inbox). x.pending) (leaves.inbox refl (λ ends. absurd (false≢true ends))) in
+    cc
 
 -- A process that asks for one upcall alone waits for that; a kernel that has it wait for any.
 none_waits_for_any : LeavesInbox (waiting []) (waiting []) (yields 2) → ⊥
 unfolding counts_of drivers shape_of
 none_waits_for_any leaves =
-    by_wait (ap (λ (x : Inbox). x.wait) (leaves.inbox refl (λ ends. absurd (false≢true ends))))
-  where
-    by_wait : ◌≡◌ {A = Wait} No (For 0 0) → ⊥
-    by_wait same = cc
+    let same : ◌≡◌ {A = Wait} No (For 0 0)
+    = ap (λ (x : Inbox). x.wait) (leaves.inbox refl (λ ends. absurd (false≢true ends))) in
+    cc
 
 -- An operator's list leaves what waits; a kernel that drops it.
 list_leaves : AnswersLeaveInbox (Act verbs.List) (waiting (upcall 7 ∷ [])) (waiting (upcall 7 ∷ []))
 list_leaves can = refl
 
 none_dropped_by_a_list : AnswersLeaveInbox (Act verbs.List) (waiting (upcall 7 ∷ [])) (waiting []) → ⊥
-none_dropped_by_a_list leaves = by_pending (ap (λ (x : Inbox). x.pending) (leaves (λ ends. absurd (false≢true ends))))
-  where
-    by_pending : ◌≡◌ {A = List Scheduled} [] (upcall 7 ∷ []) → ⊥
-    by_pending same = cc
+none_dropped_by_a_list leaves =
+    let same : ◌≡◌ {A = List Scheduled} [] (upcall 7 ∷ [])
+    = ap (λ (x : Inbox). x.pending) (leaves (λ ends. absurd (false≢true ends))) in
+    cc
 
 -- The grant of a process that has subscribed a function for its buttons, as bytes: they tell it; a kernel that forgets
 -- it, and one that looks for its area, for its pair or for its value in another place.

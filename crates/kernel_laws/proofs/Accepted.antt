@@ -1,11 +1,11 @@
 -- What an accepted call leaves: a command what the driver makes of it that takes it; any other one what its class and
 -- its arguments say. The turn goes by the walk `of_turn`; the class picks the row of the table of calls, and the call
 -- of that row computes (`ComesTo`). A refused call has a rule, which an accepted one has not.
-use Rattle.std.proofs.Common.{◌≡◌, ℕ, ◌==◌, Bool, List, [], ◌∷◌, Option, None, Some, Result, Ok, Err, IfSome, find}
+use Rattle.kernel_model.proofs.Calling.{of_commanded}
+use Rattle.std.proofs.Common.{◌≡◌, ℕ, ◌==◌, Bool, List, [], ◌∷◌, Option, None, Some, Ok, IfSome, find}
 use Rattle.std.proofs.Common.{slice_index, refl, sym, ap, subst, ◌∙◌}
 use Rattle.std.specs.Option.{option_map}
 use Rattle.tk_base.specs.Regs.{Registers}
-use Rattle.tk_base.specs.declared.call.CallRule.{CallRule}
 use Rattle.driver_model.specs.Commands.{BoardRequest, Commanded}
 use Rattle.driver_model.specs.Drivers.{CommandContext, CommandHandler, handler_of}
 use Rattle.driver_model.specs.Steps.{own_after}
@@ -16,8 +16,8 @@ use Rattle.syscall_abi.specs.declared.reply.Reply.{Reply}
 use Rattle.process_model.specs.Own.{Own}
 use Rattle.process_record.specs.declared.emit.CallMade.{CallMade}
 use Rattle.process_record.specs.declared.process.State.TheVariants.{Running}
-use Rattle.kernel_model.specs.Calls.{Served, by_form, driver_answered, exit, memop, served, taken_by, yielding}
-use Rattle.kernel_model.specs.Record.{Record, record_with_step}
+use Rattle.kernel_model.specs.Calls.{Served, by_form, exit, memop, served, taken_by, yielding}
+use Rattle.kernel_model.specs.Record.{Record}
 use Rattle.kernel_model.specs.Turn.{arguments, made, rule_shown, surroundings, turn_counted, turned}
 use Rattle.kernel_model.specs.declared.settings.Settings.{Settings}
 use Rattle.kernel_model.proofs.Classes.{command_in, exit_in, memop_in, yield_in, same_form}
@@ -52,26 +52,20 @@ module _ (strict : Bool) (around : CommandContext) (r : Record) where
   abbrev Takes : Served → Type 0
   Takes s = rule_shown s.outcome ≡ None → Accepts around r.own s.after.own s.acts (made r.process.regs s.outcome)
 
-  by_answer : (taker : CommandHandler) → handler_of (a0 r.process.regs) ≡ Some taker → (answer : Result Reply CallRule)
-      → let c = taker around (a1 r.process.regs) (a2 r.process.regs) (a3 r.process.regs) r.own in
-      c.answer ≡ answer → Takes (record (driver_answered (record_with_step r c.step) answer) { acts = c.acts })
-  by_answer taker there (Ok reply) is none = record {
-    taker = taker;
-    there = there;
-    args = refl;
-    reply = reply;
-    accepts = is;
-    own = refl;
-    acts = refl;
-  }
-  by_answer taker there (Err rule) is none = absurd (cc)
-
   by_taken : (o : Option CommandHandler) → handler_of (a0 r.process.regs) ≡ o
       → Takes (taken_by around (a1 r.process.regs) (a2 r.process.regs) (a3 r.process.regs) r o)
   by_taken None there none = absurd (cc)
   by_taken (Some taker) there none =
-      by_answer taker there (taker around (a1 r.process.regs) (a2 r.process.regs) (a3 r.process.regs) r.own).answer refl
-      none
+      let c = taker around (a1 r.process.regs) (a2 r.process.regs) (a3 r.process.regs) r.own in
+      of_commanded Takes r c (λ reply is none. record {
+        taker = taker;
+        there = there;
+        args = refl;
+        reply = reply;
+        accepts = is;
+        own = refl;
+        acts = refl;
+      }) (λ rule is none. absurd (cc)) none
 
   takes : (form : CallForm) → call_of r.process.regs ≡ Some form → class r.process.regs ≡ 2
       → Takes (served strict around r form)
@@ -143,8 +137,7 @@ pub accepted_yield : CallsAreOfEcall → (settings : Settings) (time : ℕ) (r :
 unfolding by_form class_table
 accepted_yield of_ecall =
     accepted of_ecall 0 yields (λ around r form is zero.
-    ap (by_form around r)
-    (same_form form (yield_in r.process.regs) (sym is ∙ of_class r.process.regs 0 zero)))
+    ap (by_form around r) (same_form form (yield_in r.process.regs) (sym is ∙ of_class r.process.regs 0 zero)))
 
 abbrev pub exits : Record → List ℕ → Served
 exits r args = exit r (slice_index args 0) (slice_index args 1)
@@ -155,8 +148,7 @@ pub accepted_exit : CallsAreOfEcall → (settings : Settings) (time : ℕ) (r : 
 unfolding by_form class_table
 accepted_exit of_ecall =
     accepted of_ecall 6 exits (λ around r form is six.
-    ap (by_form around r)
-    (same_form form (exit_in r.process.regs) (sym is ∙ of_class r.process.regs 6 six)))
+    ap (by_form around r) (same_form form (exit_in r.process.regs) (sym is ∙ of_class r.process.regs 6 six)))
 
 abbrev pub memops : Record → List ℕ → Served
 memops r args = memop r (slice_index args 0) (slice_index args 1)
@@ -167,8 +159,7 @@ pub accepted_memop : CallsAreOfEcall → (settings : Settings) (time : ℕ) (r :
 unfolding by_form class_table
 accepted_memop of_ecall =
     accepted of_ecall 5 memops (λ around r form is five.
-    ap (by_form around r)
-    (same_form form (memop_in r.process.regs) (sym is ∙ of_class r.process.regs 5 five)))
+    ap (by_form around r) (same_form form (memop_in r.process.regs) (sym is ∙ of_class r.process.regs 5 five)))
 
 -- what follows from what is said of a call is said of it
 pub if_called : (o : Option CallMade) (P Q : CallMade → Type 0) → ((call : CallMade) → P call → Q call) → IfSome o P

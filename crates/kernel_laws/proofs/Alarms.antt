@@ -1,13 +1,18 @@
 -- That an alarm fires when it is due: devices come before turns and passes, and the clock's answer is to the one that
 -- is due. So a choice that takes time is made where no alarm is due; and a pass leads no further than the nearest time,
 -- which is no later than that of each slot, by induction on the slots.
+use Rattle.std.proofs.lemmas.Option.{slice_get-map}
+use Rattle.kernel_laws.proofs.Cases.{cases_option}
+use Rattle.std.proofs.lemmas.Bool.{cases_Bool}
+use Rattle.std.proofs.Common.{inl, inr}
+use Rattle.std.proofs.lemmas.Option.{cond_some}
 use Rattle.std.proofs.Common.{◌≡◌, ◌≤◌, ◌<◌, ℕ, zero, suc, ◌+◌, ◌-◌, ◌*◌, ◌/◌, ◌==◌, Bool, true, false, cond, List, []}
 use Rattle.std.proofs.Common.{◌∷◌, Option, None, Some, is_some, slice_get, unwrap_or, refl, ap, sym, subst, ◌∙◌}
-use Rattle.std.proofs.Common.{◌⊎◌, inl, inr, arith, eqb-true, fold, min, nat_le, ◌%◌, ◌^◌}
+use Rattle.std.proofs.Common.{inl, inr, arith, eqb-true, fold, nat_le, ◌%◌, ◌^◌}
 use Rattle.std.specs.Prelude.{All, IfSome, IsSomeAnd}
 use Rattle.std.proofs.lemmas.Bool.Decides.{nat_tests}
 use Rattle.std.specs.List.{range_with_len}
-use Rattle.std.specs.Option.{option_and_then, option_map, option_or}
+use Rattle.std.specs.Option.{option_map, option_or}
 use Rattle.std.proofs.lemmas.Bool.{cases_lt, false≢true, leb-true}
 use Rattle.std.proofs.lemmas.List.Elements.{All-nil, All-cons}
 use Rattle.std.proofs.lemmas.Option.{slice_get_within}
@@ -38,7 +43,7 @@ use Rattle.kernel_model.proofs.Places.{none_there}
 use Rattle.kernel_model.proofs.Told.{edge_answer, of_device, told_labels, with_rest}
 use Rattle.kernel_laws.specs.Alarms.{AlarmsComeFirst, FiresWhenDue, IsDue, NextIsTheLeast, NoneFiresEarly}
 use Rattle.kernel_laws.specs.Alarms.{PassesStopAtAlarms, takes_time}
-use Rattle.kernel_laws.proofs.OneRun.{left_at, mapped_get, none_in_range}
+use Rattle.kernel_laws.proofs.OneRun.{left_at, none_in_range}
 use Rattle.kernel_model.proofs.Runs.{found_passes}
 use Rattle.kernel_model.proofs.Labels.{labels_by_device}
 
@@ -59,9 +64,8 @@ none_ready w c e takes =
 
 second_not : (a b : Bool) (rest : Option Dev) → cond a (Some dev.Event) (cond b (Some dev.Alarm) rest) ≡ None
     → b ≡ false
-second_not true b rest e = absurd (cc)
-second_not false true rest e = absurd (cc)
 second_not false false rest e = refl
+second_not a b rest e = absurd (cc)
 
 no_alarm_ready : (w : World) → ready_device (ready_devices w) ≡ None → can_act w dev.Alarm ≡ false
 unfolding ready_device
@@ -76,17 +80,15 @@ none_due now owns None slot e may within =
     (omega (arith, within))
 none_due now owns (Some only) slot e may within =
     ap (λ (s : ℕ). has_due now (slice_get owns s)) (eqb-true slot only may)
-    ∙ by_test (has_due now (slice_get owns only)) e
-  where
-    by_test : (b : Bool) → is_some (cond b (Some only) None) ≡ false → b ≡ false
-    by_test true f = absurd (false≢true (sym f))
-    by_test false f = refl
+    ∙ elim (cases_Bool (has_due now (slice_get owns only))) [
+      | inl due ↦ absurd (false≢true (sym e ∙ rw due))
+      | inr none ↦ none
+    ]
 
 due_there : (w : World) (slot : ℕ) (r : Record) → slice_get w.records slot ≡ Some r
     → has_due (now_in w) (slice_get (owns_in w) slot) ≡ is_some (due_alarm (now_in w) r.own)
 due_there w slot r there =
-    ap (has_due (now_in w)) (mapped_get (λ (r : Record). r.own) w.records slot)
-    ∙ ap (λ (o : Option Record). has_due (now_in w) (option_map (λ (r : Record). r.own) o)) there
+    rw (slice_get-map (λ (r : Record). r.own) w.records slot, there)
 
 pub alarms_come_first : AlarmsComeFirst
 alarms_come_first w c slot r few e takes there may =
@@ -102,30 +104,29 @@ is_due : (now : ℕ) (owns : List Own) (only : Option ℕ) (slot : ℕ) → due_
 unfolding due_slot
 is_due now owns None slot e =
     found_passes (λ (s : ℕ). has_due now (slice_get owns s)) (range_with_len 0 SLOT_COUNT) slot e
-is_due now owns (Some only) slot e = by_test (has_due now (slice_get owns only)) refl e
-  where
-    by_test : (b : Bool) → has_due now (slice_get owns only) ≡ b → cond b (Some only) None ≡ Some slot
-        → has_due now (slice_get owns slot) ≡ true
-    by_test true is f = let same : only ≡ slot = cc in ap (λ (s : ℕ). has_due now (slice_get owns s)) (sym same) ∙ is
-    by_test false is f = absurd (cc)
+is_due now owns (Some only) slot e =
+    let both = cond_some (has_due now (slice_get owns only)) only slot e in rw (← both.1) both.0
 
 -- that is, written out
 due_written : (now : ℕ) (r : Record) → is_some (due_alarm now r.own) ≡ true → IsDue now r
-due_written now r e = by_life r.own.lives refl (alarm_in r.own) refl e
+due_written now r e =
+    elim (cases_Bool r.own.lives) [
+      | inr dead ↦ absurd (false≢true (rw dead at e))
+      | inl life ↦ elim (cases_option (alarm_in r.own)) [
+        | inl none ↦ let due = rw (life, none) at e in absurd (false≢true due)
+        | inr alarm ↦
+            let due = rw (life, alarm.1) at e in
+            record { lives = life; alarm = alarm.0; armed = alarm.1; passed = passed alarm.0 due }
+      ]
+    ]
   where
-    by_passed : (alarm : Armed) (b : Bool)
-        → nat_le alarm.delta ((now + (2 ^ 32 - alarm.reference)) % 2 ^ 32) ≡ b
-        → is_some (cond b (Some alarm) None) ≡ true
+    passed : (alarm : Armed) → is_some (if_due now (Some alarm)) ≡ true
         → alarm.delta ≤ (now + (2 ^ 32 - alarm.reference)) % 2 ^ 32
-    by_passed alarm true is e = leb-true _ _ is
-    by_passed alarm false is e = absurd (false≢true e)
-
-    by_life : (lives : Bool) → r.own.lives ≡ lives → (armed : Option Armed) → alarm_in r.own ≡ armed
-        → is_some (cond lives (if_due now armed) None) ≡ true → IsDue now r
-    by_life false life armed is e = absurd (false≢true e)
-    by_life true life None is e = absurd (false≢true e)
-    by_life true life (Some alarm) is e =
-        record { lives = life; alarm = alarm; armed = is; passed = by_passed alarm _ refl e }
+    passed alarm due =
+        elim (cases_Bool (nat_le alarm.delta ((now + (2 ^ 32 - alarm.reference)) % 2 ^ 32))) [
+          | inl is ↦ leb-true _ _ is
+          | inr is ↦ absurd (false≢true (rw is at due))
+        ]
 
 module _ (w : World) where
   abbrev Fires : Stepped → Type 0
@@ -163,8 +164,7 @@ module _ (w : World) where
         All-cons (FiresWhenDue w) (answer_label slot (alarmed w.settings w.clock.time w.devices).answer) []
         (λ now e. let same : now ≡ now_in w = cc in (
           same,
-          subst (λ (o : Option Record). IsSomeAnd o (IsDue now)) (sym is)
-              (due_written now r (ap (λ (n : ℕ). is_some (due_alarm n r.own)) same ∙ sym (due_there w slot r is)
+          rw is (due_written now r (ap (λ (n : ℕ). is_some (due_alarm n r.own)) same ∙ sym (due_there w slot r is)
               ∙ is_due (now_in w) (owns_in w) (only_in w) slot first)),
         )) none;
     sends = λ slot r first is. other slot r (transmitting (lane_in w) w.clock.time w.devices slot r)
@@ -204,21 +204,15 @@ fold_finds : (now : ℕ) (owns : List Own) (from count slot : ℕ) (least : Opti
     → IsUpTo x (fold (nearer_with now owns) least (range_with_len from count))
 fold_finds now owns from zero slot least x low high h = absurd (omega (arith, low, high))
 fold_finds now owns from (suc count) slot least x low high h =
-    by_first (slot == from) refl (λ above.
-    fold_finds now owns (from + 1) count slot (nearer_with now owns least from) x above (omega (arith, high)) h)
-  where
-    later : List ℕ
-    later = range_with_len (from + 1) count
-
-    by_first : (b : Bool) → (slot == from) ≡ b
-        → (from + 1 ≤ slot → IsUpTo x (fold (nearer_with now owns) (nearer_with now owns least from) later))
-        → IsUpTo x (fold (nearer_with now owns) (nearer_with now owns least from) later)
-    by_first true same rest =
-        let at : slot ≡ from = grind (arith, nat_tests) in
-        fold_keeps now owns later (nearer_with now owns least from) x
-        (nearer_right least (ticks_left_in now owns from) x
-        (subst (λ (n : ℕ). IsUpTo x (ticks_left_in now owns n)) at h))
-    by_first false apart rest = rest (grind (arith, nat_tests))
+    elim (cases_Bool (slot == from)) [
+      | inl same ↦
+          let at : slot ≡ from = eqb-true slot from same in
+          fold_keeps now owns (range_with_len (from + 1) count) (nearer_with now owns least from) x
+          (nearer_right least (ticks_left_in now owns from) x (rw at at h))
+      | inr apart ↦
+          fold_finds now owns (from + 1) count slot (nearer_with now owns least from) x (grind (arith, nat_tests))
+          (omega (arith, high)) h
+    ]
 
 left_up_to : (now : ℕ) (owns : List Own) (only : Option ℕ) (slot x : ℕ) → is_let only slot ≡ true
     → slot + 1 ≤ SLOT_COUNT → IsUpTo x (ticks_left_in now owns slot) → IsUpTo x (left_for only now owns)
@@ -238,21 +232,19 @@ nearer_one : (now : ℕ) (owns : List Own) (a b : Option ℕ) → OfOne now owns
 unfolding OfOne
 nearer_one now owns None b h k = k
 nearer_one now owns (Some m) None h k = h
-nearer_one now owns (Some m) (Some n) h k = by_order (cases_lt m n)
-  where
-    by_order : (m < n) ⊎ (n ≤ m)
-        → (slot : ℕ) × ((slot < SLOT_COUNT) × (ticks_left_in now owns slot ≡ Some (min m n)))
-    by_order (inl less) = (h.0, (h.1.0, h.1.1 ∙ ap Some (omega (arith, less))))
-    by_order (inr more) = (k.0, (k.1.0, k.1.1 ∙ ap Some (omega (arith, more))))
+nearer_one now owns (Some m) (Some n) h k =
+    elim (cases_lt m n) [
+      | inl less ↦ (h.0, (h.1.0, h.1.1 ∙ ap Some (omega (arith, less))))
+      | inr more ↦ (k.0, (k.1.0, k.1.1 ∙ ap Some (omega (arith, more))))
+    ]
 
 left_one : (now : ℕ) (owns : List Own) (slot : ℕ) → slot < SLOT_COUNT → OfOne now owns (ticks_left_in now owns slot)
 unfolding OfOne
-left_one now owns slot below = by_ticks (ticks_left_in now owns slot) refl
-  where
-    by_ticks : (o : Option ℕ) → ticks_left_in now owns slot ≡ o
-        → IfSome o (λ ticks. (slot : ℕ) × ((slot < SLOT_COUNT) × (ticks_left_in now owns slot ≡ Some ticks)))
-    by_ticks None is = tt
-    by_ticks (Some ticks) is = (slot, (below, is))
+left_one now owns slot below =
+    elim (cases_option (ticks_left_in now owns slot)) [
+      | inl none ↦ rw none tt
+      | inr some ↦ rw some.1 (slot, (below, some.1))
+    ]
 
 fold_one : (now : ℕ) (owns : List Own) (from count : ℕ) (least : Option ℕ) → from + count ≤ SLOT_COUNT
     → OfOne now owns least → OfOne now owns (fold (nearer_with now owns) least (range_with_len from count))
@@ -265,15 +257,14 @@ pub next_is_the_least : NextIsTheLeast
 unfolding next_left OfOne
 next_is_the_least now owns = record {
   of_one = fold_one now owns 0 SLOT_COUNT None (omega arith) tt;
-  none_less = λ slot below. by_ticks slot below (ticks_left_in now owns slot) refl;
+  none_less = λ slot below.
+      elim (cases_option (ticks_left_in now owns slot)) [
+        | inl none ↦ rw none tt
+        | inr left ↦
+            rw left.1 (fold_finds now owns 0 SLOT_COUNT slot None left.0 (omega arith) (omega (arith, below))
+            (rw left.1 (omega arith)))
+      ];
 }
-  where
-    by_ticks : (slot : ℕ) → slot < SLOT_COUNT → (o : Option ℕ) → ticks_left_in now owns slot ≡ o
-        → IfSome o (λ left. IsUpTo left (fold (nearer_with now owns) None (range_with_len 0 SLOT_COUNT)))
-    by_ticks slot below None is = tt
-    by_ticks slot below (Some left) is =
-        fold_finds now owns 0 SLOT_COUNT slot None left (omega arith) (omega (arith, below))
-        (subst (IsUpTo left) (sym is) (omega arith))
 
 pub later_up_to : (time x : ℕ) (o : Option ℕ) → IsUpTo x o → IsUpTo (time + x) (option_map (λ left. time + left) o)
 later_up_to time x None h = absurd h
@@ -315,20 +306,18 @@ work_up_to w slot x r within there may left =
     (nearer_left later sends (w.clock.time + x)
     (later_up_to w.clock.time x own
     (left_up_to (now_in w) (owns_in w) (only_in w) slot x may within
-    (subst (IsUpTo x)
-    (sym (left_at w slot ∙ ap (option_and_then (λ (r : Record). ticks_left_of (now_in w) r.own)) there ∙ left))
-    (omega arith)))))
+    (rw (left_at w slot, there, left) (omega arith)))))
 
 pub passes_stop_at_alarms : PassesStopAtAlarms
 unfolding next choice
-passes_stop_at_alarms w ticks slot r few e there may = by_left (ticks_left_of (now_in w) r.own) refl
-  where
-    by_left : (o : Option ℕ) → ticks_left_of (now_in w) r.own ≡ o → IfSome o (λ left. ticks ≤ left)
-    by_left None is = tt
-    by_left (Some left) is =
-        let within = slice_get_within w.records slot r there in
-        let pass = chosen_pass w.clock.time ticks (ready_device (ready_devices w))
-        (next_slot (ready_slots w) w.present.slot w.present.used w.pace.slice) (next_time w) e in
-        let up = passes_up_to w w.pace.window (w.clock.time + left) pass.at pass.is
-        (work_up_to w slot left r (omega (arith, few, within)) there may is) in
-        omega (arith, up, pass.by)
+passes_stop_at_alarms w ticks slot r few e there may =
+    elim (cases_option (ticks_left_of (now_in w) r.own)) [
+      | inl none ↦ rw none tt
+      | inr left ↦
+          let within = slice_get_within w.records slot r there in
+          let pass = chosen_pass w.clock.time ticks (ready_device (ready_devices w))
+          (next_slot (ready_slots w) w.present.slot w.present.used w.pace.slice) (next_time w) e in
+          let up = passes_up_to w w.pace.window (w.clock.time + left.0) pass.at pass.is
+          (work_up_to w slot left.0 r (omega (arith, few, within)) there may left.1) in
+          rw left.1 (omega (arith, up, pass.by))
+    ]

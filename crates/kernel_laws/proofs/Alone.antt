@@ -1,8 +1,11 @@
 -- The round robin where the process in one slot alone can have a turn: its slices follow one another. No other slot is
 -- ready, so it has the next turn however much of its slice is used; each turn is a stretch of one, joined to those
 -- after it by induction on the turns, and what is used then is counted through the slices (`used_through`).
+use Rattle.kernel_laws.proofs.Cases.{cases_option}
+use Rattle.std.proofs.lemmas.Bool.{cases_Bool}
+use Rattle.std.proofs.Common.{inl, inr}
 use Rattle.std.proofs.Common.{◌≡◌, ℕ, zero, suc, ◌+◌, ◌-◌, ◌%◌, ◌<◌, ◌≤◌, ◌==◌, Bool, true, false, ◌&&◌, nat_lt}
-use Rattle.std.proofs.Common.{if◌then◌else◌, map, List, slice_get, slice_set, Option, None, Some, refl, sym, ap, ap₂}
+use Rattle.std.proofs.Common.{if◌then◌else◌, map, slice_get, Option, None, Some, refl, sym, ap}
 use Rattle.std.proofs.Common.{subst, ◌∙◌, arith, eqb-true, eq-eqb}
 use Rattle.std.proofs.Math.Nat.{mod-add-mod, mod-eq_of_lt, mod_self}
 use Rattle.std.proofs.lemmas.Bool.{false≢true}
@@ -30,20 +33,19 @@ use Rattle.kernel_laws.proofs.Turns.{turn_is_free}
 
 pub one_alone_is_next : OneAloneIsNext
 one_alone_is_next w slot r within at runs free alone lets =
-    by_next (next_slot (ready_slots w) w.present.slot w.present.used w.pace.slice) refl
-  where
-    by_next : (o : Option ℕ) → next_slot (ready_slots w) w.present.slot w.present.used w.pace.slice ≡ o → o ≡ Some slot
-    by_next None e = absurd (false≢true (sym (no_turn (ready_slots w) w.present.slot w.present.used w.pace.slice slot e
-        within)
-        ∙ runs_and_goes w slot r at runs free lets))
-    by_next (Some other) e = by_same (other == slot) refl
-      where
-        by_same : (b : Bool) → (other == slot) ≡ b → ◌≡◌ {A = Option ℕ} (Some other) (Some slot)
-        by_same true same = ap Some (eqb-true other slot same)
-        by_same false apart = absurd (false≢true (sym (alone other (λ is.
-            false≢true (sym apart ∙ eq-eqb other slot is)))
-            ∙ ready_runs w.records other (going_is_ready (only_in w) (map may_turn w.records) other
-            (next_slot_ready (ready_slots w) w.present.slot w.present.used w.pace.slice other e))))
+    let chosen = next_slot (ready_slots w) w.present.slot w.present.used w.pace.slice in
+    elim (cases_option chosen) [
+      | inl e ↦
+          absurd (false≢true (sym (no_turn (ready_slots w) w.present.slot w.present.used w.pace.slice slot e within)
+          ∙ runs_and_goes w slot r at runs free lets))
+      | inr other ↦ elim (cases_Bool (other.0 == slot)) [
+        | inl same ↦ other.1 ∙ ap Some (eqb-true other.0 slot same)
+        | inr apart ↦
+            absurd (false≢true (sym (alone other.0 (λ is. false≢true (sym apart ∙ eq-eqb other.0 slot is)))
+            ∙ ready_runs w.records other.0 (going_is_ready (only_in w) (map may_turn w.records) other.0
+            (next_slot_ready (ready_slots w) w.present.slot w.present.used w.pace.slice other.0 other.1))))
+      ]
+    ]
 
 -- before its next turn a slot has used less than a slice
 used_less : (o : Option ℕ) (used slice slot : ℕ) → 1 ≤ slice → used_after o used slice slot - 1 < slice
@@ -58,24 +60,16 @@ used_less (Some present) used slice slot one = by (present == slot) (nat_lt used
 -- a turn more, and the next slice begins where this one is used
 used_on : (slot before slice : ℕ) → before < slice
     → used_after (Some slot) (before + 1) slice slot - 1 ≡ (before + 1) % slice
-used_on slot before slice less = by (nat_lt (before + 1) slice) refl
-  where
-    begins : (b : Bool) → (slot == slot) ≡ true → (if (slot == slot) && b then before + 1 + 1 else 1) - 1
-        ≡ (if b then before + 1 else 0)
-    begins true e = rw e (omega arith)
-    begins false e = rw e refl
-
-    by : (b : Bool) → nat_lt (before + 1) slice ≡ b
-        → (if (slot == slot) && nat_lt (before + 1) slice then before + 1 + 1 else 1) - 1 ≡ (before + 1) % slice
-    by true e =
-        let below : before + 1 < slice = grind (arith, nat_tests) in
-        ap (λ (b : Bool). (if (slot == slot) && b then before + 1 + 1 else 1) - 1) e
-        ∙ begins true (eq-eqb slot slot refl) ∙ sym (mod-eq_of_lt below)
-    by false e =
-        let not_below : slice ≤ before + 1 = grind (arith, nat_tests) in
-        let is : before + 1 ≡ slice = omega (arith, less, not_below) in
-        ap (λ (b : Bool). (if (slot == slot) && b then before + 1 + 1 else 1) - 1) e
-        ∙ begins false (eq-eqb slot slot refl) ∙ sym (ap (λ (n : ℕ). n % slice) is ∙ mod_self slice)
+used_on slot before slice less =
+    elim (cases_Bool (nat_lt (before + 1) slice)) [
+      | inl e ↦
+          let below : before + 1 < slice = grind (arith, nat_tests) in
+          rw (eq-eqb slot slot refl, e, mod-eq_of_lt below) (omega arith)
+      | inr e ↦
+          let above : slice ≤ before + 1 = grind (arith, nat_tests) in
+          let is : before + 1 ≡ slice = omega (arith, less, above) in
+          rw (eq-eqb slot slot refl, e) (sym (ap (λ (n : ℕ). n % slice) is ∙ mod_self slice))
+    ]
 
 -- so what is used after one turn and then some is what is used after all of them
 used_one : (before slice : ℕ) → before < slice → before + 1 ≡ used_through slice before 1
@@ -87,16 +81,10 @@ used_then : (slot before slice m : ℕ) → before < slice
     → used_through slice (used_after (Some slot) (before + 1) slice slot - 1) (suc m)
     ≡ used_through slice before (suc (suc m))
 used_then slot before slice m less =
-    ap (λ (n : ℕ). (n + suc m - 1) % slice + 1) (used_on slot before slice less)
-    ∙ ap (λ (n : ℕ). n % slice + 1) less_one
-    ∙ ap (λ (n : ℕ). n + 1) (mod-add-mod (before + 1) slice m)
-    ∙ ap (λ (n : ℕ). n % slice + 1) all
-  where
-    less_one : (before + 1) % slice + suc m - 1 ≡ (before + 1) % slice + m
-    less_one = let n = (before + 1) % slice in omega arith
-
-    all : before + 1 + m ≡ before + suc (suc m) - 1
-    all = omega arith
+    let less_one : (before + 1) % slice + suc m - 1 ≡ (before + 1) % slice + m = let n = (before + 1) % slice in
+    omega arith in
+    let all : before + suc (suc m) - 1 ≡ before + 1 + m = omega arith in
+    rw (used_on slot before slice less, less_one, mod-add-mod (before + 1) slice m, all)
 
 module _ (slot : ℕ) (w : World) (r : Record) (limit : w.clock.steps + 1 ≤ STEP_LIMIT) (one : 1 ≤ w.pace.slice)
     (within : slot < SLOT_COUNT) (f : next w ≡ Some (Run slot)) (at : slice_get w.records slot ≡ Some r)
@@ -136,47 +124,19 @@ module _ (slot : ℕ) (w : World) (r : Record) (limit : w.clock.steps + 1 ≤ ST
   -- the turns after it lead where all of them do
   all_turns : (m : ℕ) (later : Record) → after_slices (suc m) there slot later ≡ after_slices (suc (suc m)) w slot later
   all_turns m later =
-      ap (λ (rs : List Record). record w {
-        records = rs;
-        clock =
-            record { time = w.clock.time + 1 + suc m; steps = w.clock.steps + 1 + suc m };
-        present =
-            record {
-              slot = Some slot;
-              used = used_through w.pace.slice (used_after (Some slot) (before + 1) w.pace.slice slot - 1) (suc m);
-            };
-      })
-      (set-set w.records slot (instruction_made r) later)
-      ∙ ap₂ (λ (time steps : ℕ). record w {
-        records = slice_set w.records slot later;
-        clock =
-            record { time = time; steps = steps };
-        present =
-            record {
-              slot = Some slot;
-              used = used_through w.pace.slice (used_after (Some slot) (before + 1) w.pace.slice slot - 1) (suc m);
-            };
-      })
-      (sym (one_then w.clock.time (suc m))) (sym (one_then w.clock.steps (suc m)))
-      ∙ ap (λ (used : ℕ). record w {
-        records = slice_set w.records slot later;
-        clock =
-            record { time = w.clock.time + suc (suc m); steps = w.clock.steps + suc (suc m) };
-        present =
-            record { slot = Some slot; used = used };
-      })
-      (used_then slot before w.pace.slice m less)
+      rw (
+        set-set w.records slot (instruction_made r) later,
+        one_then w.clock.time (suc m),
+        one_then w.clock.steps (suc m),
+        used_then slot before w.pace.slice m less,
+      )
 
 pub one_alone_goes_on : OneAloneGoesOn
 unfolding after_instructions
 one_alone_goes_on zero slot w r some limit one within f at runs alone go lets none = absurd (omega (arith, some))
 one_alone_goes_on (suc zero) slot w r some limit one within f at runs alone go lets none =
-    subst (λ (n : ℕ). IsStretch 1 w
-    (record (after_stretch 1 (at_turn w slot) slot (instruction_made r)) {
-      present = record { slot = Some slot; used = n };
-    }))
-    (used_one (at_turn w slot).present.used w.pace.slice (less slot w r limit one within f at runs alone))
-    (first_turn slot w r limit one within f at runs alone go lets none)
+    rw (used_one (at_turn w slot).present.used w.pace.slice (less slot w r limit one within f at runs alone))
+    at (first_turn slot w r limit one within f at runs alone go lets none)
 one_alone_goes_on (suc (suc m)) slot w r some limit one within f at runs alone go lets none =
     let second = there slot w r limit_one one within f at runs alone in
     let later = after_instructions (suc m) (instruction_made r) in

@@ -1,8 +1,9 @@
 -- What an answer of a device changes of a process's bytes: those inside the buffer that is held for it, and of the
 -- storage what a write asks for; an operator's act only as it starts the process again. Event by event, by the law that
 -- answers write in buffers (`AnswersWriteInBuffers`), which needs that the own is whole.
+use Rattle.kernel_model.proofs.Restarts.{restart_by}
 use Rattle.std.proofs.Common.{◌≡◌, ◌≢◌, ◌⊎◌, inl, inr, ◌<◌, ◌≤◌, ℕ, ◌+◌, Bool, true, false, cond, List, length, min}
-use Rattle.std.proofs.Common.{unwrap_or, slice_index, Option, None, Some, Result, Ok, Err, refl, ap, arith}
+use Rattle.std.proofs.Common.{unwrap_or, slice_index, Option, None, Some, refl, ap, arith}
 use Rattle.std.specs.Prelude.{IsSomeAnd}
 use Rattle.std.proofs.Math.Logic.{⊎_map}
 use Rattle.std.proofs.lemmas.Bool.{cases_lt}
@@ -18,9 +19,6 @@ use Rattle.process_model.specs.Served.{bytes_at}
 use Rattle.driver_model.specs.Requests.{unanswered, waiting_in}
 use Rattle.tk_base.specs.declared.process.Verb.{Verb}
 use Rattle.tk_base.specs.declared.process.Verb.TheVariants as verbs
-use Rattle.tbf_headers.specs.declared.fault.HeaderFault.{HeaderFault}
-use Rattle.tbf_headers.specs.declared.program.Main.{Main}
-use Rattle.tbf_headers.specs.Meaning.{Meaning, header_reading}
 use Rattle.process_model.specs.Changes.{ChangesAt, IsInside, IsWhole}
 use Rattle.process_model.specs.Own.{own_ended}
 use Rattle.process_record.specs.Process.{after_end, is_alive}
@@ -29,8 +27,6 @@ use Rattle.driver_model.specs.Bytes.{AnswersWriteInBuffers}
 use Rattle.driver_model.specs.Storage as storage
 use Rattle.kernel_model.specs.Record.{Record}
 use Rattle.kernel_model.specs.declared.settings.Settings.{Settings}
-use Rattle.kernel_model.specs.Calls.{restart}
-use Rattle.kernel_model.specs.Parts.{restarted_by, restarted_main}
 use Rattle.kernel_model.specs.Turn.{Act, Event, Turn, Alarmed, Edge, Taken, WriteDone, Input, Word, NoWord, Stored}
 use Rattle.kernel_model.specs.Turn.{apply, is_turn, operated}
 use Rattle.kernel_model.specs.Record.{flash_of}
@@ -43,8 +39,7 @@ use Rattle.kernel_model.proofs.Steps.{IsAnswer, of_told}
 overwritten_other : (bytes written : List ℕ) (offset k : ℕ) → k < length bytes
     → (k < offset) ⊎ (offset + length written ≤ k)
     → slice_index (overwritten bytes offset written) k ≡ slice_index bytes k
-overwritten_other bytes written offset k within (inl below) = grind (arith, places)
-overwritten_other bytes written offset k within (inr above) = grind (arith, places)
+overwritten_other bytes written offset k within out = grind (arith, places)
 
 -- a place that a write covers, if there is one
 abbrev Covers : Option (ℕ × List ℕ) → ℕ → Type 0
@@ -52,19 +47,14 @@ Covers o k = IsSomeAnd o (λ written. (written.0 ≤ k) × (k < written.0 + leng
 
 overwrites : (bytes : List ℕ) (o : Option (ℕ × List ℕ)) → StorageChangesAt (Covers o) bytes (written_over bytes o)
 overwrites bytes None k within = inl refl
-overwrites bytes (Some written) k within = by_start (cases_lt k written.0)
-  where
-    by_end : written.0 ≤ k → (k < written.0 + length written.1) ⊎ (written.0 + length written.1 ≤ k)
-        → (slice_index (overwritten bytes written.0 written.1) k ≡ slice_index bytes k)
-        ⊎ ((written.0 ≤ k) × (k < written.0 + length written.1))
-    by_end above (inl under) = inr (above, under)
-    by_end above (inr past) = inl (overwritten_other bytes written.1 written.0 k within (inr past))
-
-    by_start : (k < written.0) ⊎ (written.0 ≤ k)
-        → (slice_index (overwritten bytes written.0 written.1) k ≡ slice_index bytes k)
-        ⊎ ((written.0 ≤ k) × (k < written.0 + length written.1))
-    by_start (inl below) = inl (overwritten_other bytes written.1 written.0 k within (inl below))
-    by_start (inr above) = by_end above (cases_lt k (written.0 + length written.1))
+overwrites bytes (Some written) k within =
+    elim (cases_lt k written.0) [
+      | inl below ↦ inl (overwritten_other bytes written.1 written.0 k within (inl below))
+      | inr above ↦ elim (cases_lt k (written.0 + length written.1)) [
+        | inl under ↦ inr (above, under)
+        | inr past ↦ inl (overwritten_other bytes written.1 written.0 k within (inr past))
+      ]
+    ]
 
 -- what serving a request writes over the storage, where that does not fail, lies where a write asks for
 abbrev AsksFor : Own → ℕ → StorageRequest → Type 0
@@ -85,14 +75,14 @@ answer_asks : (flash : ℕ → ℕ) (bytes : List ℕ) (own : Own) (k : ℕ)
     → Covers (storage.answered false flash bytes own).moved k
     → IsSomeAnd (waiting_in storage.storages own) (AsksFor own k)
 unfolding storage.answered
-answer_asks flash bytes own k = by_request (waiting_in storage.storages own)
-  where
-    by_request : (o : Option StorageRequest)
-        → Covers (unwrap_or (option_map (λ request.
-        storage.finished (storage.storage_served false flash bytes request own)) o)
-        (unanswered None own)).moved k → IsSomeAnd o (AsksFor own k)
-    by_request None covers = absurd covers
-    by_request (Some request) covers = served_asks flash bytes request own k request.kind refl covers
+answer_asks flash bytes own k =
+    elim (waiting_in storage.storages own) as (λ (o : Option StorageRequest).
+    Covers (unwrap_or (option_map (λ request.
+    storage.finished (storage.storage_served false flash bytes request own)) o) (unanswered None own)).moved k
+    → IsSomeAnd o (AsksFor own k)) [
+      | None ↦ λ covers. absurd covers
+      | Some request ↦ served_asks flash bytes request own k request.kind refl
+    ]
 
 -- a device's answer changes bytes inside the buffer that is held for it
 record AnswerIsInBuffer (event : Event) (r s : Record) : Type 0 where
@@ -108,8 +98,7 @@ answer_in_buffer law settings (Alarmed now) r is whole =
 answer_in_buffer law settings (Edge button pressed) r is whole =
     record {
       own = λ at before after. inl (law.edged button pressed r.own at before after);
-      storage =
-          λ k within. inl refl;
+      storage = λ k within. inl refl;
     }
 answer_in_buffer law settings Taken r is whole =
     record { own = λ at before after. inl (law.taken r.own at before after); storage = λ k within. inl refl }
@@ -122,8 +111,7 @@ answer_in_buffer law settings (Word word) r is whole =
 answer_in_buffer law settings NoWord r is whole =
     record {
       own = λ at before after. inl (law.no_word r.own at before after);
-      storage =
-          λ k within. inl refl;
+      storage = λ k within. inl refl;
     }
 answer_in_buffer law settings (Stored true) r is whole = record {
   own = law.stored false (flash_of r) r.storage r.own whole;
@@ -149,10 +137,10 @@ answer_has_causes law settings event r is whole =
 
 -- an operator's act changes bytes only where it starts the process again
 act_has_causes : (verb : Verb) (r : Record) → AnswerHasCauses (Act verb) r (operated verb r)
-unfolding restart
-act_has_causes verbs.List r = record { own = λ at before after. inl refl; storage = λ k within. inl refl }
-act_has_causes verbs.Stop r = record { own = λ at before after. inl refl; storage = λ k within. inl refl }
-act_has_causes verbs.Start r = record { own = λ at before after. inl refl; storage = λ k within. inl refl }
+act_has_causes verbs.Restart r =
+    restart_by (AnswerHasCauses (Act verbs.Restart) r) r
+    (record { own = λ at before after. inl refl; storage = λ k within. inl refl })
+    (λ h m read main. record { own = λ at before after. inr (inr (refl, refl)); storage = λ k within. inl refl })
 act_has_causes verbs.Terminate r = by_test (is_alive r.process.state)
   where
     by_test : (b : Bool) → AnswerHasCauses (Act verbs.Terminate) r (record r {
@@ -161,16 +149,7 @@ act_has_causes verbs.Terminate r = by_test (is_alive r.process.state)
     })
     by_test true = record { own = λ at before after. inl refl; storage = λ k within. inl refl }
     by_test false = record { own = λ at before after. inl refl; storage = λ k within. inl refl }
-act_has_causes verbs.Restart r = by_reading (header_reading r.object)
-  where
-    by_main : (h : Meaning) (m : Option Main) → AnswerHasCauses (Act verbs.Restart) r (restarted_main r h m)
-    by_main h None = record { own = λ at before after. inl refl; storage = λ k within. inl refl }
-    by_main h (Some m) =
-        record { own = λ at before after. inr (inr (refl, refl)); storage = λ k within. inl refl }
-
-    by_reading : (h : Result Meaning HeaderFault) → AnswerHasCauses (Act verbs.Restart) r (restarted_by r h)
-    by_reading (Ok h) = by_main h h.main
-    by_reading (Err fault) = record { own = λ at before after. inl refl; storage = λ k within. inl refl }
+act_has_causes verb r = record { own = λ at before after. inl refl; storage = λ k within. inl refl }
 
 -- so what a process is told, or an operator does to it, has its causes
 pub told_has_causes : AnswersWriteInBuffers → (settings : Settings) (event : Event) (r : Record)
@@ -183,15 +162,7 @@ told_has_causes law settings event r is whole =
 -- an event that is none at any time is no turn
 no_turn : (event : Event) → ((time : ℕ) → event ≢ Turn time) → is_turn event ≡ false
 no_turn (Turn time) none = absurd (none time refl)
-no_turn (Alarmed now) none = refl
-no_turn (Edge button pressed) none = refl
-no_turn Taken none = refl
-no_turn WriteDone none = refl
-no_turn (Input bytes) none = refl
-no_turn (Word word) none = refl
-no_turn NoWord none = refl
-no_turn (Stored moved) none = refl
-no_turn (Act verb) none = refl
+no_turn event none = refl
 
 pub answers_have_causes : AnswersWriteInBuffers → AnswersHaveCauses
 answers_have_causes law settings event r none whole =

@@ -1,6 +1,8 @@
 -- What comes in comes in the order in which it was to.
-use Rattle.std.proofs.Common.{◌≡◌, ℕ, Bool, true, false, cond, List, [], ◌∷◌, slice_get, Option, None, Some}
-use Rattle.std.proofs.Common.{refl, sym, ap, ◌∙◌}
+use Rattle.std.proofs.lemmas.Bool.{cases_Bool}
+use Rattle.std.proofs.Common.{inl, inr}
+use Rattle.std.proofs.Common.{◌≡◌, ℕ, List, [], ◌∷◌, slice_get, Option, None, Some}
+use Rattle.std.proofs.Common.{refl, sym, ap}
 use Rattle.std.specs.List.{cons_option}
 use Rattle.std.specs.Option.{option_map}
 use Rattle.std.specs.Prelude.{unwrap_or}
@@ -14,7 +16,7 @@ use Rattle.script_text.specs.Settings as script
 use Rattle.driver_model.specs.Commands.{BoardRequest}
 use Rattle.kernel_model.specs.Record.{Record}
 use Rattle.kernel_model.specs.Turn.{turned}
-use Rattle.kernel_model.specs.World.{DeviceAnswer, Devices, Stepped, World, after, answering, arrived}
+use Rattle.kernel_model.specs.World.{DeviceAnswer, Devices, World, after, answering, arrived}
 use Rattle.kernel_model.specs.Parts.{alarmed}
 use Rattle.kernel_model.specs.World.{carried_out}
 use Rattle.kernel_model.specs.World.{coming_in, device_step_of, done, is_ready, ran, random_step}
@@ -34,25 +36,20 @@ routed_arrivals slot acts d = ap (λ (x : Devices). x.arrivals) (routed_rest slo
 acting_arrivals : (verb : Verb) (rs : List Record) (d : Devices) (o : Option ℕ)
     → (acting_on verb rs d o).devices.arrivals ≡ d.arrivals
 acting_arrivals verb rs d None = refl
-acting_arrivals verb rs d (Some slot) = by_record (slice_get rs slot)
-  where
-    by_record : (o : Option Record) → (unwrap_or
-        (option_map (λ (r : Record). answering slot (operating verb d slot r)) o) (telling_nobody d)).devices.arrivals
-        ≡ d.arrivals
-    by_record None = refl
-    by_record (Some r) = routed_arrivals slot (acts_of verb r) d
+acting_arrivals verb rs d (Some slot) =
+    elim (slice_get rs slot) as (λ o. (unwrap_or
+    (option_map (λ (r : Record). answering slot (operating verb d slot r)) o) (telling_nobody d)).devices.arrivals
+    ≡ d.arrivals) [ None ↦ refl | Some r ↦ routed_arrivals slot (acts_of verb r) d ]
 
 module _ (w : World) where
   serving_arrivals : (make : ℕ → Record → DeviceAnswer)
       → ((slot : ℕ) (r : Record) → (make slot r).devices.arrivals ≡ w.devices.arrivals) → (served : Option ℕ)
       → w.devices.arrivals ≡ (done w (serving w.records make served)).after.devices.arrivals
   serving_arrivals make each None = refl
-  serving_arrivals make each (Some slot) = by_record (slice_get w.records slot)
-    where
-      by_record : (o : Option Record) → w.devices.arrivals
-          ≡ (done w (option_map (λ (r : Record). answering slot (make slot r)) o)).after.devices.arrivals
-      by_record None = refl
-      by_record (Some r) = sym (each slot r)
+  serving_arrivals make each (Some slot) =
+      elim (slice_get w.records slot) as (λ o. w.devices.arrivals
+      ≡ (done w (option_map (λ (r : Record). answering slot (make slot r)) o)).after.devices.arrivals)
+      [ None ↦ refl | Some r ↦ sym (each slot r) ]
 
   of_arrived : (arrivals : List Arrival) → w.devices.arrivals ≡ arrivals
       → arrivals ≡ cons_option (slice_get arrivals 0) (done w
@@ -62,12 +59,10 @@ module _ (w : World) where
     where
       by_kind : (kind : EventKind) → arrival ∷ rest
           ≡ arrival ∷ (coming_in kind w.records (record w.devices { arrivals = rest })).devices.arrivals
-      by_kind (script.Input bytes) = refl
-      by_kind (script.Press button) = refl
-      by_kind (script.Release button) = refl
       by_kind (script.Act verb name) =
           ap (λ (arrivals : List Arrival). arrival ∷ arrivals) (sym (acting_arrivals verb w.records
           (record w.devices { arrivals = rest }) (slot_of_name name w.records)))
+      by_kind kind = refl
 
   of_device : (device : Dev)
       → w.devices.arrivals ≡ cons_option (first_for (Device device) w.devices.arrivals)
@@ -89,23 +84,19 @@ module _ (w : World) where
       → w.devices.arrivals
       ≡ cons_option (first_for choice w.devices.arrivals) (carried_out w choice).after.devices.arrivals
   unfolding carried_out
-  of_choice (Run slot) = by_record (slice_get w.records slot)
-    where
-      by_record : (o : Option Record) → w.devices.arrivals ≡ (ran w slot o).after.devices.arrivals
-      by_record None = refl
-      by_record (Some r) = sym (routed_arrivals slot (turned w.settings w.clock.time r).acts w.devices)
+  of_choice (Run slot) =
+      elim (slice_get w.records slot) as (λ o. w.devices.arrivals ≡ (ran w slot o).after.devices.arrivals) [
+        | None ↦ refl
+        | Some r ↦ sym (routed_arrivals slot (turned w.settings w.clock.time r).acts w.devices)
+      ]
   of_choice (Device device) = of_device device
   of_choice (Pass ticks) = refl
 
   -- what was to come in is what comes in by a step, and then what is still to
   pub arrives_in_order : (choice : Choice)
       → w.devices.arrivals ≡ cons_option (arrival_in w choice) (after w choice).devices.arrivals
-  arrives_in_order choice = by_ready (is_ready w choice) refl
-    where
-      by_ready : (b : Bool) → is_ready w choice ≡ b
-          → w.devices.arrivals ≡ cons_option (cond b (first_for choice w.devices.arrivals) None)
-          (after w choice).devices.arrivals
-      by_ready true e =
-          of_choice choice ∙ ap (λ (s : Stepped). cons_option (first_for choice w.devices.arrivals)
-          s.after.devices.arrivals) (sym (stepped_ready w choice e))
-      by_ready false e = ap (λ (s : Stepped). s.after.devices.arrivals) (sym (stepped_else w choice e))
+  arrives_in_order choice =
+      elim (cases_Bool (is_ready w choice)) [
+        | inl e ↦ rw (e, stepped_ready w choice e, after) (of_choice choice)
+        | inr e ↦ rw (e, stepped_else w choice e, after)
+      ]

@@ -1,8 +1,7 @@
 -- That each request that waits after a turn waited before it, or is that of the accepted command that the turn tells.
 -- What is kept for a queue is left, set by that command, or gone as a life ended (`request_becomes`); and a process
 -- lives after its turn as before it, or none of its requests waits (`lives_or_waits_not`).
-use Rattle.std.proofs.Common.{◌≡◌, ◌⊎◌, inl, inr, ℕ, Bool, true, false, cond, Option, None, Some, IfSome, refl, sym, ap}
-use Rattle.std.proofs.Common.{subst}
+use Rattle.std.proofs.Common.{◌≡◌, ◌⊎◌, inl, inr, ℕ, Bool, true, false, cond, Option, None, Some, IfSome, refl, ap}
 use Rattle.std.specs.Prelude.{IsSomeAnd}
 use Rattle.process_model.specs.Own.{Own}
 use Rattle.process_record.specs.Parts.{after_fault}
@@ -12,13 +11,12 @@ use Rattle.driver_model.specs.Keeping.{DriversKeep}
 use Rattle.driver_model.specs.Lines.{RequestOf}
 use Rattle.kernel_model.specs.Record.{Record, with_effect}
 use Rattle.kernel_model.specs.declared.settings.Settings.{Settings}
-use Rattle.kernel_model.specs.Calls.{restart}
 use Rattle.kernel_model.specs.Parts.{with_process}
 use Rattle.kernel_model.specs.Turn.{surroundings, turn_counted, turned}
 use Rattle.kernel_model.proofs.Calling.{of_commanded, of_served}
 use Rattle.kernel_model.proofs.Turning.{of_denial, of_each_end}
 use Rattle.kernel_model.proofs.Yields.{kept_by_yield}
-use Rattle.kernel_laws.specs.Arming.{Becomes, SetsBy}
+use Rattle.kernel_laws.specs.Arming.{SetsBy}
 use Rattle.kernel_laws.specs.Asking.{IsAskedBy, IsOfCommand, RequestsAreAsAsked, RequestsAreOfCommands}
 use Rattle.kernel_laws.specs.Asking.{RequestsGoOn}
 use Rattle.kernel_laws.specs.Withdrawing.{SetsRequest}
@@ -31,51 +29,35 @@ module _ (queue : QueueName) (own : Own) where
   abbrev LivesOrWaitsNot : Own → Type 0
   LivesOrWaitsNot o = (o.lives ≡ own.lives) ⊎ (waits queue o ≡ None)
 
-  starts_so : (s : Record) → LivesOrWaitsNot s.own → LivesOrWaitsNot (restart s).own
-  starts_so s same = of_restart LivesOrWaitsNot s same (λ brk. inr refl)
-
   -- what waits, by what is kept
   abbrev Follows : Own → Option CallMade → Type 0
   Follows o call = IfSome (waits queue o) (IsOfCommand queue (waits queue own) call)
 
-  follows_none : (o : Own) (call : Option CallMade) → waits queue o ≡ None → Follows o call
-  follows_none o call none =
-      subst (λ (w : Option (RequestOf queue)). IfSome w (IsOfCommand queue (waits queue own) call)) (sym none) tt
-
-  follows_same : (o : Own) (call : Option CallMade) → waits queue o ≡ waits queue own → Follows o call
-  follows_same o call same =
-      subst (λ (w : Option (RequestOf queue)). IfSome w (IsOfCommand queue (waits queue own) call)) (sym same)
-      (by_request (waits queue own) refl)
-    where
-      by_request : (w : Option (RequestOf queue)) → waits queue own ≡ w
-          → IfSome w (IsOfCommand queue (waits queue own) call)
-      by_request None e = tt
-      by_request (Some request) e = inl e
-
   follows_kept : (o : Own) (call : Option CallMade) → asks queue o ≡ asks queue own → LivesOrWaitsNot o
       → Follows o call
-  follows_kept o call same (inl lives) = follows_same o call (waits_same queue own o same lives)
-  follows_kept o call same (inr none) = follows_none o call none
+  follows_kept o call same (inr none) = rw none tt
+  follows_kept o call same (inl lives) = rw (waits_same queue own o same lives) (itself (waits queue own))
+    where
+      itself : (w : Option (RequestOf queue)) → IfSome w (IsOfCommand queue w call)
+      itself None = tt
+      itself (Some request) = inl refl
 
   follows_set : (now : ℕ) (o : Own) (call : Option CallMade)
       → IsSomeAnd call (SetsBy (SetsRequest queue) now (asks queue own) (asks queue o)) → Follows o call
   follows_set now o None sets = absurd sets
-  follows_set now o (Some made) sets = by_sets sets.sets
+  follows_set now o (Some made) sets =
+      elim sets.sets [
+        | inl new ↦ rw (none_waits queue own new.0) (by_life o.lives (asks queue o) new.1)
+        | inr gone ↦ rw (none_waits queue o gone.1.1) tt
+      ]
     where
-      by_life : asks queue own ≡ None → (b : Bool) (later : Option (RequestOf queue))
+      by_life : (b : Bool) (later : Option (RequestOf queue))
           → IsSomeAnd later (λ request. IsAskedBy queue request made.args)
-          → IfSome (cond b later None) (IsOfCommand queue (waits queue own) (Some made))
-      by_life none false later asked = tt
-      by_life none true None asked = tt
-      by_life none true (Some request) asked =
-          inr (
-            none_waits queue own none,
-            record { class = sets.class; accepted = sets.accepted; asks = asked },
-          )
-
-      by_sets : SetsRequest queue now (asks queue own) made.args (asks queue o) → Follows o (Some made)
-      by_sets (inl new) = by_life new.0 o.lives (asks queue o) new.1
-      by_sets (inr gone) = follows_none o (Some made) (none_waits queue o gone.1.1)
+          → IfSome (cond b later None) (IsOfCommand queue None (Some made))
+      by_life true (Some request) asked =
+          inr (refl, record { class = sets.class; accepted = sets.accepted; asks = asked })
+      by_life b None asked = absurd asked
+      by_life false later asked = tt
 
 -- a process lives after its turn as before it, or none of its requests waits
 lives_or_waits_not : DriversKeep → (queue : QueueName) (settings : Settings) (time : ℕ) (r : Record)
@@ -87,7 +69,8 @@ lives_or_waits_not keep queue settings time r =
       faults = λ t denial is runs.
           let s = with_effect (turn_counted r) t in
           of_denial (λ x. LivesOrWaitsNot queue r.own x.own) settings s denial (inr refl)
-          (starts_so queue r.own (with_process s (after_fault s.process denial)) (inl refl));
+          (of_restart (LivesOrWaitsNot queue r.own) (with_process s (after_fault s.process denial)) (inl refl)
+          (λ brk. inr refl));
       makes = λ t form is calls runs made.
           let s = with_effect (turn_counted r) t in
           let around = surroundings settings time s in
@@ -103,33 +86,25 @@ lives_or_waits_not keep queue settings time r =
                 of_commanded (λ x. LivesOrWaitsNot queue r.own x.after.own) s (taker around number x y s.own)
                 (λ reply answers. inl lives) (λ rule answers. inl lives);
             ends = λ kind code same. inr refl;
-            again = λ kind code same. starts_so queue r.own s (inl refl);
+            again = λ kind code same. of_restart (LivesOrWaitsNot queue r.own) s (inl refl) (λ brk. inr refl);
           });
       delivers = λ next is yielded. inl refl;
     })
 
 pub requests_are_of_commands : DriversKeep → (settings : Settings) (time : ℕ) (r : Record)
     → let t = turned settings time r in RequestsAreOfCommands r t.after t.told
-requests_are_of_commands keep settings time r = record {
-  each = λ queue.
-      by_becoming queue (request_becomes queue settings time r)
-      (lives_or_waits_not keep queue settings time r);
-}
-  where
-    o : Own
-    o = (turned settings time r).after.own
-
-    call : Option CallMade
-    call = (turned settings time r).told.call
-
-    by_becoming : (queue : QueueName) → let t = turned settings time r in
-        Becomes (SetsRequest queue) None (surroundings settings time r).now t.told r t.after (asks queue r.own)
-        (asks queue o)
-        → LivesOrWaitsNot queue r.own o → Follows queue r.own o call
-    by_becoming queue (inl same) lives = follows_kept queue r.own o call same lives
-    by_becoming queue (inr (inl sets)) lives =
-        follows_set queue r.own (surroundings settings time r).now o call sets
-    by_becoming queue (inr (inr anew)) lives = follows_none queue r.own o call (none_waits queue o anew.1)
+requests_are_of_commands keep settings time r =
+    let t = turned settings time r in
+    let now = (surroundings settings time r).now in
+    record {
+      each = λ queue.
+          elim (request_becomes queue settings time r) [
+            | inl same ↦
+                follows_kept queue r.own t.after.own t.told.call same (lives_or_waits_not keep queue settings time r)
+            | inr (inl sets) ↦ follows_set queue r.own now t.after.own t.told.call sets
+            | inr (inr anew) ↦ rw (none_waits queue t.after.own anew.1) tt
+          ];
+    }
 
 pub requests_are_as_asked : DriversKeep → RequestsAreAsAsked
 requests_are_as_asked keep = record {

@@ -3,7 +3,7 @@
 -- (`of_each_end`), and an instruction that calls does no more than that; and labels are (`of_labels`).
 use Rattle.std.proofs.Common.{◌≡◌, ℕ, false, List, Option, Some, slice_get}
 use Rattle.std.proofs.Common.{sym, ap, subst, ◌∙◌}
-use Rattle.std.specs.Prelude.{All, IsSomeAnd}
+use Rattle.std.specs.Prelude.{All}
 use Rattle.std.specs.Option.{option_map}
 use Rattle.std.proofs.lemmas.Bool.{false≢true}
 use Rattle.tk_base.specs.declared.access.Denial.{Denial}
@@ -23,9 +23,8 @@ use Rattle.kernel_model.specs.Calls.{deliver, served}
 use Rattle.kernel_model.specs.Turn.{Event, TurnTrace, Turned, apply, called, faulted, idle, is_turn}
 use Rattle.kernel_model.specs.Turn.{surroundings, turn_counted, turned, untraced}
 use Rattle.kernel_model.specs.Parts.{calls, happens}
-use Rattle.kernel_model.specs.World.{Answer, Label, World, after, after_deed, after_turn_of}
-use Rattle.kernel_model.specs.World.{answer_label, labels}
-use Rattle.kernel_model.specs.World.{turn_label}
+use Rattle.kernel_model.specs.World.{Answer, World, after}
+use Rattle.kernel_model.specs.World.{labels}
 use Rattle.kernel_model.proofs.Places.{set_own}
 use Rattle.kernel_model.proofs.Told.{told_at}
 use Rattle.kernel_laws.specs.Between.{OfAnswerIn, OfEachAnswer, OfEachTurn, OfTurnIn}
@@ -69,26 +68,14 @@ module _ (of_ecall : CallsAreOfEcall) (settings : Settings) (time : ℕ) (r : Re
         delivers = each.delivers;
       })
 
--- of each label that tells a turn, by its process before and after it
-module _ (Holds : Record → Record → TurnTrace → Type 0) (w : World)
-    (turns : (r : Record) → let t = turned w.settings w.clock.time r in Holds r t.after t.told) where
-  there : (v : World) (label : Label) (r s : Record) → slice_get w.records label.slot ≡ Some r
-      → slice_get v.records label.slot ≡ Some s → Holds r s label.trace → OfTurnIn Holds w v label
-  there v label r s is_r is_s holds turn =
-      subst (λ (o : Option Record). IsSomeAnd o (λ r. IsSomeAnd (slice_get v.records label.slot)
-      (λ s. Holds r s label.trace))) (sym is_r)
-      (subst (λ (o : Option Record). IsSomeAnd o (λ s. Holds r s label.trace)) (sym is_s) holds)
-
 -- of those of one world, which may know its time
 pub of_turns_at : (Holds : Record → Record → TurnTrace → Type 0) (w : World)
     → ((r : Record) → let t = turned w.settings w.clock.time r in Holds r t.after t.told)
     → (choice : Choice) → All (OfTurnIn Holds w (after w choice)) (labels w choice)
 of_turns_at Holds w turns =
     of_labels (λ s. OfTurnIn Holds w s.after) w
-    (λ slot r is may.
-    let t = turned w.settings w.clock.time r in
-    there Holds w turns (after_turn_of w slot t) (turn_label slot w.clock.time t.told) r t.after is
-    (set_own w.records slot t.after r is) (turns r))
+    (λ slot r is may turn.
+    rw (is, set_own w.records slot (turned w.settings w.clock.time r).after r is) (turns r))
     (λ deed slot r a is told no_turn turn. absurd (false≢true (sym no_turn ∙ turn)))
 
 pub of_each_turn : (Holds : Record → Record → TurnTrace → Type 0)
@@ -97,17 +84,6 @@ pub of_each_turn : (Holds : Record → Record → TurnTrace → Type 0)
 of_each_turn Holds turns w choice = of_turns_at Holds w (turns w.settings w.clock.time) choice
 
 -- of each label that tells another event, which leaves what that event makes of the process
-module _ (Holds : Event → Record → Record → Type 0)
-    (events : (settings : Settings) (event : Event) (r : Record) → is_turn event ≡ false
-    → Holds event r (apply settings event r)) (w : World) where
-  answered : (v : World) (slot : ℕ) (a : Answer) (r s : Record) → slice_get w.records slot ≡ Some r
-      → slice_get v.records slot ≡ Some s → (is_turn a.event ≡ false → Holds a.event r s)
-      → OfAnswerIn Holds w v (answer_label slot a)
-  answered v slot a r s is_r is_s holds no_turn =
-      subst (λ (o : Option Record). IsSomeAnd o (λ r. IsSomeAnd (slice_get v.records slot) (λ s. Holds a.event r s)))
-      (sym is_r)
-      (subst (λ (o : Option Record). IsSomeAnd o (λ s. Holds a.event r s)) (sym is_s) (holds no_turn))
-
 pub of_each_answer : (Holds : Event → Record → Record → Type 0)
     → ((settings : Settings) (event : Event) (r : Record) → is_turn event ≡ false
     → Holds event r (apply settings event r))
@@ -115,8 +91,7 @@ pub of_each_answer : (Holds : Event → Record → Record → Type 0)
 of_each_answer Holds events w =
     of_labels (λ s. OfAnswerIn Holds w s.after) w (λ slot r is may no_turn. absurd (false≢true (sym no_turn)))
     (λ deed slot r a is told no_turn.
-    answered Holds events w (after_deed w deed) slot a r (apply w.settings a.event r) is
-    (told_at w.settings deed.told w.records slot
+    let left = told_at w.settings deed.told w.records slot
     ∙ ap (λ (told : Option Answer). option_map (happens w.settings told) (slice_get w.records slot)) told
-    ∙ ap (option_map (happens w.settings (Some a))) is)
-    (events w.settings a.event r))
+    ∙ ap (option_map (happens w.settings (Some a))) is in
+    rw (left, is) (events w.settings a.event r))

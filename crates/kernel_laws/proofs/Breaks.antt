@@ -1,16 +1,17 @@
 -- That an accepted brk or sbrk moves the break, by the rows of memop.
-use Rattle.std.proofs.Common.{◌≡◌, ◌<◌, ◌≤◌, ℕ, ◌+◌, ◌-◌, ◌^◌, Bool, true, false, cond, nat_le, nat_lt, Option}
+use Rattle.std.proofs.lemmas.Bool.{cond_both}
+use Rattle.std.proofs.lemmas.Option.{cond_some}
+use Rattle.std.proofs.Common.{◌≡◌, ◌<◌, ◌≤◌, ℕ, ◌+◌, ◌-◌, ◌^◌, true, false, nat_le, nat_lt, Option}
 use Rattle.std.proofs.Common.{None, Some}
 use Rattle.std.proofs.Common.{IfSome, slice_index, refl, sym, ap, ◌∙◌, arith}
 use Rattle.std.proofs.lemmas.Bool.Decides.{nat_tests}
-use Rattle.tk_base.specs.declared.call.CallRule.TheVariants.{Break}
 use Rattle.rv32_model.specs.Laws.{CallsAreOfEcall}
 use Rattle.process_layout.specs.Bounds.{permits_break}
 use Rattle.process_model.specs.Own.{kernel_break_of, with_moved_break}
 use Rattle.syscall_abi.specs.declared.reply.Reply.{Reply}
 use Rattle.syscall_abi.specs.declared.reply.Reply.TheVariants.{Success, SuccessU32}
 use Rattle.process_record.specs.declared.emit.CallMade.{CallMade}
-use Rattle.kernel_model.specs.Calls.{Served, break_moved, memop, memops as memop_rows, moved_by, refused, replied}
+use Rattle.kernel_model.specs.Calls.{Served, break_moved, memop, memops as memop_rows, moved_by}
 use Rattle.kernel_model.specs.Record.{Record}
 use Rattle.kernel_model.specs.Turn.{rule_shown, turn_counted, turned}
 use Rattle.kernel_laws.specs.Breaks.{BreaksAreMoved, MovesBreak}
@@ -29,39 +30,24 @@ moved r None reply none = absurd (cc)
 moved r (Some new) reply none = record {
   new = new;
   is = refl;
-  own = by_permit (permits_break r.own.layout (kernel_break_of r.own) new) none;
+  own = cond_both (permits_break r.own.layout (kernel_break_of r.own) new) _ _
+      (λ (s : Served). rule_shown s.outcome ≡ None → s.after.own ≡ with_moved_break new r.own) (λ e none. refl)
+      (λ e none. absurd (cc)) none;
 }
-  where
-    by_permit : (b : Bool)
-        → let s = cond b (replied (record r { own = with_moved_break new r.own }) reply) (refused r Break) in
-        rule_shown s.outcome ≡ None → s.after.own ≡ with_moved_break new r.own
-    by_permit true none = refl
-    by_permit false none = absurd (cc)
 
 -- by how much sbrk moves it
 up_by : (brk by new : ℕ) → by < 2 ^ 31 → moved_by brk by ≡ Some new → new ≡ brk + by
-up_by brk by new small is = by_test (nat_lt by (2 ^ 31)) (grind (arith, nat_tests)) is
-  where
-    by_test : (b : Bool) → b ≡ true
-        → cond b (Some (brk + by)) (cond (nat_le (2 ^ 32) (brk + by)) (Some (brk + by - 2 ^ 32)) None) ≡ Some new
-        → new ≡ brk + by
-    by_test true small is = cc
-    by_test false small is = absurd (cc)
+up_by brk by new small is =
+    let below : nat_lt by (2 ^ 31) ≡ true = grind (arith, nat_tests) in
+    let moved = rw below at is in
+    cc
 
 down_by : (brk by new : ℕ) → 2 ^ 31 ≤ by → moved_by brk by ≡ Some new → new ≡ brk + by - 2 ^ 32
-down_by brk by new large is = by_test (nat_lt by (2 ^ 31)) (nat_le (2 ^ 32) (brk + by)) (grind (arith, nat_tests)) is
-  where
-    by_test : (b c : Bool) → b ≡ false
-        → cond b (Some (brk + by)) (cond c (Some (brk + by - 2 ^ 32)) None) ≡ Some new
-        → new ≡ brk + by - 2 ^ 32
-    by_test true c large is = absurd (cc)
-    by_test false true large is = cc
-    by_test false false large is = absurd (cc)
+down_by brk by new large is =
+    let above : nat_lt by (2 ^ 31) ≡ false = grind (arith, nat_tests) in
+    sym (cond_some (nat_le (2 ^ 32) (brk + by)) (brk + by - 2 ^ 32) new (rw above at is)).1
 
 module _ (r s : Record) (call : CallMade) (comes : call.class ≡ 5 → call.rule ≡ None → HasCome memops r s call) where
-  asked : ℕ
-  asked = slice_index call.args 1
-
   -- what a row comes to, by its number
   by_row : (n : ℕ) (o : Option ℕ) (reply : Reply) → call.class ≡ 5 → slice_index call.args 0 ≡ n → call.rule ≡ None
       → memop (turn_counted r) n (slice_index call.args 1) ≡ break_moved (turn_counted r) o reply

@@ -1,7 +1,10 @@
 -- The cause of each change that a step makes of a process's bytes, among its labels. In a step its record stays, or
 -- becomes that after its turn, or after what it is told, and that label is among the step's (`of_step`); so the causes
 -- of turns and of answers are those of the step. Stretches of quiet turns go by induction.
-use Rattle.std.proofs.Common.{◌≡◌, ◌⊎◌, inl, inr, ℕ, zero, suc, ◌+◌, ◌++◌, ◌==◌, Bool, true, false, List, []}
+use Rattle.kernel_laws.proofs.Turns.{split}
+use Rattle.kernel_laws.proofs.Cases.{cases_option}
+use Rattle.std.proofs.lemmas.Bool.{cases_Bool}
+use Rattle.std.proofs.Common.{◌≡◌, inl, inr, ℕ, zero, suc, ◌+◌, ◌++◌, ◌==◌, true, false, List, []}
 use Rattle.std.proofs.Common.{◌∷◌, slice_get}
 use Rattle.std.proofs.Common.{slice_index, Option, None, Some, IfSome, is_some, refl, sym, ap, subst, ◌∙◌, arith}
 use Rattle.std.proofs.Common.{eqb-true}
@@ -9,8 +12,6 @@ use Rattle.std.proofs.Common.{eq-eqb}
 use Rattle.std.proofs.Math.Logic.{⊎_map}
 use Rattle.std.specs.List.{Any, Contains}
 use Rattle.std.specs.Prelude.{All}
-use Rattle.std.specs.Option.{option_map}
-use Rattle.std.proofs.lemmas.List.Elements.{All-nil, All-cons, All-head, All-tail}
 use Rattle.std.proofs.lemmas.Bool.{false≢true}
 use Rattle.tk_base.specs.declared.process.Choice.{Choice}
 use Rattle.tk_base.specs.declared.process.Choice.TheVariants.{Run, Device, Pass}
@@ -18,17 +19,16 @@ use Rattle.process_model.specs.Changes.{ChangesAt, IsWhole}
 use Rattle.driver_model.specs.Bytes.{AnswersWriteInBuffers}
 use Rattle.process_record.specs.declared.emit.CallMade.{CallMade}
 use Rattle.kernel_model.specs.Record.{Record}
-use Rattle.kernel_model.specs.Turn.{Event, Turned, apply, is_turn, turned}
+use Rattle.kernel_model.specs.Turn.{Turned, apply, is_turn, turned}
 use Rattle.kernel_model.specs.World.{Answer, DeviceStep, Label, Stepped, World, after, answer_label, carried_out}
-use Rattle.kernel_model.specs.World.{device_step_of, done, labels, labels_told, ran, records_told}
-use Rattle.kernel_model.specs.Parts.{happens, labels_of}
+use Rattle.kernel_model.specs.World.{device_step_of, done, labels, labels_told, ran}
+use Rattle.kernel_model.specs.Parts.{labels_of}
 use Rattle.kernel_model.specs.World.{stepped, turn_label, unmade}
-use Rattle.kernel_model.specs.Run.{next, round, stays as stays_at, runs_on}
-use Rattle.kernel_model.specs.Parts.{on_choice}
+use Rattle.kernel_model.specs.Run.{next, round}
 use Rattle.kernel_model.specs.Stretch.{IsQuietTurn}
-use Rattle.kernel_model.specs.Replay.{chosen, events, replay}
+use Rattle.kernel_model.specs.Replay.{chosen, events}
 use Rattle.kernel_laws.specs.Clock.{AsksNoClock, StepsWithoutClockHaveCauses, TurnsWithoutClockHaveCauses}
-use Rattle.kernel_model.specs.Causes.{AllHaveCauses, AnswerHasCauses, EachChangeHasACause, IsCause, IsDoneByTurn}
+use Rattle.kernel_model.specs.Causes.{AllHaveCauses, AnswerHasCauses, EachChangeHasACause, IsCause}
 use Rattle.kernel_model.specs.Causes.{Overwrites, StepsHaveCauses, StorageChangesAt, TurnHasCauses, TurnsHaveCauses}
 use Rattle.kernel_laws.proofs.Answered.{told_has_causes}
 use Rattle.kernel_model.proofs.Places.{of_stepped, ran-other, ran-own, same_there}
@@ -49,9 +49,7 @@ label_in : (told : ℕ → Option Answer) (from slot at : ℕ) (a : Answer) (rs 
 label_in told from slot at a [] r here is there = absurd (cc)
 label_in told from zero at a (x ∷ rs) r here is there =
     let same : at ≡ from = omega (arith, here) in
-    subst (λ (n : ℕ). Contains (labels_of n (told n) ++ labels_told told (suc from) rs) (answer_label at a)) same
-    (subst (λ (o : Option Answer). Contains (labels_of at o ++ labels_told told (suc from) rs) (answer_label at a))
-    (sym is) (0, omega arith, refl))
+    rw (← same, is) (0, omega arith, refl)
 label_in told from (suc slot) at a (x ∷ rs) r here is there =
     contains_past (labels_of from (told from)) (labels_told told (suc from) rs) (answer_label at a)
     (label_in told (suc from) slot at a rs r (omega (arith, here)) is there)
@@ -80,49 +78,38 @@ module _ (w : World) (slot : ℕ) (r : Record) (is : slice_get w.records slot �
       → P labels s
   at_record labels x s o e f holds = subst (P labels) (same_there o x s e f) holds
 
-  apart : (a b : ℕ) → (a == b) ≡ false → b ≡ a → ⊥
-  apart a b e same = false≢true (sym e ∙ eq-eqb a b (sym same))
-
   of_ran : (other : ℕ) → ((other == slot) ≡ true → ByTurn) → (o : Option Record) → slice_get w.records other ≡ o
       → Leads (ran w other o)
   unfolding apply
   of_ran other turn None e s f = at_record [] r s _ is f (stays [])
-  of_ran other turn (Some q) e s f = by_slot (other == slot) refl
-    where
-      t : Record → Turned
-      t x = turned w.settings w.clock.time x
-
-      by_slot : (b : Bool) → (other == slot) ≡ b → P (turn_label other w.clock.time (t q).told ∷ []) s
-      by_slot true same_is =
-          let same : other ≡ slot = eqb-true other slot same_is in
-          let at_slot : slice_get w.records slot ≡ Some q = ap (slice_get w.records) (sym same) ∙ e in
-          let left : slice_get (ran w other (Some q)).after.records slot ≡ Some (t q).after =
-          ap (slice_get (ran w other (Some q)).after.records) (sym same) ∙ ran-own w other (Some q) e in
-          subst (λ (n : ℕ). P (turn_label n w.clock.time (t q).told ∷ []) s) (sym same)
-          (at_record (turn_label slot w.clock.time (t q).told ∷ []) (t q).after s _ left f
-          (subst (λ (x : Record). P (turn_label slot w.clock.time (t x).told ∷ []) (t x).after)
-          (same_there _ r q is at_slot) (turn same_is)))
-      by_slot false e_is = at_record _ r s _ (ran-other w other slot (Some q) (apart other slot e_is) ∙ is) f (stays _)
+  of_ran other turn (Some q) e s f =
+      let t = λ (x : Record). turned w.settings w.clock.time x in
+      elim (cases_Bool (other == slot)) [
+        | inl same_is ↦
+            let same = eqb-true other slot same_is in
+            let at_slot : slice_get w.records slot ≡ Some q = rw same at e in
+            let left : slice_get (ran w other (Some q)).after.records slot ≡ Some (t q).after =
+            ap (slice_get (ran w other (Some q)).after.records) (sym same) ∙ ran-own w other (Some q) e in
+            rw same (at_record (turn_label slot w.clock.time (t q).told ∷ []) (t q).after s _ left f
+            (subst (λ (x : Record). P (turn_label slot w.clock.time (t x).told ∷ []) (t x).after)
+            (same_there _ r q is at_slot) (turn same_is)))
+        | inr apart_is ↦
+            at_record _ r s _ (ran-other w other slot (Some q)
+            (λ same. false≢true (sym apart_is ∙ eq-eqb other slot (sym same))) ∙ is) f (stays _)
+      ]
 
   -- a device's step, whatever it tells
   of_deed : ByAnswer → (o : Option DeviceStep) → IfSome o (λ deed. TellsNoTurn deed.told) → Leads (done w o)
   of_deed answer None answers s f = at_record [] r s _ is f (stays [])
-  of_deed answer (Some deed) answers s f = by_told (deed.told slot) refl
-    where
-      ls : List Label
-      ls = labels_told deed.told 0 w.records
-
-      left : (o : Option Answer) → deed.told slot ≡ o
-          → slice_get (records_told w.settings deed.told w.records) slot ≡ Some (happens w.settings o r)
-      left o e =
-          told_at w.settings deed.told w.records slot ∙ ap (option_map (happens w.settings (deed.told slot))) is
-          ∙ ap (λ (x : Option Answer). Some (happens w.settings x r)) e
-
-      by_told : (o : Option Answer) → deed.told slot ≡ o → P ls s
-      by_told None e = at_record ls r s _ (left None e) f (stays ls)
-      by_told (Some a) e =
-          at_record ls (apply w.settings a.event r) s _ (left (Some a) e) f
-          (answer ls a (answers slot a e) (label_in deed.told 0 slot slot a w.records r (omega arith) e is))
+  of_deed answer (Some deed) answers s f =
+      let ls = labels_told deed.told 0 w.records in
+      let left = told_at w.settings deed.told w.records slot in
+      elim (cases_option (deed.told slot)) [
+        | inl none ↦ at_record ls r s _ (left ∙ rw (is, none)) f (stays ls)
+        | inr a ↦
+            at_record ls (apply w.settings a.0.event r) s _ (left ∙ rw (is, a.1)) f
+            (answer ls a.0 (answers slot a.0 a.1) (label_in deed.told 0 slot slot a.0 w.records r (omega arith) a.1 is))
+      ]
 
   of_none : Leads (unmade w)
   of_none s f = at_record [] r s _ is f (stays [])
@@ -159,14 +146,12 @@ caused_same slot r labels = record { own = λ at before after. inl refl; storage
 caused_turn : (slot time : ℕ) (r : Record) (t : Turned) → TurnHasCauses r t.after t.told
     → Caused slot r (turn_label slot time t.told ∷ []) t.after
 caused_turn slot time r t causes = record {
-  own = λ at before after. by_cause at (causes.own at before after);
+  own = λ at before after.
+      ⊎_map (λ same. same)
+      (λ cause. first (IsCause slot r t.after at) (turn_label slot time t.told) [] (refl, inl cause))
+      (causes.own at before after);
   storage = λ k within. inl (ap (λ (xs : List ℕ). slice_index xs k) causes.storage);
 }
-  where
-    by_cause : (at : ℕ) {A : Type 0} → A ⊎ IsDoneByTurn r t.after t.told at
-        → A ⊎ Any (IsCause slot r t.after at) (turn_label slot time t.told ∷ [])
-    by_cause at (inl same) = inl same
-    by_cause at (inr cause) = inr (first (IsCause slot r t.after at) (turn_label slot time t.told) [] (refl, inl cause))
 
 caused_answer : (slot : ℕ) (labels : List Label) (a : Answer) (r s : Record) → Contains labels (answer_label slot a)
     → AnswerHasCauses a.event r s → Caused slot r labels s
@@ -185,8 +170,7 @@ stays_else : (w : World) (choice : Choice) (slot : ℕ) (r s : Record) → slice
     → slice_get (after w choice).records slot ≡ Some s → events slot w choice ≡ [] → s ≡ r
 stays_else w choice slot r s is left none =
     same_there (slice_get (after w choice).records slot) s r left
-    (one_step w choice slot ∙ ap (λ (h : List Event). option_map (replay w.settings h) (slice_get w.records slot)) none
-    ∙ ap (option_map (replay w.settings [])) is)
+    (one_step w choice slot ∙ rw (none, is))
 
 no_call : (o : Option CallMade) → o ≡ None → is_some o ≡ true → ⊥
 no_call None none some = false≢true some
@@ -206,26 +190,16 @@ quiet_step turns w choice quiet slot r s is left =
     choice s left quiet in
     record { own = caused.own; storage = caused.storage; others = stays_else w choice slot r s is left }
 
-split : (P : Label → Type 0) (xs ys : List Label) → All P (xs ++ ys) → All P xs × All P ys
-split P [] ys each = (All-nil P, each)
-split P (x ∷ xs) ys each =
-    let rest = split P xs ys (All-tail P x (xs ++ ys) each) in
-    (All-cons P x xs (All-head P x (xs ++ ys) each) rest.0, rest.1)
-
 quiet_steps : TurnsHaveCauses → (k : ℕ) (w : World) → All IsQuietTurn (round k w).labels → AllHaveCauses w (chosen k w)
 unfolding round chosen
 quiet_steps turns zero w quiet = tt
-quiet_steps turns (suc k) w quiet = by_choice (next w) quiet (λ choice. quiet_steps turns k (after w choice))
-  where
-    by_choice : (o : Option Choice)
-        → All IsQuietTurn (on_choice (stays_at w) (λ choice. runs_on (round k) (stepped w choice)) o).labels
-        → ((choice : Choice) → All IsQuietTurn (round k (after w choice)).labels
-        → AllHaveCauses (after w choice) (chosen k (after w choice)))
-        → AllHaveCauses w (on_choice [] (λ choice. choice ∷ chosen k (after w choice)) o)
-    by_choice None each later = tt
-    by_choice (Some choice) each later =
-        let both = split IsQuietTurn (labels w choice) (round k (after w choice)).labels each in
-        (quiet_step turns w choice both.0, later choice both.1)
+quiet_steps turns (suc k) w quiet =
+    elim (cases_option (next w)) [
+      | inl none ↦ rw none tt
+      | inr some ↦
+          let both = split IsQuietTurn (labels w some.0) (round k (after w some.0)).labels (rw some.1 at quiet) in
+          rw some.1 (quiet_step turns w some.0 both.0, quiet_steps turns k (after w some.0) both.1)
+    ]
 
 pub steps_without_clock : TurnsWithoutClockHaveCauses → StepsWithoutClockHaveCauses
 steps_without_clock turns w other none slot r s is left =
@@ -260,8 +234,7 @@ steps_have_causes turns answers = record {
     at_slot : (w : World) (other slot : ℕ) (r : Record) → slice_get w.records slot ≡ Some r
         → IfSome (slice_get w.records other) (λ x. IsWhole x.own) → (other == slot) ≡ true → IsWhole r.own
     at_slot w other slot r is whole same =
-        subst (λ (o : Option Record). IfSome o (λ x. IsWhole x.own))
-        (ap (slice_get w.records) (eqb-true other slot same) ∙ is) whole
+        rw (ap (slice_get w.records) (eqb-true other slot same) ∙ is) at whole
 
     by_answer : (w : World) (slot : ℕ) (r : Record) → IsWhole r.own → (labels : List Label) (a : Answer)
         → is_turn a.event ≡ false → Contains labels (answer_label slot a)

@@ -2,8 +2,9 @@
 -- instruction that goes changes what it stores; a call changes the byte of an accepted yield's flag, the buffer that is
 -- shown the clock, or any byte as its process starts again (`Changes`); a delivery changes none. The walk is the
 -- definition's.
-use Rattle.std.proofs.Common.{◌≡◌, ◌⊎◌, inl, inr, ℕ, ◌+◌, ◌==◌, Bool, true, false, cond, ◌&&◌, List, Option}
-use Rattle.std.proofs.Common.{None, Some, Err, is_ok, is_some, slice_index, refl, ap, sym, subst}
+use Rattle.std.proofs.lemmas.Option.{cond_some}
+use Rattle.std.proofs.Common.{◌≡◌, ◌⊎◌, inl, inr, ℕ, ◌+◌, ◌==◌, Bool, true, false, ◌&&◌, List, Option}
+use Rattle.std.proofs.Common.{None, Some, is_ok, is_some, slice_index, refl, ap, sym, subst}
 use Rattle.std.proofs.Common.{◌∙◌, ◌≤◌, arith, eqb-true, nat_le, option_and_then}
 use Rattle.std.specs.Prelude.{IsTrue}
 use Rattle.std.specs.List.{list_any}
@@ -15,14 +16,13 @@ use Rattle.upcall_queue.specs.Pending.{due}
 use Rattle.rv32_model.specs.declared.turn_end.TurnEnd.{TurnEnd}
 use Rattle.rv32_model.specs.declared.turn_end.TurnEnd.TheVariants as ends
 use Rattle.rv32_model.specs.Laws.{CallsAreOfEcall, stores_at}
-use Rattle.rv32_model.specs.UserTurn.{MemoryAccess, UserTurn}
+use Rattle.rv32_model.specs.UserTurn.{MemoryAccess}
 use Rattle.syscall_abi.specs.declared.form.CallForm.{CallForm}
 use Rattle.syscall_abi.specs.declared.form.CallForm.TheVariants as forms
-use Rattle.syscall_abi.specs.declared.form.Swap.{Swap}
 use Rattle.syscall_abi.specs.declared.reply.Reply.{Reply}
 use Rattle.tk_base.specs.Regs.{Registers}
 use Rattle.syscall_abi.specs.Call.{a0, a1, call_of, class}
-use Rattle.process_model.specs.Changes.{ChangesAt, IsInside, IsWhole, KeepsBytes, OnlyWritesChangeBytes, own_byte}
+use Rattle.process_model.specs.Changes.{ChangesAt, IsInside, IsWhole, KeepsBytes, OnlyWritesChangeBytes}
 use Rattle.process_model.specs.Flag.{flag_place}
 use Rattle.process_model.specs.Handed.{lies_in_ram}
 use Rattle.driver_model.specs.Bytes.{CommandsWriteInBuffers, ShowsClock, clock_buffer, shows_clock}
@@ -32,7 +32,7 @@ use Rattle.driver_model.specs.Drivers.{CommandContext}
 use Rattle.process_record.specs.declared.outcome.Outcome.TheVariants.{Replied}
 use Rattle.process_record.specs.declared.process.Process.{Process}
 use Rattle.process_record.specs.declared.process.State.{State}
-use Rattle.process_record.specs.declared.process.State.TheVariants.{Running, Yielded, Faulted, Terminated}
+use Rattle.process_record.specs.declared.process.State.TheVariants.{Running, Yielded}
 use Rattle.process_record.specs.Process.{after_call, waiting}
 use Rattle.process_record.specs.Parts.{after_fault}
 use Rattle.kernel_model.specs.Record.{Record, byte_at, instruction, with_effect}
@@ -47,7 +47,7 @@ use Rattle.kernel_model.specs.Turn.{made, surroundings, turn_in}
 use Rattle.kernel_model.specs.Parts.{instructed, unknown_call}
 use Rattle.kernel_model.specs.Histories.{ends_life}
 use Rattle.kernel_model.specs.Parts.{is_exit}
-use Rattle.kernel_model.specs.Causes.{IsDoneByTurn, IsFlagOfYield, TurnHasCauses, TurnsHaveCauses, showed_clock}
+use Rattle.kernel_model.specs.Causes.{IsFlagOfYield, TurnHasCauses, TurnsHaveCauses, showed_clock}
 use Rattle.process_model.specs.Permission.{denied}
 use Rattle.std.proofs.lemmas.Bool.{and_parts, false≢true, leb-true}
 use Rattle.kernel_model.proofs.Turning.{of_denial, only_counts}
@@ -101,9 +101,7 @@ restarts_so r flag ends {shown} is =
 clock_shown : (regs : Registers) (driver number : ℕ) (reply : Reply) → IsCommand regs driver number
     → shows_clock driver number ≡ true → showed_clock (Some (made regs (Replied reply None))) ≡ true
 clock_shown regs driver number reply is clock =
-    ap (λ c. c == 2 && (shows_clock (a0 regs) (a1 regs) && true)) is.class_is
-    ∙ ap (λ d. shows_clock d (a1 regs) && true) is.driver_is
-    ∙ ap (λ n. shows_clock driver n && true) is.number_is ∙ ap (λ b. b && true) clock
+    rw (is.class_is, is.driver_is, is.number_is, clock)
 
 -- whether registers make that command, and that they do
 abbrev asked_in : Registers → Bool
@@ -112,8 +110,7 @@ asked_in regs = class regs == 2 && shows_clock (a0 regs) (a1 regs)
 clock_asked : (regs : Registers) (driver number : ℕ) → IsCommand regs driver number → shows_clock driver number ≡ true
     → asked_in regs ≡ true
 clock_asked regs driver number is clock =
-    ap (λ c. c == 2 && shows_clock (a0 regs) (a1 regs)) is.class_is
-    ∙ ap (λ d. shows_clock d (a1 regs)) is.driver_is ∙ ap (λ n. shows_clock driver n) is.number_is ∙ clock
+    rw (is.class_is, is.driver_is, is.number_is, clock)
 
 at_flag : {A B C : Type 0} → A ⊎ B → A ⊎ (B ⊎ C)
 at_flag (inl same) = inl same
@@ -128,38 +125,32 @@ module _ (law : OnlyWritesChangeBytes) (commands : CommandsWriteInBuffers) (arou
   yields : (number a1 a2 : ℕ) → Leaves r (yield_flag_of r (forms.Yield number a1 a2)) (yielding r number a1 a2)
   yields number a1 a2 =
       of_yield (Leaves r (yield_flag_of r (forms.Yield number a1 a2))) r number a1 a2 (record {
-        none = λ zero is. at_zero zero None;
-        first = λ upcall zero is. at_zero zero (Some upcall);
+        none = λ zero is. rw zero (of_yield_now a1 None);
+        first = λ upcall zero is. rw zero (of_yield_now a1 (Some upcall));
         waits = λ one. same_own r _ (waiting r.process);
         waits_for = λ two is. record { own = λ a before after. inl refl; storage = refl };
         found = λ upcall two is. record { own = λ a before after. inl refl; storage = refl };
         goes_on = λ zero two. same_own r _ (after_call r.process);
       })
-    where
-      at_zero : number ≡ 0 → (first : Option Scheduled)
-          → Leaves r (yield_flag_of r (forms.Yield number a1 a2)) (yield_now r a1 first)
-      at_zero zero first =
-          subst (λ (n : ℕ). Leaves r (yield_flag_of r (forms.Yield n a1 a2)) (yield_now r a1 first)) (sym zero)
-          (of_yield_now a1 first)
 
   of_command : (driver number : ℕ) (c : Commanded) (flag : Option ℕ) → IsCommand r.process.regs driver number
       → ChangesAt (ShowsClock driver number r.own c) r.own (own_after c.step) → Leaves r flag (commanded r c)
   of_command driver number c flag command changes =
       of_commanded (Leaves r flag) r c
-      (λ reply is. record { own = λ at before after. shows reply at (changes at before after); storage = refl })
-      (λ rule is. kept r _ None (λ at before after. none rule is at (changes at before after)) refl)
-    where
-      shows : (reply : Reply) (at : ℕ) {A B C : Type 0} → A ⊎ ShowsClock driver number r.own c at
-          → A ⊎ (B ⊎ (C ⊎ ((showed_clock (Some (made r.process.regs (Replied reply None))) ≡ true)
-          × IsInside (clock_buffer r.own) at)))
-      shows reply at (inl same) = inl same
-      shows reply at (inr shown) =
-          inr (inr (inr (clock_shown r.process.regs driver number reply command shown.0, shown.2)))
-
-      none : (rule : CallRule) → c.answer ≡ Err rule → (at : ℕ) {A : Type 0}
-          → A ⊎ ShowsClock driver number r.own c at → A
-      none rule is at (inl same) = same
-      none rule is at (inr shown) = absurd (false≢true (ap is_ok (sym is) ∙ shown.1))
+      (λ reply is. record {
+        own = λ at before after.
+            elim (changes at before after) [
+              | inl same ↦ inl same
+              | inr shown ↦
+                  inr (inr (inr (clock_shown r.process.regs driver number reply command shown.0, shown.2)))
+            ];
+        storage = refl;
+      })
+      (λ rule is. kept r _ None (λ at before after.
+      elim (changes at before after) [
+        | inl same ↦ same
+        | inr shown ↦ absurd (false≢true (ap is_ok (sym is) ∙ shown.1))
+      ]) refl)
 
   of_call : (strict : Bool) (call : CallForm) → call_of r.process.regs ≡ Some call
       → (asked_in r.process.regs ≡ true → IsWhole r.own)
@@ -172,8 +163,7 @@ module _ (law : OnlyWritesChangeBytes) (commands : CommandsWriteInBuffers) (arou
         swapped = λ swap reply may.
             kept r _ _ (law.handing swap.kind swap.driver swap.number swap.pair r.own) refl;
         yields = λ number a1 a2 same.
-            subst (λ (form : CallForm). Leaves r (yield_flag_of r form) (yielding r number a1 a2)) (sym same)
-            (yields number a1 a2);
+            rw same (yields number a1 a2);
         commands = λ driver number a2 a3 taker same there.
             let command = (made_as r.process.regs (forms.Command driver number a2 a3)
             (is ∙ ap (λ (form : CallForm). Some form) same)).1 in
@@ -217,13 +207,11 @@ module _ (law : OnlyWritesChangeBytes) (commands : CommandsWriteInBuffers) (of_e
       → IsTrue (list_any (stores_at at) accesses)
       → IsTrue (list_any (stores_at at) (at_turn_end settings time r accesses end).told.accesses)
   told_store r accesses ends.Went at went covers = covers
-  told_store r accesses ends.Call at went covers = absurd (cc)
-  told_store r accesses (ends.Trap denial) at went covers = absurd (cc)
+  told_store r accesses end at went covers = absurd (cc)
 
   -- a flag is told by an accepted yield that does not wait, and lies in accessible RAM
   yield_told : (s : Record) (accesses : List MemoryAccess) (end : TurnEnd) (at : ℕ)
       → let t = at_turn_end settings time s accesses end in flag_in t.told ≡ Some at → IsFlagOfYield s t.told at
-  yield_told s accesses ends.Went at e = absurd (cc)
   yield_told s accesses ends.Call at e = by_call (call_of s.process.regs) refl e
     where
       by_rule : (call : CallForm) (m : CallMade) (rule : Option CallRule) → m.rule ≡ rule
@@ -233,37 +221,21 @@ module _ (law : OnlyWritesChangeBytes) (commands : CommandsWriteInBuffers) (of_e
           → IsFlagOfYield s (record { accesses = accesses; call = Some m; flag = yield_flag_of s call; denial = None })
           at
       by_rule call m (Some rule) broken is class_is first second e = absurd (cc)
-      by_rule (forms.Swap swap) m None kept is class_is first second e = absurd (cc)
-      by_rule (forms.Command driver n x y) m None kept is class_is first second e = absurd (cc)
-      by_rule (forms.Memop operation argument) m None kept is class_is first second e = absurd (cc)
-      by_rule (forms.Exit kind code) m None kept is class_is first second e = absurd (cc)
       by_rule (forms.Yield number x y) m None kept is class_is first second e =
-          by_place (number == 0 && lies_in_ram s.own.layout x 1) refl e
-        where
-          same_place : ◌≡◌ {A = Option ℕ} (Some x) (Some at) → x ≡ at
-          same_place e = cc
-
-          by_place : (b : Bool) → (number == 0 && lies_in_ram s.own.layout x 1) ≡ b → cond b (Some x) None ≡ Some at
-              → IsFlagOfYield s (record {
-                accesses = accesses;
-                call = Some m;
-                flag = cond b (Some x) None;
-                denial = None;
-              }) at
-          by_place true test e =
-              let parts = and_parts (number == 0) (lies_in_ram s.own.layout x 1) test in
-              let bounds = and_parts (nat_le s.own.layout.start x) (nat_le (x + 1) s.own.layout.brk) parts.1 in
-              let at_is : x ≡ at = same_place e in
-              let from : s.own.layout.start ≤ x = leb-true _ _ bounds.0 in
-              let up_to : x + 1 ≤ s.own.layout.brk = leb-true _ _ bounds.1 in
-              let c = made_as s.process.regs (forms.Yield number x y) is in
-              record {
-                flag = e;
-                made = (class_is ∙ c.0, first ∙ c.1.0 ∙ eqb-true number 0 parts.0, second ∙ c.1.1 ∙ at_is, kept);
-                from = omega (arith, from, at_is);
-                below = omega (arith, up_to, at_is);
-              }
-          by_place false test e = absurd (cc)
+          let found = cond_some (number == 0 && lies_in_ram s.own.layout x 1) x at e in
+          let parts = and_parts (number == 0) (lies_in_ram s.own.layout x 1) found.0 in
+          let bounds = and_parts (nat_le s.own.layout.start x) (nat_le (x + 1) s.own.layout.brk) parts.1 in
+          let at_is = found.1 in
+          let from : s.own.layout.start ≤ x = leb-true _ _ bounds.0 in
+          let up_to : x + 1 ≤ s.own.layout.brk = leb-true _ _ bounds.1 in
+          let c = made_as s.process.regs (forms.Yield number x y) is in
+          record {
+            flag = e;
+            made = (class_is ∙ c.0, first ∙ c.1.0 ∙ eqb-true number 0 parts.0, second ∙ c.1.1 ∙ at_is, kept);
+            from = omega (arith, from, at_is);
+            below = omega (arith, up_to, at_is);
+          }
+      by_rule call m None kept is class_is first second e = absurd (cc)
 
       by_call : (call : Option CallForm) → call_of s.process.regs ≡ call
           → let t = calls settings time s accesses call in flag_in t.told ≡ Some at → IsFlagOfYield s t.told at
@@ -272,48 +244,31 @@ module _ (law : OnlyWritesChangeBytes) (commands : CommandsWriteInBuffers) (of_e
           by_rule call (made s.process.regs (served settings.strict (surroundings settings time s) s call).outcome) _
           refl
           is refl refl refl e
-  yield_told s accesses (ends.Trap denial) at e = absurd (cc)
+  yield_told s accesses end at e = absurd (cc)
 
   of_instruction : (r : Record) → let t = instructed settings time r in
       (asks_clock t.told.call ≡ true → IsWhole r.own) → TurnHasCauses r t.after t.told
-  of_instruction r whole = record {
-    own = λ at before after.
-        joined at (law.instruction r.own (byte_at r) r.process.regs at before before) (changes.own at before after);
-    storage = changes.storage;
-  }
-    where
-      t : UserTurn
-      t = instruction r
-
-      s : Record
-      s = with_effect (turn_counted r) t
-
-      u : Turned
-      u = at_turn_end settings time s t.accesses t.end
-
-      -- a call leaves the bytes to what comes of it
-      same : t.end ≡ ends.Call → s.own ≡ r.own
-      same call =
-          let is = of_ecall (denied r.own.layout) (byte_at r) r.process.regs call in
-          ap (λ (x : Record). x.own) (only_counts r t is.1 is.2)
-
-      changes : Causes s u
-      changes = of_end s t.accesses t.end (λ call some. subst IsWhole (sym (same call)) (whole some))
-
-      joined : (at : ℕ)
-          → (own_byte s.own at ≡ own_byte r.own at)
-          ⊎ ((t.end ≡ ends.Went) × IsTrue (list_any (stores_at at) t.accesses))
-          → (own_byte u.after.own at ≡ own_byte s.own at)
-          ⊎ ((flag_in u.told ≡ Some at)
-          ⊎ (((ends_life u.told ≡ true) × (u.after.process.restarts ≡ r.process.restarts + 1))
-          ⊎ ((showed_clock u.told.call ≡ true) × IsInside (clock_buffer r.own) at)))
-          → (own_byte u.after.own at ≡ own_byte r.own at) ⊎ IsDoneByTurn r u.after u.told at
-      joined at (inr stored) then = inr (inl (told_store s t.accesses t.end at stored.0 stored.1))
-      joined at (inl same) (inl later) = inl (later ∙ same)
-      joined at (inl same) (inr (inl flag)) =
-          let y = yield_told s t.accesses t.end at flag in
-          inr (inr (inl (record { flag = y.flag; made = y.made; from = y.from; below = y.below })))
-      joined at (inl same) (inr (inr cause)) = inr (inr (inr cause))
+  of_instruction r whole =
+      let t = instruction r in
+      let s = with_effect (turn_counted r) t in
+      let u = at_turn_end settings time s t.accesses t.end in
+      let changes = of_end s t.accesses t.end (λ call some.
+      let is = of_ecall (denied r.own.layout) (byte_at r) r.process.regs call in
+      subst IsWhole (sym (ap (λ (x : Record). x.own) (only_counts r t is.1 is.2))) (whole some)) in
+      record {
+        own = λ at before after.
+            elim (law.instruction r.own (byte_at r) r.process.regs at before before) [
+              | inr stored ↦ inr (inl (told_store s t.accesses t.end at stored.0 stored.1))
+              | inl same ↦ elim (changes.own at before after) [
+                | inl later ↦ inl (later ∙ same)
+                | inr (inl flag) ↦
+                    let y = yield_told s t.accesses t.end at flag in
+                    inr (inr (inl (record { flag = y.flag; made = y.made; from = y.from; below = y.below })))
+                | inr (inr cause) ↦ inr (inr (inr cause))
+              ]
+            ];
+        storage = changes.storage;
+      }
 
   of_idle : (r : Record) → TurnHasCauses r r (idle r).told
   of_idle r = record { own = λ at before after. inl refl; storage = refl }
@@ -326,8 +281,7 @@ module _ (law : OnlyWritesChangeBytes) (commands : CommandsWriteInBuffers) (of_e
       (asks_clock t.told.call ≡ true → IsWhole r.own) → TurnHasCauses r t.after t.told
   of_state Running r whole = of_instruction r whole
   of_state Yielded r whole = of_delivery r (due r.own.inbox)
-  of_state Faulted r whole = of_idle r
-  of_state (Terminated code) r whole = of_idle r
+  of_state state r whole = of_idle r
 
 -- a call that asks for the clock is one
 is_call : (call : Option CallMade) → asks_clock call ≡ true → is_some call ≡ true

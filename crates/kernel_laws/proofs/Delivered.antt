@@ -1,18 +1,17 @@
 -- What a delivery leaves in the registers of its process: a0 to a2 have the arguments, where a function runs also a3,
 -- ra and pc what belongs to it, and all others are as they were, since words are put at their places alone
 -- (`words_beside`). An accepted yield goes by its number, and a process that has yielded by what it waits for.
-use Rattle.std.proofs.Common.{◌≡◌, ◌≢◌, ◌⊎◌, inl, inr, ◌<◌, ℕ, ◌+◌, ◌-◌, ◌*◌, ◌/◌, ◌%◌, ◌^◌, ◌==◌, Bool, true, false}
-use Rattle.std.proofs.Common.{cond, List, [], ◌∷◌, length, remove, Option, None, Some, slice_get, slice_index}
-use Rattle.std.proofs.Common.{refl, sym, ap, subst, ◌∙◌, arith}
+use Rattle.std.proofs.Common.{◌≡◌, ◌≢◌, inl, inr, ◌<◌, ℕ, ◌+◌, ◌%◌, ◌^◌, false}
+use Rattle.std.proofs.Common.{List, [], ◌∷◌, length, remove, Option, None, Some, slice_get, slice_index}
+use Rattle.std.proofs.Common.{refl, ap, ◌∙◌, arith}
 use Rattle.std.specs.Prelude.{IfSome}
 use Rattle.std.specs.Option.{option_map}
-use Rattle.std.proofs.lemmas.Bool.{false≢true, ne_eqb}
+use Rattle.std.proofs.lemmas.Bool.{ne_eqb}
 use Rattle.tk_base.specs.Regs.{Registers, register, with_register}
 use Rattle.tk_base.specs.declared.upcall.Upcall.{Upcall as Scheduled}
 use Rattle.tk_base.specs.declared.upcall.Wait.{Wait}
 use Rattle.tk_base.specs.declared.upcall.Wait.TheVariants.{No, For, Given}
 use Rattle.rv32_model.specs.Laws.{CallsAreOfEcall}
-use Rattle.syscall_abi.specs.Call.{class}
 use Rattle.syscall_abi.specs.Reply.{with_words}
 use Rattle.upcall_queue.specs.Pending.{due, due_by, left_by, place_of}
 use Rattle.upcall_queue.specs.declared.inbox.Delivery.{Delivery}
@@ -23,9 +22,9 @@ use Rattle.process_record.specs.declared.process.State.TheVariants.{Running, Yie
 use Rattle.process_record.specs.Process.{delivery_regs}
 use Rattle.kernel_model.specs.Record.{Record}
 use Rattle.kernel_model.specs.declared.settings.Settings.{Settings}
-use Rattle.kernel_model.specs.Calls.{Served, deliver, yield_for, yield_now, yielding}
+use Rattle.kernel_model.specs.Calls.{deliver, yielding}
 use Rattle.kernel_model.specs.Parts.{delivery}
-use Rattle.kernel_model.specs.Turn.{Turned, idle, turn_counted, turn_in, turned}
+use Rattle.kernel_model.specs.Turn.{idle, turn_counted, turn_in, turned}
 use Rattle.kernel_model.proofs.Places.{free_turned}
 use Rattle.kernel_laws.specs.Delivered.{DeliveriesAreSeen, Delivers, GoesOnWith, HasArguments, IsYield, RunsFunction}
 use Rattle.kernel_laws.specs.Delivered.{RunsUpcall, StandsBehind}
@@ -56,24 +55,17 @@ list_of x y z a b c e f g = cc
 -- the registers of both deliveries
 pub has_arguments : (args : List ℕ) (regs : Registers) → length regs.x ≡ 32 → length args ≡ 3
     → HasArguments args regs.pc regs (delivery_regs (Arguments args) regs)
-has_arguments [] regs many long = absurd (omega (arith, long))
-has_arguments (a ∷ []) regs many long = absurd (omega (arith, long))
-has_arguments (a ∷ b ∷ []) regs many long = absurd (omega (arith, long))
-has_arguments (a ∷ b ∷ c ∷ d ∷ more) regs many long = absurd (omega (arith, long))
 has_arguments (a ∷ b ∷ c ∷ []) regs many long =
     let words = three a b c regs many in
     record {
       arguments = list_of _ _ _ a b c words.0 words.1 words.2;
       pc = words_pc 10 (a ∷ b ∷ c ∷ []) regs;
-      others = beside;
+      others = λ n out. words_beside 10 (a ∷ b ∷ c ∷ []) regs n (elim out [
+        | inl below ↦ inl below
+        | inr past ↦ inr (omega (arith, past))
+      ]);
     }
-  where
-    beside : (n : ℕ) → (n < 10) ⊎ (12 < n) → register (with_words 10 (a ∷ b ∷ c ∷ []) regs) n ≡ register regs n
-    beside n (inl below) = words_beside 10 (a ∷ b ∷ c ∷ []) regs n (inl below)
-    beside n (inr past) = words_beside 10 (a ∷ b ∷ c ∷ []) regs n (inr (omega (arith, past)))
-
-even : (n : ℕ) → n / 2 * 2 ≡ n - n % 2
-even n = omega arith
+has_arguments args regs many long = absurd (omega (arith, long))
 
 pub runs_function : (u : Scheduled) (regs : Registers) → length regs.x ≡ 32 → length u.args ≡ 3
     → RunsFunction u regs.pc regs (delivery_regs (Function u) regs)
@@ -94,17 +86,11 @@ runs_function u regs many long =
       app = register_beside with_app 1 13 regs.pc (λ e. omega (arith, e))
           ∙ register_there words 13 u.app (omega arith) (omega (arith, many_words));
       ra = register_there with_app 1 regs.pc (omega arith) (omega (arith, many_app));
-      pc = even u.function;
-      others = λ n one out. kept n one (apart n out) ∙ args.others n (wider n out);
+      pc = omega arith;
+      others = λ n one out.
+          kept n one (λ e. grind arith)
+          ∙ args.others n (elim out [ inl below ↦ inl below | inr past ↦ inr (omega (arith, past)) ]);
     }
-  where
-    apart : (n : ℕ) → (n < 10) ⊎ (13 < n) → n ≢ 13
-    apart n (inl below) e = omega (arith, below, e)
-    apart n (inr past) e = omega (arith, past, e)
-
-    wider : (n : ℕ) → (n < 10) ⊎ (13 < n) → (n < 10) ⊎ (12 < n)
-    wider n (inl below) = inl below
-    wider n (inr past) = inr (omega (arith, past))
 
 -- the turn of a process that has yielded
 module _ (settings : Settings) (time : ℕ) (r : Record) (free : r.process.held ≡ false)
@@ -121,17 +107,9 @@ module _ (settings : Settings) (time : ℕ) (r : Record) (free : r.process.held 
   woken : (u : Scheduled) (rest : List Scheduled) → r.own.inbox.wait ≡ No → r.own.inbox.pending ≡ u ∷ rest
       → RunsUpcall u rest r.process.regs.pc r (turned settings time r).after
   woken u rest wait is =
-      subst (λ (t : Turned). RunsUpcall u rest r.process.regs.pc r t.after)
-      (sym (delivers_due (Function u) (due_is No wait
-      ∙ ap (λ (pending : List Scheduled). option_map Function (slice_get pending 0)) is)))
-      (record {
-        registers = λ many long. let runs = runs_function u r.process.regs many long in record {
-          arguments = runs.arguments;
-          app = runs.app;
-          ra = runs.ra;
-          pc = runs.pc;
-          others = runs.others;
-        };
+      rw (delivers_due (Function u) (due_is No wait
+      ∙ ap (λ (pending : List Scheduled). option_map Function (slice_get pending 0)) is)) (record {
+        registers = λ many long. runs_function u r.process.regs many long;
         runs = refl;
         left = ap (λ (pending : List Scheduled). remove pending 0) is;
       })
@@ -140,9 +118,7 @@ module _ (settings : Settings) (time : ℕ) (r : Record) (free : r.process.held 
       → let s = (turned settings time r).after in
       GoesOnWith args r.own.inbox.pending r.process.regs.pc r s × (s.own.inbox.wait ≡ No)
   given args wait =
-      subst (λ (t : Turned). GoesOnWith args r.own.inbox.pending r.process.regs.pc r t.after
-      × (t.after.own.inbox.wait ≡ No))
-      (sym (delivers_due (Arguments args) (due_is (Given args) wait)))
+      rw (delivers_due (Arguments args) (due_is (Given args) wait))
       (record { registers = λ many long. has_arguments args r.process.regs many long; runs = refl; left = refl }, refl)
 
 -- what an accepted yield comes to, by its number
@@ -151,20 +127,12 @@ module _ (r : Record) (runs : r.process.state ≡ Running) where
       → RunsUpcall u rest ((r.process.regs.pc + 4) % 2 ^ 32) r (yielding (turn_counted r) 0 x y).after
   unfolding yielding
   now_leaves x y u rest pending =
-      subst (λ (o : Option Scheduled).
-      RunsUpcall u rest ((r.process.regs.pc + 4) % 2 ^ 32) r (yield_now (turn_counted r) x o).after)
-      (sym (ap (λ (p : List Scheduled). slice_get p 0) pending))
+      rw (ap (λ (p : List Scheduled). slice_get p 0) pending)
       (record {
         registers = λ many long.
             let function = runs_function u (record r.process.regs { pc = (r.process.regs.pc + 4) % 2 ^ 32 }) many
             long in
-            record {
-              arguments = function.arguments;
-              app = function.app;
-              ra = function.ra;
-              pc = function.pc;
-              others = function.others;
-            };
+            assumption (function);
         runs = refl;
         left = ap (λ inbox. remove inbox.pending 0) (flag_inbox x 1 r.own)
             ∙ ap (λ (p : List Scheduled). remove p 0) pending;
@@ -174,8 +142,7 @@ module _ (r : Record) (runs : r.process.state ≡ Running) where
       → StandsBehind Running r.own.inbox r (yielding (turn_counted r) 0 x y).after
   unfolding yielding
   none_leaves x y none =
-      subst (λ (o : Option Scheduled). StandsBehind Running r.own.inbox r (yield_now (turn_counted r) x o).after)
-      (sym (ap (λ (p : List Scheduled). slice_get p 0) none))
+      rw (ap (λ (p : List Scheduled). slice_get p 0) none)
       (record { registers = refl; state = runs; scheduled = flag_inbox x 0 r.own })
 
   wait_leaves : (x y : ℕ) → StandsBehind Yielded r.own.inbox r (yielding (turn_counted r) 1 x y).after
@@ -188,14 +155,11 @@ module _ (r : Record) (runs : r.process.state ≡ Running) where
       ((r.process.regs.pc + 4) % 2 ^ 32) r (yielding (turn_counted r) 2 x y).after
   unfolding yielding
   one_leaves x y u there =
-      subst (λ (o : Option Scheduled).
-      GoesOnWith u.args (remove r.own.inbox.pending (place_of x y r.own.inbox.pending))
-      ((r.process.regs.pc + 4) % 2 ^ 32) r (yield_for (turn_counted r) x y o).after) (sym there)
-      (record {
+      rw there (record {
         registers = λ many long.
             let args = has_arguments u.args (record r.process.regs { pc = (r.process.regs.pc + 4) % 2 ^ 32 }) many
             long in
-            record { arguments = args.arguments; pc = args.pc; others = args.others };
+            assumption (args);
         runs = refl;
         left = refl;
       })
@@ -204,22 +168,16 @@ module _ (r : Record) (runs : r.process.state ≡ Running) where
       → StandsBehind Yielded (record r.own.inbox { wait = For x y }) r (yielding (turn_counted r) 2 x y).after
   unfolding yielding
   for_leaves x y none =
-      subst (λ (o : Option Scheduled).
-      StandsBehind Yielded (record r.own.inbox { wait = For x y }) r (yield_for (turn_counted r) x y o).after)
-      (sym none) (record { registers = refl; state = refl; scheduled = refl })
+      rw none (record { registers = refl; state = refl; scheduled = refl })
 
   other_leaves : (n x y : ℕ) → 2 < n → StandsBehind Running r.own.inbox r (yielding (turn_counted r) n x y).after
   unfolding yielding
   other_leaves n x y more =
-      otherwise (n == 0) _ _ (ne_eqb n 0 (λ e. omega (arith, e, more)))
-      (otherwise (n == 1) _ _ (ne_eqb n 1 (λ e. omega (arith, e, more)))
-      (otherwise (n == 2) _ _ (ne_eqb n 2 (λ e. omega (arith, e, more)))
-      (record { registers = refl; state = runs; scheduled = refl })))
-    where
-      otherwise : (b : Bool) (a c : Served) → b ≡ false → StandsBehind Running r.own.inbox r c.after
-          → StandsBehind Running r.own.inbox r (cond b a c).after
-      otherwise true a c is stands = absurd (false≢true (sym is))
-      otherwise false a c is stands = stands
+      rw (
+        ne_eqb n 0 (λ e. omega (arith, e, more)),
+        ne_eqb n 1 (λ e. omega (arith, e, more)),
+        ne_eqb n 2 (λ e. omega (arith, e, more)),
+      ) (record { registers = refl; state = runs; scheduled = refl })
 
 -- what holds of that holds after the turn that tells the yield
 at_yield : (r s : Record) (told : Option CallMade)
@@ -231,10 +189,7 @@ at_yield : (r s : Record) (told : Option CallMade)
 at_yield r s told each P n call is yield holds =
     let comes = at_call told (λ call. call.class ≡ 0 → call.rule ≡ None → HasCome yields r s call) call each is
     yield.class yield.accepted in
-    subst P (sym comes.after)
-    (subst (λ (k : ℕ).
-    P (yielding (turn_counted r) k (slice_index call.args 1) (slice_index call.args 2)).after) (sym yield.number)
-    (holds comes.runs))
+    rw comes.after (rw yield.number (holds comes.runs))
 
 pub deliveries_are_seen : CallsAreOfEcall → DeliveriesAreSeen
 deliveries_are_seen of_ecall =

@@ -1,9 +1,10 @@
 -- A device's step speaks by that device's events, and changes what that device has: each device by what it does for the
 -- one that it serves (`of_serving`), and what comes in by its kind. That all else stays computes, where a line or a
 -- list of words is put at its place.
+use Rattle.kernel_laws.proofs.Cases.{cases_option}
+use Rattle.std.proofs.lemmas.Bool.{cond_both}
 use Rattle.std.proofs.Common.{◌≡◌, ◌⊎◌, inl, inr, ℕ, zero, suc, Bool, true, false, cond, List, [], ◌∷◌, drop, map}
 use Rattle.std.proofs.Common.{slice_get, slice_index_or, slice_set, Option, None, Some, refl, sym, ap, subst}
-use Rattle.std.specs.Option.{option_map}
 use Rattle.std.proofs.lemmas.List.Elements.{All-nil, All-cons}
 use Rattle.tk_base.specs.declared.process.Choice.TheVariants.{Device}
 use Rattle.tk_base.specs.declared.process.Dev.{Dev}
@@ -15,9 +16,9 @@ use Rattle.process_record.specs.Operator.{ends_by}
 use Rattle.driver_model.specs.Commands.{leaving_all}
 use Rattle.driver_model.specs.Console as console
 use Rattle.kernel_model.specs.Record.{Record, flash_of}
-use Rattle.kernel_model.specs.Turn.{Event, NoWord, Taken, Word, WriteDone}
+use Rattle.kernel_model.specs.Turn.{NoWord, Taken, Word, WriteDone}
 use Rattle.kernel_model.specs.World.{Answer, DeviceAnswer, DeviceStep, Devices, Stepped, World, answer_label}
-use Rattle.kernel_model.specs.World.{answering, arrived, carried_out, coming_in, device_step_of, done, lane_in}
+use Rattle.kernel_model.specs.World.{arrived, carried_out, coming_in, device_step_of, done, lane_in}
 use Rattle.kernel_model.specs.World.{operating}
 use Rattle.kernel_model.specs.World.{random_step, receive_step, routed, serving, storing, telling_edge, telling_nobody}
 use Rattle.kernel_model.specs.World.{transmitting, unmade}
@@ -32,12 +33,11 @@ pub of_serving : (w : World) (P : Stepped → Type 0) → P (unmade w) → (make
     (served : Option ℕ) → ((slot : ℕ) (r : Record) → served ≡ Some slot → P (one_answered w slot r (make slot r)))
     → P (done w (serving w.records make served))
 of_serving w P none make None each = none
-of_serving w P none make (Some slot) each = by_record (slice_get w.records slot) refl
-  where
-    by_record : (o : Option Record) → slice_get w.records slot ≡ o
-        → P (done w (option_map (λ (r : Record). answering slot (make slot r)) o))
-    by_record None e = none
-    by_record (Some r) e = subst P (sym (done_one w slot (make slot r) r e)) (each slot r refl)
+of_serving w P none make (Some slot) each =
+    elim (cases_option (slice_get w.records slot)) [
+      | inl e ↦ rw e none
+      | inr r ↦ rw r.1 (subst P (sym (done_one w slot (make slot r.0) r.0 r.1)) (each slot r.0 refl))
+    ]
 
 -- what is put at a place of a list is what is then read of that place
 put_again : {X : Type 0} (xs : List X) (i : ℕ) (y other : X) (part : X → X) → part y ≡ y
@@ -104,46 +104,6 @@ module _ (w : World) where
   abbrev with_served : Devices → List ℕ → Devices
   with_served e served = record e { served = served }
 
-  of_uart : Changes dev.Uart (done w (device_step_of w dev.Uart))
-  of_uart =
-      of_serving w (Changes dev.Uart)
-      (nobody dev.Uart (ap (with_lines d) (put_same d.lines lane (record { ring = []; ticks = 0; free = 0 }))))
-      (transmitting lane w.clock.time d) (served_by w dev.Uart)
-      (λ slot r first.
-      let a = transmitting lane w.clock.time d slot r in
-      answers dev.Uart slot r a (sent_so (console.sent (flash_of r) r.own).completed)
-      (ap (with_lines a.devices) (put_again d.lines lane _ (record { ring = []; ticks = 0; free = 0 })
-      (λ (x : SerialLine). record (line_at lane d.lines) { free = x.free }) refl)))
-
-  of_receive : Changes dev.Receive (done w (device_step_of w dev.Receive))
-  of_receive =
-      of_serving w (Changes dev.Receive)
-      (nobody dev.Receive (ap (with_lines d) (put_same d.lines lane (record { ring = []; ticks = 0; free = 0 }))))
-      (receive_step lane d) (served_by w dev.Receive)
-      (λ slot r first.
-      let a = receive_step lane d slot r in
-      answers dev.Receive slot r a (_, refl)
-      (ap (with_lines a.devices) (put_again d.lines lane _ (record { ring = []; ticks = 0; free = 0 })
-      (λ (x : SerialLine). record (line_at lane d.lines) { ring = x.ring }) refl)))
-
-  of_random : Changes dev.Random (done w (device_step_of w dev.Random))
-  of_random =
-      of_serving w (Changes dev.Random) (nobody dev.Random (ap (with_words d) (put_same d.words lane [])))
-      (random_step lane d) (served_by w dev.Random)
-      (λ slot r first.
-      let a = random_step lane d slot r in
-      answers dev.Random slot r a (drawn_so _)
-      (ap (with_words a.devices) (put_again d.words lane _ [] (λ (x : List ℕ). x) refl)))
-
-  of_store : Changes dev.Store (done w (device_step_of w dev.Store))
-  of_store =
-      of_serving w (Changes dev.Store) (nobody dev.Store (ap (with_served d) (put_same d.served lane 0)))
-      (storing lane d) (served_by w dev.Store)
-      (λ slot r first.
-      let a = storing lane d slot r in
-      answers dev.Store slot r a (_, refl)
-      (ap (with_served a.devices) (put_again d.served lane _ 0 (λ (x : ℕ). x) refl)))
-
   -- what comes in, the first of what is still to
   module _ (rest : List Arrival) (is_rest : rest ≡ drop 1 d.arrivals) where
     abbrev left : Devices
@@ -162,11 +122,7 @@ module _ (w : World) where
       speaks = told_labels (λ label. SpeaksSo dev.Event label.event) deed.told 0 w.records
           (λ slot at r a here there is. speaks at a is);
       devices = (
-        subst (λ (arrivals : List Arrival). deed.devices ≡ record d {
-          arrivals = arrivals;
-          lines = deed.devices.lines;
-          waiting = deed.devices.waiting;
-        }) is_rest stays,
+        rw is_rest at stays,
         rings,
       );
     }
@@ -188,17 +144,14 @@ module _ (w : World) where
           acts = λ verb slot r is.
               subst (Changes dev.Event) (sym (done_one w slot (operating verb left slot r) r is))
               (answers dev.Event slot r (operating verb left slot r) (inr (verb, refl))
-              (by_end slot (ends_by verb r.process)));
+              (cond_both (ends_by verb r.process) leaving_all []
+              (λ acts. KeepsOthers dev.Event lane d (routed slot acts left))
+              (λ e. (
+                ap (λ (arrivals : List Arrival). record (routed slot leaving_all left) { arrivals = arrivals }) is_rest,
+                λ other. refl,
+              ))
+              (λ e. (ap (λ (arrivals : List Arrival). record left { arrivals = arrivals }) is_rest, λ other. refl))));
         })
-      where
-        by_end : (slot : ℕ) (b : Bool) → KeepsOthers dev.Event lane d (routed slot (cond b leaving_all []) left)
-        by_end slot true = (
-          ap (λ (arrivals : List Arrival). record (routed slot leaving_all left) { arrivals = arrivals })
-              is_rest,
-          λ other. refl,
-        )
-        by_end slot false =
-            (ap (λ (arrivals : List Arrival). record left { arrivals = arrivals }) is_rest, λ other. refl)
 
   of_arrivals : (arrivals : List Arrival) → arrivals ≡ d.arrivals → Changes dev.Event
       (done w (arrived w.records d arrivals))
@@ -215,10 +168,38 @@ module _ (w : World) where
       of_serving w (Changes dev.Alarm) (nobody dev.Alarm refl) (λ slot r. alarmed w.settings w.clock.time d)
       (served_by w dev.Alarm)
       (λ slot r first. answers dev.Alarm slot r (alarmed w.settings w.clock.time d) (_, refl) refl)
-  changes dev.Uart = of_uart
-  changes dev.Receive = of_receive
-  changes dev.Random = of_random
-  changes dev.Store = of_store
+  changes dev.Uart =
+      of_serving w (Changes dev.Uart)
+      (nobody dev.Uart (ap (with_lines d) (put_same d.lines lane (record { ring = []; ticks = 0; free = 0 }))))
+      (transmitting lane w.clock.time d) (served_by w dev.Uart)
+      (λ slot r first.
+      let a = transmitting lane w.clock.time d slot r in
+      answers dev.Uart slot r a (sent_so (console.sent (flash_of r) r.own).completed)
+      (ap (with_lines a.devices) (put_again d.lines lane _ (record { ring = []; ticks = 0; free = 0 })
+      (λ (x : SerialLine). record (line_at lane d.lines) { free = x.free }) refl)))
+  changes dev.Receive =
+      of_serving w (Changes dev.Receive)
+      (nobody dev.Receive (ap (with_lines d) (put_same d.lines lane (record { ring = []; ticks = 0; free = 0 }))))
+      (receive_step lane d) (served_by w dev.Receive)
+      (λ slot r first.
+      let a = receive_step lane d slot r in
+      answers dev.Receive slot r a (_, refl)
+      (ap (with_lines a.devices) (put_again d.lines lane _ (record { ring = []; ticks = 0; free = 0 })
+      (λ (x : SerialLine). record (line_at lane d.lines) { ring = x.ring }) refl)))
+  changes dev.Random =
+      of_serving w (Changes dev.Random) (nobody dev.Random (ap (with_words d) (put_same d.words lane [])))
+      (random_step lane d) (served_by w dev.Random)
+      (λ slot r first.
+      let a = random_step lane d slot r in
+      answers dev.Random slot r a (drawn_so _)
+      (ap (with_words a.devices) (put_again d.words lane _ [] (λ (x : List ℕ). x) refl)))
+  changes dev.Store =
+      of_serving w (Changes dev.Store) (nobody dev.Store (ap (with_served d) (put_same d.served lane 0)))
+      (storing lane d) (served_by w dev.Store)
+      (λ slot r first.
+      let a = storing lane d slot r in
+      answers dev.Store slot r a (_, refl)
+      (ap (with_served a.devices) (put_again d.served lane _ 0 (λ (x : ℕ). x) refl)))
 
 pub devices_change_their_own : DevicesChangeTheirOwn
 unfolding carried_out

@@ -1,6 +1,9 @@
 -- Each edge of a button schedules one upcall for a process that is told of it, and no other step schedules one. No
 -- driver schedules another's upcall, and the buttons' commands none (`DriversScheduleTheirOwn`); so it goes by what the
 -- slot is told, and of edges it is told what comes in and changes its mask (`ServesBy`).
+use Rattle.std.proofs.lemmas.Bool.{cases_Bool, cond_both}
+use Rattle.kernel_model.proofs.Places.{same_some}
+use Rattle.std.proofs.Common.{inl, inr}
 use Rattle.std.proofs.Common.{◌≡◌, ◌≢◌, ◌⊎◌, inl, inr, ℕ, ◌+◌, ◌==◌, ◌&&◌, Bool, true, false, cond, List, [], ◌∷◌}
 use Rattle.std.proofs.Common.{◌++◌, filter, slice_get, Option, None, Some, IfSome, refl, sym, ap, subst, ◌∙◌, arith}
 use Rattle.std.proofs.Common.{eqb-true, eq-eqb}
@@ -10,7 +13,6 @@ use Rattle.std.specs.List.{cons_option}
 use Rattle.std.specs.Option.{option_map}
 use Rattle.std.proofs.lemmas.Bool.{false≢true}
 use Rattle.std.proofs.lemmas.Bool.Decides.{nat_tests}
-use Rattle.tk_base.specs.Bits.{bit_of}
 use Rattle.tk_base.specs.declared.process.Choice.{Choice}
 use Rattle.tk_base.specs.declared.process.Choice.TheVariants.{Run, Device, Pass}
 use Rattle.tk_base.specs.declared.process.Dev.{Dev}
@@ -34,7 +36,7 @@ use Rattle.driver_model.specs.Random as random
 use Rattle.driver_model.specs.Storage as storage
 use Rattle.driver_model.specs.Drivers.{CommandContext, CommandHandler, handler_by, handler_of}
 use Rattle.driver_model.specs.Laws.{RefusedByAnyDriver}
-use Rattle.driver_model.specs.Steps.{DriverStep, own_after, scheduling, silently}
+use Rattle.driver_model.specs.Steps.{DriverStep, own_after}
 use Rattle.driver_model.specs.Upcalls.{DriversScheduleTheirOwn, IsOfDriver}
 use Rattle.kernel_model.specs.Record.{Record}
 use Rattle.kernel_model.specs.declared.settings.Settings.{Settings}
@@ -57,7 +59,7 @@ use Rattle.kernel_model.specs.Parts.{happens}
 use Rattle.kernel_model.specs.World.{lane_in, serving, storing, telling_nobody, transmitting}
 use Rattle.kernel_model.specs.Parts.{served_by}
 use Rattle.kernel_model.specs.Parts.{slot_of_name}
-use Rattle.kernel_laws.specs.Scheduled.{answer_schedules, answer_step, call_schedules, command_schedules}
+use Rattle.kernel_laws.specs.Scheduled.{answer_schedules, answer_step, call_schedules}
 use Rattle.kernel_laws.specs.Scheduled.{event_schedules, scheduled_by}
 use Rattle.kernel_laws.specs.Scheduled.{upcall_told}
 use Rattle.kernel_model.proofs.Steps.{IsAnswer}
@@ -70,17 +72,15 @@ OfAnother upcall = IfSome upcall (λ u. u.driver ≢ buttons)
 -- so is one that is of a driver which is another
 by_driver : (driver : ℕ) → driver ≢ buttons → (step : DriverStep) → IsOfDriver driver step.schedules
     → OfAnother (scheduled_by step)
-by_driver driver apart step is = by_upcall step.schedules is
-  where
-    by_upcall : (o : Option ScheduledUpcall) → IsOfDriver driver o
-        → OfAnother (option_map (λ u. upcall_of u.driver u.number u.args step.own) o)
-    by_upcall None of_it = tt
-    by_upcall (Some u) of_it = λ same. apart (sym of_it ∙ same)
+by_driver driver apart step is =
+    elim step.schedules as (λ (o : Option ScheduledUpcall). IsOfDriver driver o
+    → OfAnother (option_map (λ u. upcall_of u.driver u.number u.args step.own) o)) [
+      | None ↦ λ of_it. tt
+      | Some u ↦ λ of_it same. apart (sym of_it ∙ same)
+    ] is
 
 none_scheduled : (step : DriverStep) → step.schedules ≡ None → OfAnother (scheduled_by step)
-none_scheduled step none =
-    subst (λ (o : Option ScheduledUpcall). OfAnother
-    (option_map (λ u. upcall_of u.driver u.number u.args step.own) o)) (sym none) tt
+none_scheduled step none = rw none tt
 
 -- an event that is no edge
 abbrev pub is_edge : Event → Bool
@@ -92,35 +92,28 @@ module _ (law : DriversScheduleTheirOwn) where
   of_taker : (driver : ℕ) (taker : CommandHandler) → handler_of driver ≡ Some taker → (around : CommandContext)
       (number a2 a3 : ℕ) (own : Own) → OfAnother (scheduled_by (taker around number a2 a3 own).step)
   unfolding drivers
-  of_taker driver taker is around number a2 a3 own = by_number (driver == buttons) refl
-    where
-      by_number : (b : Bool) → (driver == buttons) ≡ b
-          → OfAnother (scheduled_by (taker around number a2 a3 own).step)
-      by_number true e =
-          let same : Some (handler_by Buttons) ≡ Some taker =
-          ap handler_of (sym (eqb-true driver buttons e)) ∙ is in
-          let taken : handler_by Buttons ≡ taker = cc in
-          subst (λ (t : CommandHandler). OfAnother (scheduled_by (t around number a2 a3 own).step)) taken
-          (none_scheduled (handler_by Buttons around number a2 a3 own).step
-          (law.buttons around.buttons around.pressed number a2 own))
-      by_number false e =
-          by_driver driver (λ same. false≢true (sym e ∙ eq-eqb driver buttons same))
-          (taker around number a2 a3 own).step
-          (law.command driver taker is around number a2 a3 own)
+  of_taker driver taker is around number a2 a3 own =
+      elim (cases_Bool (driver == buttons)) [
+        | inl e ↦
+            rw (← same_some (handler_by Buttons) taker (ap handler_of (sym (eqb-true driver buttons e)) ∙ is))
+            (none_scheduled (handler_by Buttons around number a2 a3 own).step
+            (law.buttons around.buttons around.pressed number a2 own))
+        | inr e ↦
+            by_driver driver (λ same. false≢true (sym e ∙ eq-eqb driver buttons same))
+            (taker around number a2 a3 own).step (law.command driver taker is around number a2 a3 own)
+      ]
 
   of_made : (around : CommandContext) (own : Own) (o : Option CallMade)
       → OfAnother (option_and_then (call_schedules around own) o)
   of_made around own None = tt
-  of_made around own (Some made) = by_test_of (made.class == 2 && is_none made.rule)
+  of_made around own (Some made) =
+      cond_both (made.class == 2 && is_none made.rule) _ None OfAnother
+      (λ e. by_handler made.args _ _ _ _ _ refl) (λ e. tt)
     where
       by_handler : (args : List ℕ) (driver number a2 a3 : ℕ) (o : Option CommandHandler) → handler_of driver ≡ o
           → OfAnother (option_and_then (λ taker. scheduled_by (taker around number a2 a3 own).step) o)
       by_handler args driver number a2 a3 None e = tt
       by_handler args driver number a2 a3 (Some taker) e = of_taker driver taker e around number a2 a3 own
-
-      by_test_of : (b : Bool) → OfAnother (cond b (command_schedules around own made.args) None)
-      by_test_of true = by_handler made.args _ _ _ _ _ refl
-      by_test_of false = tt
 
   -- what happens to a process other than by an edge
   pub others : (settings : Settings) (event : Event) (r : Record) → is_edge event ≡ false
@@ -161,30 +154,17 @@ module _ (refuse : RefusedByAnyDriver) (of_ecall : CallsAreOfEcall) where
       → IsThenScheduled (event_schedules settings event r) r.own.inbox (apply settings event r).own.inbox
   unfolding apply
   event_then settings (Turn time) r = (turn_leaves refuse of_ecall settings time r).leaves
-  event_then settings (Alarmed now) r = answer_then settings (Alarmed now) r refl
-  event_then settings (Edge button pressed) r = answer_then settings (Edge button pressed) r refl
-  event_then settings Taken r = answer_then settings Taken r refl
-  event_then settings WriteDone r = answer_then settings WriteDone r refl
-  event_then settings (Input bytes) r = answer_then settings (Input bytes) r refl
-  event_then settings (Word word) r = answer_then settings (Word word) r refl
-  event_then settings NoWord r = answer_then settings NoWord r refl
-  event_then settings (Stored moved) r = answer_then settings (Stored moved) r refl
   event_then settings (Act verb) r = act_then settings verb r
+  event_then settings event r = answer_then settings event r refl
 
   -- of which buttons are pressed a process learns by edges alone
   pub event_pressed : (settings : Settings) (event : Event) (r : Record) → is_edge event ≡ false
       → (apply settings event r).pressed ≡ r.pressed
   unfolding apply
   event_pressed settings (Turn time) r is = (turn_leaves refuse of_ecall settings time r).pressed
-  event_pressed settings (Alarmed now) r is = refl
-  event_pressed settings (Edge button pressed) r is = absurd (false≢true (sym is))
-  event_pressed settings Taken r is = refl
-  event_pressed settings WriteDone r is = refl
-  event_pressed settings (Input bytes) r is = refl
-  event_pressed settings (Word word) r is = refl
-  event_pressed settings NoWord r is = refl
-  event_pressed settings (Stored moved) r is = refl
   event_pressed settings (Act verb) r is = (act_leaves verb r).pressed
+  event_pressed settings (Edge button pressed) r is = absurd (false≢true (sym is))
+  event_pressed settings event r is = refl
 
 -- what a device tells a process that is no edge
 abbrev NoEdge : Option Answer → Type 0
@@ -194,30 +174,22 @@ serving_no_edge : (w : World) (slot : ℕ) (answer : ℕ → Record → DeviceAn
     → ((at : ℕ) (r : Record) → is_edge (answer at r).answer.event ≡ false) → (served : Option ℕ)
     → NoEdge (option_and_then (λ (deed : DeviceStep). deed.told slot) (serving w.records answer served))
 serving_no_edge w slot answer each None = tt
-serving_no_edge w slot answer each (Some at) = by_record (slice_get w.records at)
-  where
-    by_record : (o : Option Record) → NoEdge (option_and_then (λ (deed : DeviceStep). deed.told slot)
-        (option_map (λ (r : Record). answering at (answer at r)) o))
-    by_record None = tt
-    by_record (Some r) = by_slot (slot == at)
-      where
-        by_slot : (b : Bool) → NoEdge (cond b (Some (answer at r).answer) None)
-        by_slot true = each at r
-        by_slot false = tt
+serving_no_edge w slot answer each (Some at) =
+    elim (slice_get w.records at) as (λ o. NoEdge (option_and_then (λ (deed : DeviceStep). deed.told slot)
+    (option_map (λ (r : Record). answering at (answer at r)) o))) [
+      | None ↦ tt
+      | Some r ↦ cond_both (slot == at) _ _ NoEdge (λ e. each at r) (λ e. tt)
+    ]
 
 acting_no_edge : (verb : Verb) (rs : List Record) (d : Devices) (slot : ℕ) (o : Option ℕ)
     → NoEdge ((acting_on verb rs d o).told slot)
 acting_no_edge verb rs d slot None = tt
-acting_no_edge verb rs d slot (Some at) = by_record (slice_get rs at)
-  where
-    by_record : (o : Option Record) → NoEdge ((unwrap_or
-        (option_map (λ (r : Record). answering at (operating verb d at r)) o) (telling_nobody d)).told slot)
-    by_record None = tt
-    by_record (Some r) = by_slot (slot == at)
-      where
-        by_slot : (b : Bool) → NoEdge (cond b (Some (operating verb d at r).answer) None)
-        by_slot true = refl
-        by_slot false = tt
+acting_no_edge verb rs d slot (Some at) =
+    elim (slice_get rs at) as (λ o. NoEdge ((unwrap_or
+    (option_map (λ (r : Record). answering at (operating verb d at r)) o) (telling_nobody d)).told slot)) [
+      | None ↦ tt
+      | Some r ↦ cond_both (slot == at) _ _ NoEdge (λ e. refl) (λ e. tt)
+    ]
 
 sent_no_edge : (completed : Bool) → is_edge (cond completed WriteDone Taken) ≡ false
 sent_no_edge true = refl
@@ -234,12 +206,11 @@ FiltersTo o edge =
 
 filters_another : (o : Option Scheduled) → OfAnother o → FiltersTo o None
 filters_another None other us = refl
-filters_another (Some u) other us = by_driver_of (u.driver == buttons) refl
-  where
-    by_driver_of : (b : Bool) → (u.driver == buttons) ≡ b
-        → cond (b && u.number == 0) (u ∷ filter is_of_edge us) (filter is_of_edge us) ≡ filter is_of_edge us
-    by_driver_of true e = absurd (other (eqb-true u.driver buttons e))
-    by_driver_of false e = refl
+filters_another (Some u) other us =
+    elim (cases_Bool (u.driver == buttons)) [
+      | inl e ↦ absurd (other (eqb-true u.driver buttons e))
+      | inr e ↦ rw e
+    ]
 
 -- the edge that comes in for a process, and that of which it is told
 abbrev edge_by : Option Arrival → Record → Option (ℕ × Bool)
@@ -261,13 +232,6 @@ record ServesFor (settings : Settings) (edge : Option (ℕ × Bool)) (r : Record
   filters : FiltersTo (answer_schedules settings told r)
       (option_map (edge_upcall r.own) (option_and_then (if_told r.own) edge))
 
-serves_by : (settings : Settings) (arrival : Option Arrival) (r : Record) (told : Option Answer)
-    (edge : Option (ℕ × Bool)) → edge_by arrival r ≡ edge → ServesFor settings edge r told
-    → ServesBy settings arrival r told
-serves_by settings arrival r told edge is s =
-    let h = subst (λ (e : Option (ℕ × Bool)). ServesFor settings e r told) (sym is) s in
-    record { schedules = h.schedules; knows = h.knows; filters = h.filters }
-
 -- no upcall is scheduled
 stays : (own : Own) → SchedulesEdge None own own
 stays own = (None, tt, then_scheduled None _ own.inbox _ (all_remain own.inbox) refl)
@@ -279,42 +243,35 @@ serves_none settings r = record { schedules = stays r.own; knows = refl; filters
 edge_schedules : (button : ℕ) (state : Bool) (own : Own)
     → SchedulesEdge (if_told own (button, state)) own (own_after (edged button state own))
 unfolding edged
-edge_schedules button state own = by_test_of (is_told button own)
-  where
-    by_test_of : (b : Bool)
-        → SchedulesEdge (cond b (Some (button, state)) None) own
-        (own_after (cond b (scheduling buttons 0 (button ∷ bit_of state ∷ 0 ∷ []) own) (silently own)))
-    by_test_of true = refl
-    by_test_of false = stays own
+edge_schedules button state own =
+    elim (cases_Bool (is_told button own)) [
+      | inl e ↦ rw e refl
+      | inr e ↦ rw e (stays own)
+    ]
 
 edge_filters : (button : ℕ) (state : Bool) (own : Own)
     → FiltersTo (scheduled_by (edged button state own)) (option_map (edge_upcall own) (if_told own (button, state)))
 unfolding edged
-edge_filters button state own = by_test_of (is_told button own)
-  where
-    by_test_of : (b : Bool) (us : List Scheduled)
-        → filter is_of_edge (cons_option (scheduled_by
-        (cond b (scheduling buttons 0 (button ∷ bit_of state ∷ 0 ∷ []) own) (silently own))) us)
-        ≡ cons_option (option_map (edge_upcall own) (cond b (Some (button, state)) None)) (filter is_of_edge us)
-    by_test_of true us = refl
-    by_test_of false us = refl
+edge_filters button state own us =
+    elim (cases_Bool (is_told button own)) [
+      | inl e ↦ rw e refl
+      | inr e ↦ rw e refl
+    ]
 
 -- an edge comes in, of which a process hears where the button had another state for it
 serves_edge : (settings : Settings) (button : ℕ) (state : Bool) (r : Record)
     → ServesFor settings (cond (differs r.pressed button state) (Some (button, state)) None) r
     (edge_told button state r)
 unfolding apply answer_step
-serves_edge settings button state r = by_state (differs r.pressed button state)
-  where
-    by_state : (b : Bool)
-        → ServesFor settings (cond b (Some (button, state)) None) r
-        (cond b (Some (record { event = Edge button state; printed = [] })) None)
-    by_state true = record {
-      schedules = edge_schedules button state r.own;
-      knows = refl;
-      filters = edge_filters button state r.own;
-    }
-    by_state false = serves_none settings r
+serves_edge settings button state r =
+    elim (cases_Bool (differs r.pressed button state)) [
+      | inl e ↦ rw e (record {
+        schedules = edge_schedules button state r.own;
+        knows = refl;
+        filters = edge_filters button state r.own;
+      })
+      | inr e ↦ rw e (serves_none settings r)
+    ]
 
 module _ (law : DriversScheduleTheirOwn) (refuse : RefusedByAnyDriver) (of_ecall : CallsAreOfEcall) where
   -- something happens to it that is no edge
@@ -340,9 +297,7 @@ module _ (law : DriversScheduleTheirOwn) (refuse : RefusedByAnyDriver) (of_ecall
             → ServesFor w.settings (cond (differs r.pressed button state) (Some (button, state)) None) r
             (option_and_then (edge_told button state) (slice_get w.records slot))
         by_edge button state =
-            subst (λ (o : Option Record). ServesFor w.settings
-            (cond (differs r.pressed button state) (Some (button, state)) None) r
-            (option_and_then (edge_told button state) o)) (sym there) (serves_edge w.settings button state r)
+            rw there (serves_edge w.settings button state r)
 
         by_kind : (kind : EventKind)
             → ServesFor w.settings (change_by kind r.pressed) r
@@ -368,20 +323,15 @@ module _ (law : DriversScheduleTheirOwn) (refuse : RefusedByAnyDriver) (of_ecall
         (served_by w dev.Receive))
     of_device dev.Random =
         serves_event w.settings _ r (serving_no_edge w slot (random_step (lane_in w) w.devices) (λ at x. drawn_no_edge
-        _)
-        (served_by w dev.Random))
+        _) (served_by w dev.Random))
     of_device dev.Store =
         serves_event w.settings _ r (serving_no_edge w slot (storing (lane_in w) w.devices) (λ at x. refl)
         (served_by w dev.Store))
 
     of_choice : (choice : Choice) → ServesFor w.settings (edge_by (first_for choice w.devices.arrivals) r) r
         (answer_by w choice slot)
-    of_choice (Run other) = serves_event w.settings _ r (by_slot (slot == other))
-      where
-        by_slot : (b : Bool)
-            → NoEdge (cond b (Some (record { event = Turn w.clock.time; printed = [] })) None)
-        by_slot true = refl
-        by_slot false = tt
+    of_choice (Run other) =
+        serves_event w.settings _ r (cond_both (slot == other) _ _ NoEdge (λ e. refl) (λ e. tt))
     of_choice (Device device) = of_device device
     of_choice (Pass ticks) = serves_none w.settings r
 
@@ -391,8 +341,9 @@ module _ (law : DriversScheduleTheirOwn) (refuse : RefusedByAnyDriver) (of_ecall
 
     of_ready : (choice : Choice) (b : Bool)
         → ServesBy w.settings (cond b (first_for choice w.devices.arrivals) None) r (told_in_step choice b)
-    of_ready choice true = serves_by w.settings _ r _ _ refl (of_choice choice)
-    of_ready choice false = serves_by w.settings None r None None refl (serves_none w.settings r)
+    of_ready choice true =
+        let s = of_choice choice in record { schedules = s.schedules; knows = s.knows; filters = s.filters }
+    of_ready choice false = record { schedules = stays r.own; knows = refl; filters = λ us. refl }
 
     pub step_serves : (choice : Choice)
         → ServesBy w.settings (arrival_in w choice) r (told_in_step choice (is_ready w choice))
@@ -403,25 +354,22 @@ module _ (law : DriversScheduleTheirOwn) (refuse : RefusedByAnyDriver) (of_ecall
       → slice_get (after w choice).records slot
       ≡ option_map (happens w.settings (cond (is_ready w choice) (answer_by w choice slot) None))
       (slice_get w.records slot)
-  step_happens only w slot choice = by_ready (is_ready w choice) refl
+  step_happens only w slot choice =
+      elim (cases_Bool (is_ready w choice)) [
+        | inl e ↦ rw e (only.each w choice slot e)
+        | inr e ↦
+            rw e (ap (λ (v : World). slice_get v.records slot) (only.unready w choice e).0
+            ∙ unchanged (slice_get w.records slot))
+      ]
     where
       unchanged : (o : Option Record) → o ≡ option_map (happens w.settings None) o
       unchanged None = refl
       unchanged (Some r) = refl
 
-      by_ready : (b : Bool) → is_ready w choice ≡ b
-          → slice_get (after w choice).records slot
-          ≡ option_map (happens w.settings (cond b (answer_by w choice slot) None)) (slice_get w.records slot)
-      by_ready true e = only.each w choice slot e
-      by_ready false e =
-          ap (λ (v : World). slice_get v.records slot) (only.unready w choice e).0
-          ∙ unchanged (slice_get w.records slot)
-
   -- it leaves what remains of what was scheduled for it, and schedules what it does
   pub answer_leaves : (settings : Settings) (told : Option Answer) (r : Record)
       → IsThenScheduled (answer_schedules settings told r) r.own.inbox (happens settings told r).own.inbox
-  answer_leaves settings None r =
-      then_scheduled None _ r.own.inbox _ (all_remain r.own.inbox) refl
+  answer_leaves settings None r = then_scheduled None _ r.own.inbox _ (all_remain r.own.inbox) refl
   answer_leaves settings (Some a) r = event_then refuse of_ecall settings a.event r
 
   pub same_record : (o : Option Record) (x y : Record) → o ≡ Some x → o ≡ Some y → x ≡ y

@@ -1,6 +1,7 @@
 -- What comes in on the serial line is read in its order: each step keeps it, lane by lane. Bytes that come in go behind
 -- the ring, of which the last ones stay; a read takes the first ones of the lane that serves; all else leaves the
 -- rings. So what was read and what is left follow from what came, by induction on the choices.
+use Rattle.kernel_laws.proofs.Cases.{cases_option}
 use Rattle.std.proofs.Common.{◌≡◌, inl, inr, ◌≤◌, ◌<◌, ℕ, zero, suc, ◌+◌, ◌-◌, ◌==◌, Bool, true, false, cond, List}
 use Rattle.std.proofs.Common.{[], ◌∷◌, ◌++◌, drop, take, length, map, slice_get, slice_set}
 use Rattle.std.proofs.Common.{Option, None, Some, refl, sym, ap, ap₂, subst, ◌∙◌, arith, eqb-true, eq-eqb}
@@ -8,7 +9,7 @@ use Rattle.std.specs.Prelude.{option_to_list}
 use Rattle.std.specs.List.{cons_option}
 use Rattle.std.specs.Option.{option_map}
 use Rattle.std.specs.Prelude.{unwrap_or}
-use Rattle.std.proofs.lemmas.Bool.{false≢true}
+use Rattle.std.proofs.lemmas.Bool.{cases_Bool, false≢true}
 use Rattle.std.proofs.lemmas.List.{append_assoc, append-nil, get_or-set_other, length-append, length-drop}
 use Rattle.std.proofs.lemmas.List.{length-map, length-set}
 use Rattle.tk_base.specs.declared.limits.TheConstants.{RING_SIZE}
@@ -28,8 +29,8 @@ use Rattle.driver_model.specs.Console.{console_reads}
 use Rattle.driver_model.specs.Requests.{unanswered, waiting_in}
 use Rattle.kernel_model.specs.Record.{Record, flash_of}
 use Rattle.kernel_model.specs.Turn.{Taken, WriteDone, turned}
-use Rattle.kernel_model.specs.World.{Answer, DeviceAnswer, DeviceStep, Devices, Label, Stepped, World, after}
-use Rattle.kernel_model.specs.World.{answer_label, answering, arrived, carried_out, coming_in, device_step_of, done}
+use Rattle.kernel_model.specs.World.{Answer, DeviceAnswer, DeviceStep, Devices, Stepped, World, after}
+use Rattle.kernel_model.specs.World.{answer_label, arrived, carried_out, coming_in, device_step_of, done}
 use Rattle.kernel_model.specs.World.{is_ready, labels, labels_told, lane_in, only_for, operating, ran}
 use Rattle.kernel_model.specs.World.{random_step, receive_step, routed, stepped, storing, telling_edge}
 use Rattle.kernel_model.specs.World.{telling_nobody}
@@ -37,9 +38,7 @@ use Rattle.kernel_model.specs.World.{transmitting, turn_label, unmade}
 use Rattle.kernel_model.specs.Parts.{acting_on, acts_of, alarmed, drawn_event, served_by, slot_of_name}
 use Rattle.kernel_model.specs.Named.{lane_by, slots_in}
 use Rattle.kernel_model.specs.Laws.{one_answered}
-use Rattle.kernel_model.specs.Choices.{labels_of_all}
 use Rattle.kernel_model.specs.Edges.{arrival_in, arrivals_in, first_for}
-use Rattle.kernel_model.specs.Replay.{after_all}
 use Rattle.kernel_model.proofs.Told.{done_one, edge_answer, of_device as of_each_device, told_labels, with_rest}
 use Rattle.kernel_model.proofs.Places.{of_stepped, stepped_else, stepped_ready, routed_rest}
 use Rattle.kernel_laws.specs.Inputs.{InputIsKept, IsSubsequence, IsTheLast, KeepsInput, RingsHaveTheLast}
@@ -73,12 +72,10 @@ remain_of : (xs ys zs : List ℕ) → IsSubsequence xs ys → IsSubsequence ys z
 remain_of xs ys [] h g = subst (IsSubsequence xs) g h
 remain_of xs ys (z ∷ zs) h (inl g) = inl (remain_of xs ys zs h g)
 remain_of xs ys (z ∷ zs) h (inr g) =
-    by_head (subst (IsSubsequence xs) g.1.0 h) (λ ws f. remain_of ws g.0 zs f g.1.1)
-  where
-    by_head : IsSubsequence xs (z ∷ g.0) → ((ws : List ℕ) → IsSubsequence ws g.0 → IsSubsequence ws zs)
-        → IsSubsequence xs (z ∷ zs)
-    by_head (inl f) later = inl (later xs f)
-    by_head (inr f) later = inr (f.0, (f.1.0, later f.0 f.1.1))
+    elim (rw g.1.0 at h) [
+      | inl f ↦ inl (remain_of xs g.0 zs f g.1.1)
+      | inr f ↦ inr (f.0, (f.1.0, remain_of f.0 g.0 zs f.1.1 g.1.1))
+    ]
 
 -- What a step keeps of the input of a lane, which is there where something holds: all of it where the ring has room,
 -- and else the last of it.
@@ -174,13 +171,10 @@ taken_first (suc n) (x ∷ xs) = ap (λ (ys : List ℕ). x ∷ ys) (taken_first 
 moved_first : (ring : List ℕ) (own : Own) →
     let moved = (console.received ring own).moved in moved ++ drop (length moved) ring ≡ ring
 unfolding console.received
-moved_first ring own = by_read (waiting_in console_reads own)
-  where
-    by_read : (o : Option WaitingRead) →
-        let moved = (unwrap_or (option_map (console.receiving ring own) o) (unanswered [] own)).moved in
-        moved ++ drop (length moved) ring ≡ ring
-    by_read None = refl
-    by_read (Some read) = taken_first _ ring
+moved_first ring own =
+    elim (waiting_in console_reads own) as (λ (o : Option WaitingRead).
+    let moved = (unwrap_or (option_map (console.receiving ring own) o) (unanswered [] own)).moved in
+    moved ++ drop (length moved) ring ≡ ring) [ None ↦ refl | Some read ↦ taken_first _ ring ]
 
 -- what a turn asks of the board, and what an operator's act does, reads nothing
 routed_lines : (slot : ℕ) (acts : List BoardRequest) (d : Devices) → (routed slot acts d).lines ≡ d.lines
@@ -221,39 +215,20 @@ module _ (w : World) (lane : ℕ) where
   reads : (slot : ℕ) (r : Record) → served_by w dev.Receive ≡ Some slot
       → Keeps [] (one_answered w slot r (receive_step (lane_in w) w.devices slot r))
   reads slot r first =
-      exactly ring _ _ _ (by_lane (lane_by (only_for w.pace.window slot) == lane) refl)
-    where
-      here : lane_by (only_for w.pace.window slot) ≡ lane_in w
-      here = served_here w.clock.time w.pace.window slot (slots_in Reads w.devices.waiting) first
-
-      line : SerialLine
-      line = line_at (lane_in w) w.devices.lines
-
-      moved : List ℕ
-      moved = (console.received line.ring r.own).moved
-
-      rest : SerialLine
-      rest = record line { ring = drop (length moved) line.ring }
-
-      lines : List SerialLine
-      lines = slice_set w.devices.lines (lane_in w) rest
-
-      left_here : (line_at (lane_in w) lines).ring ≡ drop (length moved) line.ring
-      left_here = put_there w.devices.lines (lane_in w) rest
-          (λ h. none_dropped (length moved) line.ring (none_there w.devices.lines (lane_in w) h))
-
-      label : Label
-      label = answer_label slot (receive_step (lane_in w) w.devices slot r).answer
-
-      by_lane : (b : Bool) → (lane_by (only_for w.pace.window slot) == lane) ≡ b
-          → inputs_told (cond b (label ∷ []) []) ++ (line_at lane lines).ring ≡ ring
-      by_lane true is =
-          let same : lane ≡ lane_in w = sym (eqb-true (lane_by (only_for w.pace.window slot)) lane is) ∙ here in
-          subst (λ (l : ℕ). (moved ++ []) ++ (line_at l lines).ring ≡ ring_in l w.devices) (sym same)
-          (ap₂ (λ (xs ys : List ℕ). xs ++ ys) (append-nil moved) left_here ∙ moved_first line.ring r.own)
-      by_lane false is =
-          ap (λ (x : SerialLine). x.ring) (get_or-set_other w.devices.lines (lane_in w) lane rest _
-          (λ same. false≢true (sym is ∙ eq-eqb (lane_by (only_for w.pace.window slot)) lane (here ∙ sym same))))
+      let here = served_here w.clock.time w.pace.window slot (slots_in Reads w.devices.waiting) first in
+      let line = line_at (lane_in w) w.devices.lines in
+      let moved = (console.received line.ring r.own).moved in
+      let rest = record line { ring = drop (length moved) line.ring } in
+      let left_here = put_there w.devices.lines (lane_in w) rest
+      (λ h. none_dropped (length moved) line.ring (none_there w.devices.lines (lane_in w) h)) in
+      exactly ring _ _ _ (elim (cases_Bool (lane_by (only_for w.pace.window slot) == lane)) [
+        | inl is ↦
+            let same : lane ≡ lane_in w = sym (eqb-true (lane_by (only_for w.pace.window slot)) lane is) ∙ here in
+            rw (is, same, append-nil moved, left_here) (moved_first line.ring r.own)
+        | inr is ↦
+            rw is (ap (λ (x : SerialLine). x.ring) (get_or-set_other w.devices.lines (lane_in w) lane rest _
+            (λ same. false≢true (sym is ∙ eq-eqb (lane_by (only_for w.pace.window slot)) lane (here ∙ sym same)))))
+      ])
 
   -- a step that tells nobody of input
   tells_no_input : (deed : DeviceStep)
@@ -267,20 +242,17 @@ module _ (w : World) (lane : ℕ) where
   of_act : (verb : Verb) (d : Devices) (o : Option ℕ) → d.lines ≡ w.devices.lines
       → Keeps [] (done w (Some (acting_on verb w.records d o)))
   of_act verb d None same =
-      quietly _ _ _ (tells_no_input (telling_nobody d) (λ at a is. absurd (cc)))
-      (ap (λ (lines : List SerialLine). (line_at lane lines).ring) same)
-  of_act verb d (Some slot) same = by_record (slice_get w.records slot) refl
-    where
-      by_record : (o : Option Record) → slice_get w.records slot ≡ o
-          → Keeps [] (done w (Some (unwrap_or
-          (option_map (λ (r : Record). answering slot (operating verb d slot r)) o) (telling_nobody d))))
-      by_record None e =
-          quietly _ _ _ (tells_no_input (telling_nobody d) (λ at a is. absurd (cc)))
-          (ap (λ (lines : List SerialLine). (line_at lane lines).ring) same)
-      by_record (Some r) e =
-          subst (Keeps []) (sym (done_one w slot (operating verb d slot r) r e))
-          (answers_quietly slot r (operating verb d slot r) refl
-          (ap (λ (lines : List SerialLine). (line_at lane lines).ring) (routed_lines slot (acts_of verb r) d ∙ same)))
+      quietly _ _ _ (tells_no_input (telling_nobody d) (λ at a is. absurd (cc))) (rw same)
+  of_act verb d (Some slot) same =
+      elim (cases_option (slice_get w.records slot)) [
+        | inl e ↦
+            rw e (quietly _ _ _ (tells_no_input (telling_nobody d) (λ at a is. absurd (cc))) (rw same))
+        | inr there ↦
+            rw there.1 (subst (Keeps []) (sym (done_one w slot (operating verb d slot there.0) there.0 there.1))
+            (answers_quietly slot there.0 (operating verb d slot there.0) refl
+            (ap (λ (lines : List SerialLine). (line_at lane lines).ring)
+            (routed_lines slot (acts_of verb there.0) d ∙ same))))
+      ]
 
   of_edge : (button : ℕ) (pressed : Bool) (rest : List Arrival)
       → Keeps [] (done w (Some (telling_edge button pressed w.records (with_rest w.devices rest))))
@@ -332,31 +304,25 @@ module _ (w : World) (lane : ℕ) where
   of_choice : (choice : Choice)
       → Keeps (bytes_arriving (option_to_list (first_for choice w.devices.arrivals))) (carried_out w choice)
   unfolding carried_out
-  of_choice (Run slot) = by_record (slice_get w.records slot)
-    where
-      by_record : (o : Option Record) → Keeps [] (ran w slot o)
-      by_record None = idle
-      by_record (Some r) =
-          let t = turned w.settings w.clock.time r in
-          quietly _ _ _ (one_silent input_told w.pace.window lane (turn_label slot w.clock.time t.told) refl)
-          (ap (λ (lines : List SerialLine). (line_at lane lines).ring) (routed_lines slot t.acts w.devices))
+  of_choice (Run slot) =
+      elim (slice_get w.records slot) as (λ o. Keeps [] (ran w slot o)) [
+        | None ↦ idle
+        | Some r ↦
+            let t = turned w.settings w.clock.time r in
+            quietly _ _ _ (one_silent input_told w.pace.window lane (turn_label slot w.clock.time t.told) refl)
+            (rw (routed_lines slot t.acts w.devices, ring_in))
+      ]
   of_choice (Device device) = of_device device
   of_choice (Pass ticks) = quietly [] ring _ refl refl
 
   step_keeps : (choice : Choice) → KeepsLast ring (bytes_arriving (option_to_list (arrival_in w choice)))
       (inputs_told (of_lane w.pace.window lane (labels w choice))) (ring_in lane (after w choice).devices)
       (lane < length w.devices.lines)
-  step_keeps choice = by_ready (is_ready w choice) refl
-    where
-      by_ready : (b : Bool) → is_ready w choice ≡ b →
-          let arrived = bytes_arriving (option_to_list (cond b (first_for choice w.devices.arrivals) None)) in
-          KeepsLast ring arrived
-          (inputs_told (of_lane w.pace.window lane (labels w choice))) (ring_in lane (after w choice).devices)
-          (lane < length w.devices.lines)
-      by_ready true e =
-          subst (Keeps (bytes_arriving (option_to_list (first_for choice w.devices.arrivals))))
-          (sym (stepped_ready w choice e)) (of_choice choice)
-      by_ready false e = subst (Keeps []) (sym (stepped_else w choice e)) idle
+  step_keeps choice =
+      elim (cases_Bool (is_ready w choice)) [
+        | inl e ↦ rw (e, stepped_ready w choice e, after, labels) (of_choice choice)
+        | inr e ↦ rw (e, stepped_else w choice e, after, labels) idle
+      ]
 
 -- there are as many lines after a step
 module _ (w : World) where
@@ -370,9 +336,7 @@ module _ (w : World) where
         arrives = λ bytes rest. length-map w.devices.lines (with_input bytes);
         edges = λ button pressed rest. refl;
         nobody = λ rest. refl;
-        acts = λ verb rest slot r is.
-            ap (λ (lines : List SerialLine). length lines)
-            (routed_lines slot (acts_of verb r) (with_rest w.devices rest));
+        acts = λ verb rest slot r is. rw (routed_lines slot (acts_of verb r) (with_rest w.devices rest));
         alarms = λ slot r first is. refl;
         sends = λ slot r first is. length-set w.devices.lines (lane_in w) _;
         receives = λ slot r first is. length-set w.devices.lines (lane_in w) _;
@@ -382,13 +346,11 @@ module _ (w : World) where
 
   as_many_made : (choice : Choice) → IsAsMany (carried_out w choice)
   unfolding carried_out
-  as_many_made (Run slot) = by_record (slice_get w.records slot)
-    where
-      by_record : (o : Option Record) → IsAsMany (ran w slot o)
-      by_record None = refl
-      by_record (Some r) =
-          ap (λ (lines : List SerialLine). length lines)
-          (routed_lines slot (turned w.settings w.clock.time r).acts w.devices)
+  as_many_made (Run slot) =
+      elim (slice_get w.records slot) as (λ o. IsAsMany (ran w slot o)) [
+        | None ↦ refl
+        | Some r ↦ rw (routed_lines slot (turned w.settings w.clock.time r).acts w.devices)
+      ]
   as_many_made (Device device) = as_many_done device
   as_many_made (Pass ticks) = refl
 
@@ -407,43 +369,30 @@ kept_on : (before arrived read left come told last : List ℕ) (P Q : Type 0)
     → KeepsInput before arrived read left P → KeepsInput left come told last Q
     → KeepsInput before (arrived ++ come) (read ++ told) last (P × Q)
 kept_on before arrived read left come told last P Q h g =
-    let joins : (read ++ told) ++ last ≡ read ++ (told ++ last) = append_assoc read told last in
-    let comes : (before ++ arrived) ++ come ≡ before ++ (arrived ++ come) = append_assoc before arrived come in
     record {
-      kept = subst (λ (xs : List ℕ). IsSubsequence xs (before ++ (arrived ++ come))) (sym joins)
-          (subst (IsSubsequence (read ++ (told ++ last))) comes
+      kept = rw (append_assoc read told last, ← append_assoc before arrived come)
           (remain_of (read ++ (told ++ last)) ((read ++ left) ++ come) ((before ++ arrived) ++ come)
-          (subst (IsSubsequence (read ++ (told ++ last))) (sym (append_assoc read left come))
-          (after_more read (told ++ last) (left ++ come) g.kept))
-          (before_more (read ++ left) (before ++ arrived) come h.kept)));
+          (rw (append_assoc read left come) (after_more read (told ++ last) (left ++ come) g.kept))
+          (before_more (read ++ left) (before ++ arrived) come h.kept));
       whole = λ both.
-          joins ∙ ap (λ (xs : List ℕ). read ++ xs) (g.whole both.1) ∙ sym (append_assoc read left come)
-          ∙ ap (λ (xs : List ℕ). xs ++ come) (h.whole both.0) ∙ comes;
+          rw (append_assoc read told last, g.whole both.1, ← append_assoc read left come, h.whole both.0)
+          (append_assoc before arrived come);
     }
 
 pub input_is_kept : InputIsKept
 input_is_kept w [] lane =
-    record {
-      kept = subst (IsSubsequence (ring_in lane w.devices)) (sym (append-nil (ring_in lane w.devices)))
-          (all_remain (ring_in lane w.devices));
-      whole = λ roomy. sym (append-nil (ring_in lane w.devices));
-    }
+    let nil = append-nil (ring_in lane w.devices) in
+    record { kept = rw nil (all_remain (ring_in lane w.devices)); whole = λ roomy. sym nil }
 input_is_kept w (choice ∷ choices) lane =
     let v = after w choice in
     let both = kept_on _ _ _ _ _ _ _ _ _ (step_keeps w lane choice).input (input_is_kept v choices lane) in
     let comes = bytes_joined (arrival_in w choice) (arrivals_in v choices) in
     let tells = lane_joined input_told w choice choices lane in
     record {
-      kept = subst (λ (read : List ℕ). IsSubsequence (read ++ ring_in lane (after_all v choices).devices)
-          (ring_in lane w.devices ++ bytes_arriving (arrivals_in w (choice ∷ choices)))) (sym tells)
-          (subst (λ (bytes : List ℕ). IsSubsequence ((inputs_told (of_lane w.pace.window lane (labels w choice))
-          ++ inputs_told (of_lane v.pace.window lane (labels_of_all v choices)))
-          ++ ring_in lane (after_all v choices).devices) (ring_in lane w.devices ++ bytes)) (sym comes) both.kept);
+      kept = rw (tells, comes) both.kept;
       whole = λ roomy.
           let there : lane < length v.devices.lines = omega (arith, roomy.0, as_many w choice) in
-          ap (λ (read : List ℕ). read ++ ring_in lane (after_all v choices).devices) tells
-          ∙ both.whole ((roomy.0, roomy.1.0), (there, roomy.1.1))
-          ∙ ap (λ (bytes : List ℕ). ring_in lane w.devices ++ bytes) (sym comes);
+          rw (tells, comes) (both.whole ((roomy.0, roomy.1.0), (there, roomy.1.1)));
     }
 
 pub rings_have_the_last : RingsHaveTheLast

@@ -1,8 +1,8 @@
 -- What a turn changes of a process, by the end of its instruction: what it drops, and what drivers keep. A call goes by
 -- the walk `of_call`, refused or served; a denial ends a life or starts one again, and an instruction touches neither.
 -- So each law is a field of one record (`Leaves`).
-use Rattle.std.proofs.Common.{◌≡◌, ◌<◌, length, IfSome, ◌∙◌, ℕ, List, [], true, Option, None, Some, refl, subst}
-use Rattle.std.proofs.Common.{ap, sym}
+use Rattle.std.proofs.Common.{◌≡◌, ◌<◌, length, IfSome, ◌∙◌, ℕ, List, [], true, None, refl}
+use Rattle.std.proofs.Common.{sym}
 use Rattle.tk_base.specs.declared.access.Denial.{Denial}
 use Rattle.tk_base.specs.declared.limits.TheConstants.{PENDING_LIMIT}
 use Rattle.upcall_queue.specs.declared.inbox.Delivery.{Delivery}
@@ -20,9 +20,8 @@ use Rattle.kernel_model.specs.Record.{Record, with_effect}
 use Rattle.kernel_model.specs.Parts.{with_process}
 use Rattle.kernel_model.specs.declared.settings.Settings.{Settings}
 use Rattle.kernel_model.specs.Calls.{failure_of, refused_with, served}
-use Rattle.kernel_model.specs.Turn.{Turned, apply, called, turn_counted, faulted, idle}
-use Rattle.kernel_model.specs.Parts.{calls}
-use Rattle.kernel_model.specs.Turn.{made, operated, surroundings, turned}
+use Rattle.kernel_model.specs.Turn.{Turned, called, turn_counted, faulted, idle}
+use Rattle.kernel_model.specs.Turn.{operated, surroundings, turned}
 use Rattle.kernel_model.specs.Laws.{CanStartAgain, DriversPromise, DropsAtMostOne, GrantsChangeAtCalls, KeepsLines}
 use Rattle.kernel_model.specs.Laws.{TurnsActAtCalls, TurnsKeepLines}
 use Rattle.driver_model.specs.Keeping.{KeepsLimit}
@@ -44,11 +43,9 @@ record Leaves (settings : Settings) (r : Record) (t : Turned) : Type 0 where
 leaves_same : (settings : Settings) (r : Record) (t : Turned) → SameKept r.own t.after.own → t.acts ≡ []
     → Leaves settings r t
 leaves_same settings r t same acts = record {
-  dropped = subst (IsAtMostOneMore r.own.inbox.dropped) (sym same.dropped) (no_more r.own.inbox.dropped);
+  dropped = rw same.dropped (no_more r.own.inbox.dropped);
   room = λ few. same.dropped;
-  lines = λ lives can.
-      subst (KeepsLines settings.storage r.own t.after.own) (sym acts)
-      (keeps_same settings.storage r.own t.after.own same);
+  lines = λ lives can. rw acts (keeps_same settings.storage r.own t.after.own same);
 }
 
 next_dropped : (next : Delivery) (inbox : Inbox) → (left_by next inbox).dropped ≡ inbox.dropped
@@ -90,7 +87,7 @@ module _ (settings : Settings) (r : Record) (t : UserTurn) where
         lines = λ lives can. same_lines (keeps_ended settings.storage ran.own);
       })
       (record {
-        dropped = subst (IsAtMostOneMore r.own.inbox.dropped) (sym (restart_keeps s)) (no_more r.own.inbox.dropped);
+        dropped = rw (restart_keeps s) (no_more r.own.inbox.dropped);
         room = λ few. restart_keeps s;
         lines = λ lives can. same_lines (keeps_restarted settings.storage s can);
       })
@@ -124,20 +121,15 @@ act_dropped r verb =
 pub drops_only_where_full : DriversPromise → DropsOnlyWhereFull
 drops_only_where_full promise w choices choice slot before now is later few =
     let v = after_all w choices in
-    subst (λ (o : Option Record). IfSome o (λ x. x.own.inbox.dropped ≡ before.own.inbox.dropped)) later
-    (of_step v slot (λ ended tolds o. IfSome o (λ x. x.own.inbox.dropped ≡ before.own.inbox.dropped))
+    rw later at (of_step v slot (λ ended tolds o. IfSome o (λ x. x.own.inbox.dropped ≡ before.own.inbox.dropped))
     (record {
-      stays = subst (λ (o : Option Record). IfSome o (λ x. x.own.inbox.dropped ≡ before.own.inbox.dropped)) (sym is)
-          refl;
+      stays = rw is refl;
       turn = λ r at free.
-          subst (λ (x : Record). (turned v.settings v.clock.time x).after.own.inbox.dropped ≡ before.own.inbox.dropped)
-          (same_some before r (sym is ∙ at)) (drops_with_room promise v.settings v.clock.time before few);
+          rw (← same_some before r (sym is ∙ at)) (drops_with_room promise v.settings v.clock.time before few);
       answer = λ r at event answers.
-          subst (λ (x : Record). (apply v.settings event x).own.inbox.dropped ≡ before.own.inbox.dropped)
-          (same_some before r (sym is
-          ∙ at)) ((of_answer KeepsLimit promise.limit v.settings event before answers).room few);
-      act = λ r at verb.
-          act_dropped r verb ∙ ap (λ (x : Record). x.own.inbox.dropped) (same_some r before (sym at ∙ is));
+          rw (← same_some before r (sym is ∙ at))
+          ((of_answer KeepsLimit promise.limit v.settings event before answers).room few);
+      act = λ r at verb. rw (← same_some r before (sym at ∙ is)) (act_dropped r verb);
     })
     choice)
 
@@ -150,16 +142,13 @@ IsQuiet r t =
     t.told.call ≡ None → t.told.denial ≡ None →
     (t.after.own.grants ≡ r.own.grants) × (t.after.own.lives ≡ r.own.lives) × (t.acts ≡ [])
 
-no_some : {X : Type 0} (x : X) → Some x ≡ None → ⊥
-no_some x e = cc
-
 quiet_turned : (settings : Settings) (time : ℕ) (r : Record) → IsQuiet r (turned settings time r)
 quiet_turned settings time r =
     of_each_end settings time r (IsQuiet r) (record {
       nothing = λ none call denial. (refl, refl, refl);
       went = λ t is call denial. (refl, refl, refl);
-      faults = λ t denial is runs call none. absurd (no_some _ none);
-      makes = λ t form is calls runs made none denial. absurd (no_some _ none);
+      faults = λ t denial is runs call none. absurd (cc);
+      makes = λ t form is calls runs made none denial. absurd (cc);
       delivers = λ next is yielded call denial. (refl, refl, refl);
     })
 

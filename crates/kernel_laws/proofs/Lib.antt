@@ -1,3 +1,4 @@
+mod Cases
 pub mod Between
 pub mod Refused
 pub mod Kept

@@ -1,9 +1,14 @@
 -- The run by round robin and its choices, and when it is done. The run of n steps is its n chosen choices made one
 -- after another, by induction on n. It is done exactly where nothing is left: no device can act, no slot is ready and
 -- no time is ahead, each of which is a search of a list that finds none exactly where none passes.
-use Rattle.std.proofs.Common.{◌≡◌, ◌≤◌, ◌<◌, ℕ, zero, suc, ◌+◌, ◌-◌, ◌==◌, Bool, true, false, cond, not, ◌&&◌, nat_le}
+use Rattle.std.proofs.lemmas.Option.{slice_get-map, slice_get_past}
+use Rattle.std.proofs.lemmas.Bool.{cond_both}
+use Rattle.std.proofs.Common.{eqb-true}
+use Rattle.kernel_laws.proofs.Cases.{cases_option}
+use Rattle.std.proofs.lemmas.Bool.{cases_Bool, cases_lt}
+use Rattle.std.proofs.Common.{◌≡◌, ◌≤◌, ◌<◌, ℕ, zero, suc, ◌+◌, ◌-◌, ◌==◌, Bool, true, false, cond, not, ◌&&◌}
 use Rattle.std.proofs.Common.{◌⊎◌, inl, inr, ◌/◌, ◌||◌, ◌↔◌, if◌then◌else◌, is_some}
-use Rattle.std.proofs.Common.{nat_lt, List, [], ◌∷◌, length, map, fold, find, slice_get, slice_index_or, Option, None}
+use Rattle.std.proofs.Common.{List, [], ◌∷◌, length, map, fold, find, slice_get, slice_index_or, Option, None}
 use Rattle.std.proofs.Common.{Some, IfSome, IsTrue, option_and_then, option_map, refl, sym, ap, subst, ◌∙◌, arith}
 use Rattle.std.specs.List.{range_with_len}
 use Rattle.std.specs.Option.{option_map, option_or}
@@ -11,7 +16,7 @@ use Rattle.std.proofs.Math.Nat.{mod-lt}
 use Rattle.std.proofs.lemmas.Bool.{false≢true}
 use Rattle.std.proofs.lemmas.Bool.Decides.{nat_tests}
 use Rattle.std.proofs.lemmas.List.Folds.{find-append}
-use Rattle.tk_base.specs.declared.limits.TheConstants.{SLOT_COUNT, STEP_LIMIT}
+use Rattle.tk_base.specs.declared.limits.TheConstants.{SLOT_COUNT}
 use Rattle.tk_base.specs.declared.process.Choice.{Choice}
 use Rattle.tk_base.specs.declared.process.Choice.TheVariants.{Run, Device, Pass}
 use Rattle.tk_base.specs.declared.process.Dev.{Dev}
@@ -33,17 +38,15 @@ use Rattle.kernel_model.specs.World.{World, after, is_ready, may_serve, now_in}
 use Rattle.kernel_model.specs.Parts.{line_in}
 use Rattle.kernel_model.specs.Parts.{is_waited_for}
 use Rattle.kernel_model.specs.Named.{can_run}
-use Rattle.kernel_model.specs.World.{only_in, owns_in, sending_time, stepped}
+use Rattle.kernel_model.specs.World.{only_in, owns_in, sending_time}
 use Rattle.kernel_model.specs.Named.{slots_in}
 use Rattle.kernel_model.specs.Parts.{work_of}
 use Rattle.kernel_model.specs.Run.{is_left, is_left_for, next, next_time, ready_devices, ready_slots, round}
-use Rattle.kernel_model.specs.Parts.{on_choice}
-use Rattle.kernel_model.specs.Run.{runs_on, stays}
 use Rattle.kernel_model.specs.Parts.{work_for}
 use Rattle.kernel_model.proofs.Runs.{alarm_time, going_is_ready}
 use Rattle.partition_turns.specs.Windows.{window_end, window_slot}
-use Rattle.kernel_model.specs.Choices.{are_ready, labels_of_all}
-use Rattle.kernel_model.specs.Replay.{after_all, chosen}
+use Rattle.kernel_model.specs.Choices.{are_ready}
+use Rattle.kernel_model.specs.Replay.{chosen}
 use Rattle.kernel_laws.specs.OneRun.{ChosenAreReady, HasNoAlarm, IsDoneWhereNothingIsLeft, NothingIsLeft, OneRun}
 use Rattle.kernel_model.proofs.Places.{of_world, none_there}
 use Rattle.kernel_laws.proofs.Turns.{step_same}
@@ -52,23 +55,11 @@ use Rattle.kernel_model.proofs.Runs.{next_ready, passed_over}
 pub one_run : OneRun
 unfolding round chosen
 one_run zero w = refl
-one_run (suc n) w = by_choice (next w) (λ c. one_run n (after w c))
-  where
-    by_choice : (o : Option Choice)
-        → ((c : Choice)
-        → round n (after w c)
-        ≡ record {
-          world = after_all (after w c) (chosen n (after w c));
-          labels =
-              labels_of_all (after w c) (chosen n (after w c));
-        })
-        → on_choice (stays w) (λ c. runs_on (round n) (stepped w c)) o
-        ≡ record {
-          world = after_all w (on_choice [] (λ c. c ∷ chosen n (after w c)) o);
-          labels = labels_of_all w (on_choice [] (λ c. c ∷ chosen n (after w c)) o);
-        }
-    by_choice None later = refl
-    by_choice (Some c) later = rw (later c) refl
+one_run (suc n) w =
+    elim (cases_option (next w)) [
+      | inl none ↦ rw none
+      | inr some ↦ rw (some.1, one_run n (after w some.0))
+    ]
 
 -- a step counts one at most
 pub steps_at_most : (w : World) (c : Choice) → (after w c).clock.steps ≤ w.clock.steps + 1
@@ -83,17 +74,14 @@ both_true false b h e = absurd (false≢true h)
 pub chosen_are_ready : IsDueWhereNoneAreLeft → ChosenAreReady
 unfolding chosen
 chosen_are_ready law zero w within = refl
-chosen_are_ready law (suc n) w within = by_choice (next w) refl (λ c within. chosen_are_ready law n (after w c) within)
-  where
-    by_choice : (o : Option Choice) → next w ≡ o
-        → ((c : Choice) → (after w c).clock.steps + n ≤ STEP_LIMIT
-        → are_ready (after w c) (chosen n (after w c)) ≡ true)
-        → are_ready w (on_choice [] (λ c. c ∷ chosen n (after w c)) o) ≡ true
-    by_choice None e later = refl
-    by_choice (Some c) e later =
-        both_true (is_ready w c) (are_ready (after w c) (chosen n (after w c)))
-        (next_ready w c law e (omega (arith, within)))
-        (later c (omega (arith, within, steps_at_most w c)))
+chosen_are_ready law (suc n) w within =
+    elim (cases_option (next w)) [
+      | inl none ↦ rw none
+      | inr some ↦
+          rw some.1 (both_true (is_ready w some.0) (are_ready (after w some.0) (chosen n (after w some.0)))
+          (next_ready w some.0 law some.1 (omega (arith, within)))
+          (chosen_are_ready law n (after w some.0) (omega (arith, within, steps_at_most w some.0))))
+    ]
 
 -- what the round robin reads of the records
 pub told_ready : (records : List Record) (s : ℕ)
@@ -101,17 +89,6 @@ pub told_ready : (records : List Record) (s : ℕ)
 told_ready [] s = refl
 told_ready (r ∷ rs) zero = refl
 told_ready (r ∷ rs) (suc s) = told_ready rs s
-
-pub mapped_get : {X Y : Type 0} (f : X → Y) (xs : List X) (i : ℕ)
-    → slice_get (map f xs) i ≡ option_map f (slice_get xs i)
-mapped_get f [] i = refl
-mapped_get f (x ∷ xs) zero = refl
-mapped_get f (x ∷ xs) (suc i) = mapped_get f xs i
-
-beyond : {X : Type 0} (xs : List X) (i : ℕ) → length xs ≤ i → slice_get xs i ≡ None
-beyond [] i h = refl
-beyond (x ∷ xs) zero h = absurd (omega (arith, h))
-beyond (x ∷ xs) (suc i) h = beyond xs i (omega (arith, h))
 
 -- where none is found, none passes; and the other way
 none_found : {X : Type 0} (p : X → Bool) (xs : List X) → ((x : X) → p x ≡ false) → find p xs ≡ None
@@ -123,13 +100,10 @@ pub none_in_range : (p : ℕ → Bool) (from count slot : ℕ) → find p (range
 none_in_range p from zero slot e low high = absurd (omega (arith, low, high))
 none_in_range p from (suc count) slot e low high =
     let none = passed_over (p from) from (find p (range_with_len (from + 1) count)) e in
-    by_first (slot == from) refl none (λ above.
-    none_in_range p (from + 1) count slot none.1 above (omega (arith, high)))
-  where
-    by_first : (b : Bool) → (slot == from) ≡ b → (p from ≡ false) × (find p (range_with_len (from + 1) count) ≡ None)
-        → (from + 1 ≤ slot → p slot ≡ false) → p slot ≡ false
-    by_first true same none later = let at : slot ≡ from = grind (arith, nat_tests) in ap p at ∙ none.0
-    by_first false apart none later = later (grind (arith, nat_tests))
+    elim (cases_Bool (slot == from)) [
+      | inl same ↦ ap p (eqb-true slot from same) ∙ none.0
+      | inr apart ↦ none_in_range p (from + 1) count slot none.1 (grind (arith, nat_tests)) (omega (arith, high))
+    ]
 
 none_before : {X : Type 0} (a b : Option X) → option_or a b ≡ None → (a ≡ None) × (b ≡ None)
 none_before None b e = (refl, e)
@@ -146,58 +120,43 @@ none_in_order p (Some at) slot e h =
     let parts = none_before (find p (range_with_len (at + 1) (SLOT_COUNT - (at + 1))))
     (find p (range_with_len 0 (at + 1)))
     (sym (find-append p (range_with_len (at + 1) (SLOT_COUNT - (at + 1))) (range_with_len 0 (at + 1))) ∙ e) in
-    by_side (nat_le (at + 1) slot) refl parts
-  where
-    by_side : (b : Bool) → nat_le (at + 1) slot ≡ b
-        → (find p (range_with_len (at + 1) (SLOT_COUNT - (at + 1))) ≡ None)
-        × (find p (range_with_len 0 (at + 1)) ≡ None) → p slot ≡ false
-    by_side true side parts =
-        let low : at + 1 ≤ slot = grind (arith, nat_tests) in
-        none_in_range p (at + 1) (SLOT_COUNT - (at + 1)) slot parts.0 low (omega (arith, h, low))
-    by_side false side parts =
-        let high : slot < at + 1 = grind (arith, nat_tests) in
-        none_in_range p 0 (at + 1) slot parts.1 (omega arith) (omega (arith, high))
+    elim (cases_lt slot (at + 1)) [
+      | inl high ↦ none_in_range p 0 (at + 1) slot parts.1 (omega arith) (omega (arith, high))
+      | inr low ↦
+          none_in_range p (at + 1) (SLOT_COUNT - (at + 1)) slot parts.0 low (omega (arith, h, low))
+    ]
 
 none_to : (p : ℕ → Bool) (from count : ℕ) → ((slot : ℕ) → from ≤ slot → slot < from + count → p slot ≡ false)
     → find p (range_with_len from count) ≡ None
 none_to p from zero none = refl
 none_to p from (suc count) none =
-    ap (λ (b : Bool). cond b (Some from) (find p (range_with_len (from + 1) count))) (none from (omega arith) (omega
-    arith))
-    ∙ none_to p (from + 1) count (λ slot low high. none slot (omega (arith, low)) (omega (arith, high)))
+    rw (none from (omega arith) (omega arith))
+    (none_to p (from + 1) count (λ slot low high. none slot (omega (arith, low)) (omega (arith, high))))
 
 -- no choice is left where no device step is ready, no slot is, and none becomes so
 none_chosen : (w : World) → ready_device (ready_devices w) ≡ None
     → next_slot (ready_slots w) w.present.slot w.present.used w.pace.slice ≡ None → next_time w ≡ None → next w ≡ None
 unfolding next choice
 none_chosen w device turn time =
-    ap (λ (o : Option Dev). option_or (option_map Device o)
-    (option_or (option_map Run (next_slot (ready_slots w) w.present.slot w.present.used w.pace.slice))
-    (option_map (λ (at : ℕ). Pass (at - w.clock.time)) (next_time w)))) device
-    ∙ ap (λ (o : Option ℕ). option_or (option_map Run o)
-    (option_map (λ (at : ℕ). Pass (at - w.clock.time)) (next_time w))) turn
-    ∙ ap (option_map (λ (at : ℕ). Pass (at - w.clock.time))) time
+    rw (device, turn, time)
 
 -- no slot has the next turn exactly where none is ready
 pub no_turn : (ready : List Bool) (present : Option ℕ) (used slice slot : ℕ) → next_slot ready present used slice ≡ None
     → slot < SLOT_COUNT → is_ready_at ready slot ≡ false
 unfolding next_slot
 no_turn ready None used slice slot e h = none_in_order (is_ready_at ready) None slot e h
-no_turn ready (Some at) used slice slot e h = by_lasts (slice_lasts ready (Some at) used slice) e
-  where
-    by_lasts : (b : Bool) → cond b (Some at) (find (is_ready_at ready) (slots_after (Some at))) ≡ None
-        → is_ready_at ready slot ≡ false
-    by_lasts true f = cc
-    by_lasts false f = none_in_order (is_ready_at ready) (Some at) slot f h
+no_turn ready (Some at) used slice slot e h =
+    elim (cases_Bool (slice_lasts ready (Some at) used slice)) [
+      | inl is ↦ let found = rw is at e in absurd (cc)
+      | inr is ↦ none_in_order (is_ready_at ready) (Some at) slot (rw is at e) h
+    ]
 
 none_has_turn : (ready : List Bool) (present : Option ℕ) (used slice : ℕ)
     → ((slot : ℕ) → is_ready_at ready slot ≡ false) → next_slot ready present used slice ≡ None
 unfolding next_slot
 none_has_turn ready None used slice none = none_found (is_ready_at ready) (slots_after None) none
 none_has_turn ready (Some at) used slice none =
-    ap (λ (b : Bool). cond (b && nat_lt used slice) (Some at) (find (is_ready_at ready) (slots_after (Some at))))
-    (none at)
-    ∙ none_found (is_ready_at ready) (slots_after (Some at)) none
+    rw (none at) (none_found (is_ready_at ready) (slots_after (Some at)) none)
 
 -- no alarm is ahead exactly where none is armed
 nearer_none : (a b : Option ℕ) → nearer a b ≡ None → (a ≡ None) × (b ≡ None)
@@ -211,46 +170,33 @@ folded_none : (now : ℕ) (owns : List Own) (from count : ℕ) (least : Option �
 folded_none now owns from zero least e = (e, λ slot low high. absurd (omega (arith, low, high)))
 folded_none now owns from (suc count) least e =
     let later = folded_none now owns (from + 1) count (nearer_with now owns least from) e in
-    let here = nearer_none least (ticks_left_in now owns from) later.0 in
-    (here.0, λ slot low high. by_first here.1 later.1 slot low high (slot == from) refl)
-  where
-    by_first : ticks_left_in now owns from ≡ None
-        → ((slot : ℕ) → from + 1 ≤ slot → slot < from + 1 + count → ticks_left_in now owns slot ≡ None) → (slot : ℕ)
-        → from ≤ slot → slot < from + suc count → (b : Bool) → (slot == from) ≡ b → ticks_left_in now owns slot ≡ None
-    by_first here later slot low high true same = let at : slot ≡ from = grind (arith, nat_tests) in
-        ap (ticks_left_in now owns) at ∙ here
-    by_first here later slot low high false apart =
-        let above : from + 1 ≤ slot = grind (arith, nat_tests) in
-        later slot above (omega (arith, high))
+    let here = nearer_none least (ticks_left_in now owns from) later.0 in (
+      here.0,
+      λ slot low high. elim (cases_Bool (slot == from)) [
+        | inl same ↦ ap (ticks_left_in now owns) (eqb-true slot from same) ∙ here.1
+        | inr apart ↦ later.1 slot (grind (arith, nat_tests)) (omega (arith, high))
+      ],
+    )
 
 none_folded : (now : ℕ) (owns : List Own) (slots : List ℕ) → ((slot : ℕ) → ticks_left_in now owns slot ≡ None)
     → fold (nearer_with now owns) None slots ≡ None
 none_folded now owns [] none = refl
 none_folded now owns (slot ∷ slots) none =
-    ap (λ (least : Option ℕ). fold (nearer_with now owns) least slots) (none slot) ∙ none_folded now owns slots none
+    rw (none slot) (none_folded now owns slots none)
 
 unarmed : (now : ℕ) (own : Own) → ticks_left_of now own ≡ None → own.lives ≡ true → alarm_in own ≡ None
 unarmed now own e lives =
-    by_alarm (alarm_in own) (sym (ap (λ (b : Bool). cond b (option_map (ticks_left now) (alarm_in own)) None) lives)
-    ∙ e)
-  where
-    by_alarm : (o : Option _) → option_map (ticks_left now) o ≡ None → o ≡ None
-    by_alarm None f = refl
-    by_alarm (Some armed) f = cc
+    mapped_none (ticks_left now) (alarm_in own) (rw lives at e)
 
 none_left : (now : ℕ) (own : Own) → (own.lives ≡ true → alarm_in own ≡ None) → ticks_left_of now own ≡ None
-none_left now own none = by_lives own.lives none
-  where
-    by_lives : (b : Bool) → (b ≡ true → alarm_in own ≡ None) → cond b (option_map (ticks_left now) (alarm_in own)) None
-        ≡ None
-    by_lives true none = ap (option_map (ticks_left now)) (none refl)
-    by_lives false none = refl
+none_left now own none =
+    cond_both own.lives _ None (λ o. o ≡ None) (λ lives. ap (option_map (ticks_left now)) (none lives)) (λ ended. refl)
 
 pub left_at : (w : World) (slot : ℕ)
     → ticks_left_in (now_in w) (owns_in w) slot
     ≡ option_and_then (λ (r : Record). ticks_left_of (now_in w) r.own) (slice_get w.records slot)
 left_at w slot =
-    ap (option_and_then (ticks_left_of (now_in w))) (mapped_get (λ (r : Record). r.own) w.records slot)
+    ap (option_and_then (ticks_left_of (now_in w))) (slice_get-map (λ (r : Record). r.own) w.records slot)
     ∙ by_record (slice_get w.records slot)
   where
     by_record : (o : Option Record)
@@ -261,21 +207,21 @@ left_at w slot =
 
 no_alarm : (w : World) (slot : ℕ) → ticks_left_in (now_in w) (owns_in w) slot ≡ None
     → IfSome (slice_get w.records slot) HasNoAlarm
-no_alarm w slot e = by_record (slice_get w.records slot) (sym (left_at w slot) ∙ e)
-  where
-    by_record : (o : Option Record) → option_and_then (λ (r : Record). ticks_left_of (now_in w) r.own) o ≡ None
-        → IfSome o HasNoAlarm
-    by_record None f = tt
-    by_record (Some r) f = unarmed (now_in w) r.own f
+no_alarm w slot e =
+    elim (cases_option (slice_get w.records slot)) [
+      | inl none ↦ rw none tt
+      | inr some ↦
+          let left = sym (left_at w slot) ∙ e in
+          rw some.1 (unarmed (now_in w) some.0.own (rw some.1 at left))
+    ]
 
 no_alarm_left : (w : World) (slot : ℕ) → IfSome (slice_get w.records slot) HasNoAlarm
     → ticks_left_in (now_in w) (owns_in w) slot ≡ None
-no_alarm_left w slot none = left_at w slot ∙ by_record (slice_get w.records slot) none
-  where
-    by_record : (o : Option Record) → IfSome o HasNoAlarm
-        → option_and_then (λ (r : Record). ticks_left_of (now_in w) r.own) o ≡ None
-    by_record None f = refl
-    by_record (Some r) f = none_left (now_in w) r.own f
+no_alarm_left w slot none =
+    left_at w slot ∙ elim (cases_option (slice_get w.records slot)) [
+      | inl e ↦ rw e refl
+      | inr some ↦ rw some.1 (none_left (now_in w) some.0.own (rw some.1 at none))
+    ]
 
 no_arrivals : (arrivals : List Arrival) → arrival_time arrivals ≡ None → arrivals ≡ []
 no_arrivals [] e = refl
@@ -283,39 +229,33 @@ no_arrivals (a ∷ rest) e = cc
 
 no_writes : (writes : List ℕ) (free : ℕ) → cond (is_waited_for writes) (Some free) None ≡ None → writes ≡ []
 no_writes [] free e = refl
-no_writes (slot ∷ rest) free e = absurd (none_waits (length (slot ∷ rest) == 0) refl e)
-  where
-    none_waits : (b : Bool) → (length (slot ∷ rest) == 0) ≡ b → cond (not b) (Some free) None ≡ None → ⊥
-    none_waits true is f = let none : length (slot ∷ rest) ≡ 0 = grind (arith, nat_tests) in omega (arith, none)
-    none_waits false is f = cc
+no_writes (slot ∷ rest) free e =
+    let some : (length (slot ∷ rest) == 0) ≡ false = grind (arith, nat_tests) in
+    let waits = rw some at e in
+    absurd (cc)
 
 -- nobody waits where no test finds one, and nobody reads where none does or nothing came in
 none_waiting : (slots : List ℕ) → is_waited_for slots ≡ false → slots ≡ []
 none_waiting [] e = refl
-none_waiting (slot ∷ rest) e = by_length (length (slot ∷ rest) == 0) refl e
-  where
-    by_length : (b : Bool) → (length (slot ∷ rest) == 0) ≡ b → not b ≡ false → slot ∷ rest ≡ []
-    by_length true is f = let none : length (slot ∷ rest) ≡ 0 = grind (arith, nat_tests) in absurd (omega (arith, none))
-    by_length false is f = absurd (false≢true (sym f))
+none_waiting (slot ∷ rest) e =
+    let some : (length (slot ∷ rest) == 0) ≡ false = grind (arith, nat_tests) in
+    absurd (false≢true (sym e ∙ ap not some))
 
 no_reads : (slots ring : List ℕ) → (is_waited_for slots && not (length ring == 0)) ≡ false
     → (slots ≡ []) ⊎ (ring ≡ [])
-no_reads slots ring e = by_slots (is_waited_for slots) refl e
-  where
-    by_slots : (b : Bool) → is_waited_for slots ≡ b → (b && not (length ring == 0)) ≡ false
-        → (slots ≡ []) ⊎ (ring ≡ [])
-    by_slots false is f = inl (none_waiting slots is)
-    by_slots true is f = inr (none_waiting ring f)
+no_reads slots ring e =
+    elim (cases_Bool (is_waited_for slots)) [
+      | inl is ↦ inr (none_waiting ring (rw is at e))
+      | inr is ↦ inl (none_waiting slots is)
+    ]
 
 within_or_beyond : (w : World) (slot : ℕ) (P : Option Record → Type 0) → length w.records ≤ SLOT_COUNT → P None
     → (slot < SLOT_COUNT → P (slice_get w.records slot)) → P (slice_get w.records slot)
-within_or_beyond w slot P few none some = by_side (nat_lt slot SLOT_COUNT) refl
-  where
-    by_side : (b : Bool) → nat_lt slot SLOT_COUNT ≡ b → P (slice_get w.records slot)
-    by_side true e = some (grind (arith, nat_tests))
-    by_side false e =
-        let above : SLOT_COUNT ≤ slot = grind (arith, nat_tests) in
-        subst P (sym (beyond w.records slot (omega (arith, few, above)))) none
+within_or_beyond w slot P few none some =
+    elim (cases_lt slot SLOT_COUNT) [
+      | inl below ↦ some below
+      | inr above ↦ subst P (sym (slice_get_past w.records slot (omega (arith, few, above)))) none
+    ]
 
 -- no device step is ready exactly where none is the first that is
 module _ (ready : Dev → Bool) where
@@ -328,24 +268,18 @@ module _ (ready : Dev → Bool) where
       let receive = passed_over (ready dev.Receive) dev.Receive _ uart.1 in
       let random = passed_over (ready dev.Random) dev.Random _ receive.1 in
       let store = passed_over (ready dev.Store) dev.Store _ random.1 in
-      by_device device event.0 alarm.0 uart.0 receive.0 random.0 store.0
-    where
-      by_device : (device : Dev) → ready dev.Event ≡ false → ready dev.Alarm ≡ false → ready dev.Uart ≡ false
-          → ready dev.Receive ≡ false → ready dev.Random ≡ false → ready dev.Store ≡ false → ready device ≡ false
-      by_device dev.Event a b c d e f = a
-      by_device dev.Alarm a b c d e f = b
-      by_device dev.Uart a b c d e f = c
-      by_device dev.Receive a b c d e f = d
-      by_device dev.Random a b c d e f = e
-      by_device dev.Store a b c d e f = f
+      elim device as (λ d. ready d ≡ false) [
+        | dev.Event ↦ event.0
+        | dev.Alarm ↦ alarm.0
+        | dev.Uart ↦ uart.0
+        | dev.Receive ↦ receive.0
+        | dev.Random ↦ random.0
+        | dev.Store ↦ store.0
+      ]
 
   ready_in : (device : Dev) → is_ready_at (map ready device_order) (device_place device) ≡ ready device
   ready_in dev.Event = refl
-  ready_in dev.Alarm = refl
-  ready_in dev.Uart = refl
-  ready_in dev.Receive = refl
-  ready_in dev.Random = refl
-  ready_in dev.Store = refl
+  ready_in device = refl
 
   acts_none : ((device : Dev) → ready device ≡ false) → ready_device (map ready device_order) ≡ None
   unfolding ready_device
@@ -397,12 +331,7 @@ plainly_done u none =
     ap (option_map (λ (left : ℕ). w.clock.time + left))
     (none_folded (now_in w) (owns_in w) (range_with_len 0 SLOT_COUNT)
     (λ slot. no_alarm_left w slot (none.alarms slot))) in
-    let time : next_time w ≡ None =
-    ap (λ (a : List Arrival). nearer (arrival_time a) (nearer (alarm_time None w.clock.time (now_in w) (owns_in w))
-    (sending_time None w.devices))) none.arrivals
-    ∙ ap (λ (o : Option ℕ). nearer o (sending_time None w.devices)) alarm
-    ∙ ap (λ (writes : List ℕ). cond (is_waited_for writes) (Some (line_in 0 w.devices).free) None)
-    (none.writes 0 (omega arith)) in
+    let time : next_time w ≡ None = rw (none.arrivals, alarm, none.writes 0 (omega arith)) in
     none_chosen w device turn time
 
 -- with time partitions nothing is left for a slot where none of what there may be for it is
@@ -478,33 +407,20 @@ windows_done u n none = none_chosen w device turn time
     device = acts_none (work_of w).ready (none.devices only (mod-lt (w.clock.time / suc n) (omega arith)))
 
     turn : next_slot (ready_slots w) w.present.slot w.present.used w.pace.slice ≡ None
-    turn = none_has_turn (ready_slots w) w.present.slot w.present.used w.pace.slice (λ slot. by_test slot
-        (is_ready_at (ready_slots w) slot) refl)
-      where
-        by_test : (slot : ℕ) (b : Bool) → is_ready_at (ready_slots w) slot ≡ b → is_ready_at (ready_slots
-            w) slot ≡ false
-        by_test slot false e = e
-        by_test slot true e =
-            absurd (false≢true (sym (told_ready w.records slot ∙ none.slots slot)
-            ∙ going_is_ready (only_in w) (map may_turn w.records) slot e))
+    turn = none_has_turn (ready_slots w) w.present.slot w.present.used w.pace.slice (λ slot.
+        elim (cases_Bool (is_ready_at (ready_slots w) slot)) [
+          | inl e ↦
+              absurd (false≢true (sym (told_ready w.records slot ∙ none.slots slot)
+              ∙ going_is_ready (only_in w) (map may_turn w.records) slot e))
+          | inr e ↦ e
+        ])
 
     none_next : (slot : ℕ) → slot < SLOT_COUNT → (work_for w slot).next ≡ None
-    none_next slot h =
-        ap (λ (a : List Arrival). nearer (arrival_time a) (nearer
-        (alarm_time (Some slot) w.clock.time (now_in w) (owns_in w)) (sending_time (Some slot)
-        w.devices))) none.arrivals
-        ∙ ap (λ (left : Option ℕ). nearer (option_map (λ (left : ℕ). w.clock.time + left) left)
-        (sending_time (Some slot) w.devices)) (no_alarm_left w slot (none.alarms slot))
-        ∙ ap (λ (writes : List ℕ). cond (is_waited_for writes) (Some (line_in slot w.devices).free) None)
-        (none.writes slot h)
+    none_next slot h = rw (none.arrivals, no_alarm_left w slot (none.alarms slot), none.writes slot h)
 
     none_left : (slot : ℕ) → slot < SLOT_COUNT → is_left_for w slot ≡ false
     none_left slot h =
-        ap (λ (b : Bool). b || (is_some (ready_device (map (work_for w slot).ready device_order))
-        || is_some (work_for w slot).next)) (none.slots slot)
-        ∙ ap (λ (o : Option Dev). is_some o || is_some (work_for w slot).next)
-        (acts_none (work_for w slot).ready (none.devices slot h))
-        ∙ ap is_some (none_next slot h)
+        rw (none.slots slot, acts_none (work_for w slot).ready (none.devices slot h), none_next slot h)
 
     time : next_time w ≡ None
     time = ap (λ (o : Option ℕ). if is_some o then nearer (work_of w).next (Some (window_end w.clock.time (suc n)))

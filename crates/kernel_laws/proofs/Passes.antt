@@ -1,6 +1,8 @@
 -- That a pass stops at the nearest time, device by device.
-use Rattle.std.proofs.Common.{◌≡◌, ◌<◌, ℕ, ◌+◌, ◌%◌, ◌^◌, ◌&&◌, Bool, true, false, cond, nat_le, List, [], ◌∷◌, Option}
-use Rattle.std.proofs.Common.{None, Some, IfSome, is_some, refl, sym, ap, subst, ◌∙◌, arith}
+use Rattle.kernel_laws.proofs.Cases.{cases_option}
+use Rattle.std.proofs.Common.{inl, inr}
+use Rattle.std.proofs.Common.{◌≡◌, ◌<◌, ℕ, ◌+◌, ◌%◌, ◌^◌, ◌&&◌, Bool, true, false, nat_le, List, [], ◌∷◌, Option}
+use Rattle.std.proofs.Common.{Some, is_some, refl, sym, ap, ◌∙◌, arith}
 use Rattle.std.specs.Option.{option_map}
 use Rattle.std.proofs.lemmas.Bool.Decides.{nat_tests}
 use Rattle.tk_base.specs.declared.process.Choice.TheVariants.{Pass}
@@ -58,18 +60,17 @@ module _ (law : QuietUntilNext) (w : World) (ticks later : ℕ) (e : next w ≡ 
         let same : (clock_at w.settings.start w.clock.time + later) % 2 ^ 32
         ≡ clock_at w.settings.start (w.clock.time + later) = omega arith in
         ap (λ (now : ℕ). is_some (due_for only now (owns_in w))) (sym same)
-        ∙ ap is_some (law only (now_in w) later (owns_in w) (by_left (left_for only (now_in w) (owns_in w)) refl))
-      where
-        by_left : (o : Option ℕ) → left_for only (now_in w) (owns_in w) ≡ o → IfSome o (λ left. later < left)
-        by_left None is = tt
-        by_left (Some left) is =
-            let up_to = nearer_right (first_arrival_time w.devices.arrivals)
-            (nearer alarms (sending_time only w.devices)) (w.clock.time + left)
-            (nearer_left alarms (sending_time only w.devices) (w.clock.time + left)
-            (later_up_to w.clock.time left (left_for only (now_in w) (owns_in w))
-            (subst (IsUpTo left) (sym is) (omega arith)))) in
-            let past = before (w.clock.time + left) up_to in
-            omega (arith, past)
+        ∙ ap is_some (law only (now_in w) later (owns_in w)
+        (elim (cases_option (left_for only (now_in w) (owns_in w))) [
+          | inl none ↦ rw none tt
+          | inr left ↦
+              let up_to = nearer_right (first_arrival_time w.devices.arrivals)
+              (nearer alarms (sending_time only w.devices)) (w.clock.time + left.0)
+              (nearer_left alarms (sending_time only w.devices) (w.clock.time + left.0)
+              (later_up_to w.clock.time left.0 (left_for only (now_in w) (owns_in w)) (rw left.1 (omega arith)))) in
+              let past = before (w.clock.time + left.0) up_to in
+              rw left.1 (omega (arith, past))
+        ]))
 
     of_sending : (b : Bool) → one_waits only w.devices.waiting.writes ≡ b
         → (b && nat_le (line_by only w.devices).free (w.clock.time + later)) ≡ false
@@ -79,23 +80,19 @@ module _ (law : QuietUntilNext) (w : World) (ticks later : ℕ) (e : next w ≡ 
         let up_to = nearer_right (first_arrival_time w.devices.arrivals)
         (nearer alarms (sending_time only w.devices)) free
         (nearer_right alarms (sending_time only w.devices) free
-        (subst (λ (b : Bool). IsUpTo (line_by only w.devices).free (cond b (Some (line_by only w.devices).free) None))
-        (sym is) (omega arith))) in
+        (rw is (omega arith))) in
         let past : w.clock.time + later < free = before free up_to in
         grind (arith, nat_tests)
 
     none_later : (device : Dev)
         → can_act_at only (w.clock.time + later) (clock_at w.settings.start (w.clock.time + later)) (owns_in w)
-        w.devices
-        device ≡ false
+        w.devices device ≡ false
     none_later dev.Event =
         of_arrivals w.devices.arrivals (λ x up_to. before x (nearer_left (first_arrival_time w.devices.arrivals)
         (nearer alarms (sending_time only w.devices)) x up_to))
     none_later dev.Alarm = of_alarms
     none_later dev.Uart = of_sending (one_waits only w.devices.waiting.writes) refl
-    none_later dev.Receive = none_now dev.Receive
-    none_later dev.Random = none_now dev.Random
-    none_later dev.Store = none_now dev.Store
+    none_later device = none_now device
 
 pub passes_stop_at_the_nearest : QuietUntilNext → PassesStopAtTheNearest
 passes_stop_at_the_nearest law w ticks e later device below = none_later law w ticks later e below device

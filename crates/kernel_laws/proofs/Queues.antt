@@ -1,6 +1,7 @@
 -- That queues are first come, first served, by what a turn, an answer and an operator's act do to them. A turn asks the
 -- board for one thing at most, or leaves all queues (`MovesOne`), and an answer takes out the one that was answered; so
 -- of each queue one slot joined or left it, or nothing changed. Who is answered is the first.
+use Rattle.std.proofs.lemmas.Bool.{cond_both}
 use Rattle.std.proofs.Common.{◌≡◌, ◌⊎◌, inl, inr, ℕ, Bool, true, false, cond, List, [], ◌∷◌, ◌++◌, Option}
 use Rattle.std.proofs.Common.{None, Some, slice_get, unwrap_or, refl, sym, ap, subst, ◌∙◌, arith}
 use Rattle.std.specs.Prelude.{All}
@@ -30,7 +31,6 @@ use Rattle.kernel_model.specs.World.{only_in, may_serve}
 use Rattle.kernel_model.specs.Parts.{acts_of, alarmed}
 use Rattle.kernel_model.specs.Laws.{one_answered}
 use Rattle.kernel_model.specs.Named.{slots_in}
-use Rattle.kernel_model.proofs.Memops.{by_test}
 use Rattle.kernel_model.proofs.Places.{of_stepped, queue_with, same_name}
 use Rattle.kernel_model.proofs.Told.{edge_answer, of_device, told_labels, with_rest}
 use Rattle.kernel_laws.specs.Queues.{ChangesByOne, FirstAreServed, IsOfFirst, JoinsOrLeaves, QueuesKeepOrder}
@@ -52,15 +52,9 @@ changed : (queue name : QueueName) (change : List ℕ → List ℕ) (slot : ℕ)
     → Moves slot (slots_in name d.waiting) (change (slots_in name d.waiting))
     → Moves slot (slots_in queue d.waiting) (slots_in queue (with_queue name change d).waiting)
 changed queue name change slot d moves =
-    subst (Moves slot (slots_in queue d.waiting)) (sym (queue_with queue name change d))
-    (by_test (is_same name queue) (λ same. same_name name queue same))
-  where
-    by_test : (b : Bool) → (b ≡ true → name ≡ queue)
-        → Moves slot (slots_in queue d.waiting)
-        (cond b (change (slots_in queue d.waiting)) (slots_in queue d.waiting))
-    by_test true same =
-        subst (λ (q : QueueName). Moves slot (slots_in q d.waiting) (change (slots_in q d.waiting))) (same refl) moves
-    by_test false same = inl refl
+    rw (queue_with queue name change d)
+    (cond_both (is_same name queue) _ _ (Moves slot (slots_in queue d.waiting))
+    (λ same. rw (same_name name queue same) at moves) (λ apart. inl refl))
 
 -- what a turn asks of the board moves it so, where it asks one thing at most, or leaves all queues
 abbrev MovesOne : List BoardRequest → Type 0
@@ -82,12 +76,20 @@ asks_lights led switch queue slot d = inl refl
 
 leaves_all : MovesOne leaving_all
 leaves_all Writes slot d = inr (inr refl)
-leaves_all Reads slot d = inr (inr refl)
-leaves_all Randoms slot d = inr (inr refl)
-leaves_all Stores slot d = inr (inr refl)
+leaves_all queue slot d = inr (inr refl)
 
 so : (acts others : List BoardRequest) → acts ≡ others → MovesOne others → MovesOne acts
 so acts others same moves = subst MovesOne (sym same) moves
+
+-- one of some that do
+abbrev AllMove : List (List BoardRequest) → Type 0
+AllMove [] = Unit {0}
+AllMove (acts ∷ others) = MovesOne acts × AllMove others
+
+one_moves : (acts : List BoardRequest) (all : List (List BoardRequest)) → OneOf acts all → AllMove all → MovesOne acts
+one_moves acts [] one moves = absurd one
+one_moves acts (first ∷ others) (inl e) moves = so acts first e moves.0
+one_moves acts (first ∷ others) (inr one) moves = one_moves acts others one moves.1
 
 module _ (asked : AskTheirOwn) where
   of_driver : (d : Driver) (around : CommandContext) (number x y : ℕ) (own : Own)
@@ -95,36 +97,19 @@ module _ (asked : AskTheirOwn) where
   of_driver Alarm around number x y own = so _ [] (asked.alarm around.now number x y own) asks_none
   of_driver Buttons around number x y own =
       so _ [] (asked.buttons around.buttons around.pressed number x own) asks_none
-  of_driver Console around number x y own = by_one _ (asked.console number x own)
-    where
-      by_one : (acts : List BoardRequest)
-          → OneOf acts ([] ∷ (Waits Writes ∷ []) ∷ (Waits Reads ∷ []) ∷ (Leaves Reads ∷ []) ∷ []) → MovesOne acts
-      by_one acts (inl e) = so acts _ e asks_none
-      by_one acts (inr (inl e)) = so acts _ e (asks_waits Writes)
-      by_one acts (inr (inr (inl e))) = so acts _ e (asks_waits Reads)
-      by_one acts (inr (inr (inr (inl e)))) = so acts _ e (asks_leaves Reads)
-      by_one acts (inr (inr (inr (inr e)))) = absurd e
-  of_driver Leds around number x y own = by_one _ (asked.leds around.leds number x own)
-    where
-      by_one : (acts : List BoardRequest)
-          → OneOf acts ([] ∷ (Lights x On ∷ []) ∷ (Lights x Off ∷ []) ∷ (Lights x Toggle ∷ []) ∷ []) → MovesOne acts
-      by_one acts (inl e) = so acts _ e asks_none
-      by_one acts (inr (inl e)) = so acts _ e (asks_lights x On)
-      by_one acts (inr (inr (inl e))) = so acts _ e (asks_lights x Off)
-      by_one acts (inr (inr (inr (inl e)))) = so acts _ e (asks_lights x Toggle)
-      by_one acts (inr (inr (inr (inr e)))) = absurd e
-  of_driver Random around number x y own = by_one _ (asked.random number x own)
-    where
-      by_one : (acts : List BoardRequest) → OneOf acts ([] ∷ (Waits Randoms ∷ []) ∷ []) → MovesOne acts
-      by_one acts (inl e) = so acts _ e asks_none
-      by_one acts (inr (inl e)) = so acts _ e (asks_waits Randoms)
-      by_one acts (inr (inr e)) = absurd e
-  of_driver Storage around number x y own = by_one _ (asked.storage around.storage number x y own)
-    where
-      by_one : (acts : List BoardRequest) → OneOf acts ([] ∷ (Waits Stores ∷ []) ∷ []) → MovesOne acts
-      by_one acts (inl e) = so acts _ e asks_none
-      by_one acts (inr (inl e)) = so acts _ e (asks_waits Stores)
-      by_one acts (inr (inr e)) = absurd e
+  of_driver Console around number x y own =
+      one_moves _ ([] ∷ (Waits Writes ∷ []) ∷ (Waits Reads ∷ []) ∷ (Leaves Reads ∷ []) ∷ [])
+      (asked.console number x own)
+      (asks_none, (asks_waits Writes, (asks_waits Reads, (asks_leaves Reads, tt))))
+  of_driver Leds around number x y own =
+      one_moves _ ([] ∷ (Lights x On ∷ []) ∷ (Lights x Off ∷ []) ∷ (Lights x Toggle ∷ []) ∷ [])
+      (asked.leds around.leds number x own)
+      (asks_none, (asks_lights x On, (asks_lights x Off, (asks_lights x Toggle, tt))))
+  of_driver Random around number x y own =
+      one_moves _ ([] ∷ (Waits Randoms ∷ []) ∷ []) (asked.random number x own) (asks_none, (asks_waits Randoms, tt))
+  of_driver Storage around number x y own =
+      one_moves _ ([] ∷ (Waits Stores ∷ []) ∷ []) (asked.storage around.storage number x y own)
+      (asks_none, (asks_waits Stores, tt))
 
   of_turns : CallsAreOfEcall → (settings : Settings) (time : ℕ) (r : Record) → MovesOne (turned settings time r).acts
   of_turns of_ecall settings time r =
@@ -167,19 +152,12 @@ module _ (asked : AskTheirOwn) (of_ecall : CallsAreOfEcall) (w : World) (queue :
       (slots_in queue (after_answer name completed slot w.devices).waiting)
   answered name completed slot label same =
       named slot label _ _ same (changed queue name (λ slots. cond completed (queue_without slot slots) slots) slot
-      w.devices (by_test completed))
-    where
-      by_test : (b : Bool) → Moves slot (slots_in name w.devices.waiting)
-          (cond b (queue_without slot (slots_in name w.devices.waiting)) (slots_in name w.devices.waiting))
-      by_test true = inr (inr refl)
-      by_test false = inl refl
+      w.devices (cond_both completed _ _ (Moves slot (slots_in name w.devices.waiting)) (λ e. inr (inr refl))
+      (λ e. inl refl)))
 
   acting : (verb : Verb) (slot : ℕ) (r : Record) → MovesOne (acts_of verb r)
-  acting verb slot r = by_test_of (ends_by verb r.process)
-    where
-      by_test_of : (b : Bool) → MovesOne (cond b leaving_all [])
-      by_test_of true = leaves_all
-      by_test_of false = asks_none
+  acting verb slot r =
+      cond_both (ends_by verb r.process) leaving_all [] MovesOne (λ e. leaves_all) (λ e. asks_none)
 
   of_devices : (device : Dev) → Keeps (done w (device_step_of w device))
   of_devices device = of_device w Keeps (record {

@@ -1,16 +1,16 @@
 -- That only such processes have turns as may have one, and that a turn of any other would do nothing.
+use Rattle.std.proofs.lemmas.List.Elements.{All-weaker}
 use Rattle.std.proofs.Common.{◌≡◌, ◌⊎◌, inl, inr, ◌<◌, ◌&&◌, Bool, true, false, cond, not, List, [], ◌∷◌, length}
-use Rattle.std.proofs.Common.{Option, None, Some, is_some, slice_get, refl, sym, subst, ◌∙◌, arith}
-use Rattle.std.specs.Prelude.{All, IsSomeAnd}
+use Rattle.std.proofs.Common.{Option, None, Some, is_some, slice_get, refl, sym, ◌∙◌, arith}
+use Rattle.std.specs.Prelude.{IsSomeAnd}
 use Rattle.std.proofs.lemmas.Bool.{false≢true}
-use Rattle.std.proofs.lemmas.List.Elements.{All-nil, All-cons, All-head, All-tail}
 use Rattle.upcall_queue.specs.declared.inbox.Delivery.{Delivery}
 use Rattle.tk_base.specs.declared.upcall.Upcall.{Upcall as Scheduled}
 use Rattle.tk_base.specs.declared.upcall.Wait.{Wait}
 use Rattle.tk_base.specs.declared.upcall.Wait.TheVariants.{No, For, Given}
 use Rattle.upcall_queue.specs.Pending.{due, due_by}
 use Rattle.process_record.specs.declared.process.State.{State}
-use Rattle.process_record.specs.declared.process.State.TheVariants.{Running, Yielded, Faulted, Terminated}
+use Rattle.process_record.specs.declared.process.State.TheVariants.{Running, Yielded}
 use Rattle.kernel_model.specs.Record.{Record}
 use Rattle.kernel_model.specs.Parts.{delivery}
 use Rattle.kernel_model.specs.Turn.{has_turn, idle, is_turn, may_turn, turn_in, turned}
@@ -23,7 +23,7 @@ use Rattle.kernel_laws.specs.Ready.{UnreadyTurnsDoNothing}
 pub turns_are_of_ready_processes : TurnsAreOfReadyProcesses
 turns_are_of_ready_processes w =
     of_labels (λ s. IsOfReady w) w
-    (λ slot r is may turn. subst (λ (o : Option Record). IsSomeAnd o (λ r. may_turn r ≡ true)) (sym is) may)
+    (λ slot r is may turn. rw is may)
     (λ deed slot r a is told no_turn turn. absurd (false≢true (sym no_turn ∙ turn)))
 
 pub unready_turns_do_nothing : UnreadyTurnsDoNothing
@@ -37,8 +37,7 @@ unready_turns_do_nothing settings time r = by_held r.process.held
     by_state : (state : State) → has_turn state (due r.own.inbox) ≡ false → turn_in settings time state r ≡ idle r
     by_state Running e = absurd (false≢true (sym e))
     by_state Yielded e = by_due (due r.own.inbox) e
-    by_state Faulted e = refl
-    by_state (Terminated code) e = refl
+    by_state state e = refl
 
     by_held : (held : Bool) → (not held && has_turn r.process.state (due r.own.inbox)) ≡ false
         → cond held (idle r) (turn_in settings time r.process.state r) ≡ idle r
@@ -47,7 +46,10 @@ unready_turns_do_nothing settings time r = by_held r.process.held
 
 -- one that may have a turn, written out
 may_have : (r : Record) → may_turn r ≡ true → MayHaveTurn r
-may_have r may = record { free = free_where_may r may; state = by_held r.process.held may }
+may_have r may = record {
+  free = free_where_may r may;
+  state = by_state r.process.state refl (rw (free_where_may r may) at may);
+}
   where
     by_pending : (pending : List Scheduled) → is_some (due_by No pending) ≡ true → 0 < length pending
     by_pending [] e = absurd (false≢true e)
@@ -63,13 +65,7 @@ may_have r may = record { free = free_where_may r may; state = by_held r.process
         → (r.process.state ≡ Running) ⊎ ((r.process.state ≡ Yielded) × HasDue r.own.inbox)
     by_state Running is e = inl is
     by_state Yielded is e = inr (is, by_wait r.own.inbox.wait refl e)
-    by_state Faulted is e = absurd (false≢true e)
-    by_state (Terminated code) is e = absurd (false≢true e)
-
-    by_held : (held : Bool) → (not held && has_turn r.process.state (due r.own.inbox)) ≡ true
-        → (r.process.state ≡ Running) ⊎ ((r.process.state ≡ Yielded) × HasDue r.own.inbox)
-    by_held true e = absurd (false≢true e)
-    by_held false e = by_state r.process.state refl e
+    by_state state is e = absurd (false≢true e)
 
 module _ (w : World) where
   abbrev IsOfThose : Label → Type 0
@@ -79,12 +75,8 @@ module _ (w : World) where
   by_there None may = absurd may
   by_there (Some r) may = may_have r may
 
-  each_of_those : (ls : List Label) → All (IsOfReady w) ls → All IsOfThose ls
-  each_of_those [] each = All-nil IsOfThose
-  each_of_those (label ∷ ls) each =
-      All-cons IsOfThose label ls
-      (λ turn. by_there (slice_get w.records label.slot) (All-head (IsOfReady w) label ls each turn))
-      (each_of_those ls (All-tail (IsOfReady w) label ls each))
-
 pub turns_are_of_those : TurnsAreOfThose
-turns_are_of_those w choice = each_of_those w (labels w choice) (turns_are_of_ready_processes w choice)
+turns_are_of_those w choice =
+    All-weaker (IsOfReady w) (IsOfThose w)
+    (λ label ready turn. by_there w (slice_get w.records label.slot) (ready turn)) (labels w choice)
+    (turns_are_of_ready_processes w choice)

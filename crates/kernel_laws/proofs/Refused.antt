@@ -1,5 +1,5 @@
 -- What a refused call leaves of its process and of the world, by the end of its instruction.
-use Rattle.std.proofs.Common.{◌≡◌, ℕ, List, [], Option, None, Some, slice_get, slice_set, ap, ap₂}
+use Rattle.std.proofs.Common.{◌≡◌, ℕ, List, [], Some, slice_get, slice_set, ap, ap₂}
 use Rattle.tk_base.specs.declared.call.CallRule.{CallRule}
 use Rattle.rv32_model.specs.Laws.{CallsAreOfEcall}
 use Rattle.driver_model.specs.Commands.{BoardRequest}
@@ -15,9 +15,6 @@ use Rattle.kernel_model.specs.Parts.{refusal_in}
 use Rattle.kernel_model.proofs.Labels.{of_labels}
 use Rattle.kernel_laws.proofs.Between.{of_turn}
 
-no_rule : (rule : CallRule) → ◌≡◌ {A = Option CallRule} None (Some rule) → ⊥
-no_rule rule e = cc
-
 module _ (law : RefusedChangesNothingElse) (of_ecall : CallsAreOfEcall) (settings : Settings) (time : ℕ) where
   -- what a turn leaves whose call was refused
   abbrev Refuses : Record → Turned → Type 0
@@ -26,13 +23,13 @@ module _ (law : RefusedChangesNothingElse) (of_ecall : CallsAreOfEcall) (setting
   refuses : (r : Record) → Refuses r (turned settings time r)
   refuses r =
       of_turn of_ecall settings time r (Refuses r) (record {
-        nothing = λ rule e. absurd (no_rule rule e);
-        went = λ t is rule e. absurd (no_rule rule e);
-        faults = λ t denial is rule e. absurd (no_rule rule e);
+        nothing = λ rule e. absurd (cc);
+        went = λ t is rule e. absurd (cc);
+        faults = λ t denial is rule e. absurd (cc);
         makes = λ accesses form is runs rule e.
             let same = law settings.strict (surroundings settings time (turn_counted r)) (turn_counted r) form rule e in
             ((form, is, ap (λ (s : Served). s.after) same), ap (λ (s : Served). s.acts) same);
-        delivers = λ next is yielded rule e. absurd (no_rule rule e);
+        delivers = λ next is yielded rule e. absurd (cc);
       })
 
 module _ (law : RefusedChangesNothingElse) (of_ecall : CallsAreOfEcall) (w : World) where

@@ -1,46 +1,31 @@
 -- Registers once words were put into them: those have the words, and no other one changed.
-use Rattle.std.proofs.Common.{◌≡◌, ◌≢◌, ◌⊎◌, inl, inr, ◌<◌, ◌≤◌, ℕ, ◌+◌, ◌==◌, Bool, true, false, cond, List, [], ◌∷◌}
-use Rattle.std.proofs.Common.{length, slice_index, slice_set, refl, ap, ◌∙◌, arith, eqb-true}
+use Rattle.std.proofs.lemmas.Bool.{cond_both, ne_eqb}
+use Rattle.std.proofs.Common.{◌≡◌, ◌≢◌, ◌⊎◌, inl, inr, ◌<◌, ◌≤◌, ℕ, ◌+◌, ◌==◌, false, List, [], ◌∷◌}
+use Rattle.std.proofs.Common.{length, slice_set, refl, ap, ◌∙◌, arith}
 use Rattle.std.proofs.lemmas.List.{get_or-set_other, get_or-set_same, length-set, set-get_or}
 use Rattle.tk_base.specs.Regs.{Registers, register, with_register}
 use Rattle.syscall_abi.specs.Reply.{with_words}
 
 -- a number above 0 is not 0
 not_zero : (n : ℕ) → 1 ≤ n → (n == 0) ≡ false
-not_zero n some = by_test (n == 0) refl
-  where
-    by_test : (b : Bool) → (n == 0) ≡ b → (n == 0) ≡ false
-    by_test true e = let none : n ≡ 0 = eqb-true n 0 e in absurd (omega (arith, none, some))
-    by_test false e = e
+not_zero n some = ne_eqb n 0 (λ e. omega (arith, e, some))
 
 -- a register that is set has the value, where it is there
 pub register_there : (regs : Registers) (n value : ℕ) → 1 ≤ n → n < length regs.x
     → register (with_register regs n value) n ≡ value
-register_there regs n value some within = by_zero (n == 0) (not_zero n some)
-  where
-    by_zero : (b : Bool) → b ≡ false
-        → cond b 0 (slice_index (cond b regs (record regs { x = slice_set regs.x n value })).x n) ≡ value
-    by_zero true e = absurd (cc)
-    by_zero false e = get_or-set_same regs.x n value 0 within
+register_there regs n value some within = rw (not_zero n some) (get_or-set_same regs.x n value 0 within)
 
 -- each other one is as it was
 pub register_beside : (regs : Registers) (n m value : ℕ) → m ≢ n
     → register (with_register regs n value) m ≡ register regs m
-register_beside regs n m value apart = by_zero (n == 0) (m == 0)
-  where
-    by_zero : (none here : Bool)
-        → cond here 0 (slice_index (cond none regs (record regs { x = slice_set regs.x n value })).x m)
-        ≡ cond here 0 (slice_index regs.x m)
-    by_zero none true = refl
-    by_zero true false = refl
-    by_zero false false = get_or-set_other regs.x n m value 0 apart
+register_beside regs n m value apart =
+    cond_both (n == 0) regs (record regs { x = slice_set regs.x n value })
+    (λ after. register after m ≡ register regs m) (λ e. refl) (λ e. rw (get_or-set_other regs.x n m value 0 apart))
 
 pub pc_stays : (regs : Registers) (n value : ℕ) → (with_register regs n value).pc ≡ regs.pc
-pc_stays regs n value = by_zero (n == 0)
-  where
-    by_zero : (b : Bool) → (cond b regs (record regs { x = slice_set regs.x n value })).pc ≡ regs.pc
-    by_zero true = refl
-    by_zero false = refl
+pc_stays regs n value =
+    cond_both (n == 0) regs (record regs { x = slice_set regs.x n value }) (λ after. after.pc ≡ regs.pc) (λ e. refl)
+    (λ e. refl)
 
 pub words_pc : (n : ℕ) (words : List ℕ) (regs : Registers) → (with_words n words regs).pc ≡ regs.pc
 words_pc n [] regs = refl
@@ -58,20 +43,14 @@ words_beside n (word ∷ words) regs m (inr past) =
 
 -- a register that is set to what it has is as it was
 pub register_again : (regs : Registers) (n : ℕ) → 1 ≤ n → with_register regs n (register regs n) ≡ regs
-register_again regs n some = by_zero (n == 0) (not_zero n some)
-  where
-    by_zero : (b : Bool) → b ≡ false
-        → cond b regs (record regs { x = slice_set regs.x n (cond b 0 (slice_index regs.x n)) }) ≡ regs
-    by_zero true e = absurd (cc)
-    by_zero false e = ap (λ (x : List ℕ). record regs { x = x }) (set-get_or regs.x n 0)
+register_again regs n some =
+    rw (not_zero n some) (ap (λ (x : List ℕ). record regs { x = x }) (set-get_or regs.x n 0))
 
 -- there are as many
 pub as_many : (regs : Registers) (n value : ℕ) → length (with_register regs n value).x ≡ length regs.x
-as_many regs n value = by_zero (n == 0)
-  where
-    by_zero : (b : Bool) → length (cond b regs (record regs { x = slice_set regs.x n value })).x ≡ length regs.x
-    by_zero true = refl
-    by_zero false = length-set regs.x n value
+as_many regs n value =
+    cond_both (n == 0) regs (record regs { x = slice_set regs.x n value }) (λ after. length after.x ≡ length regs.x)
+    (λ e. refl) (λ e. length-set regs.x n value)
 
 pub words_many : (n : ℕ) (words : List ℕ) (regs : Registers) → length (with_words n words regs).x ≡ length regs.x
 words_many n [] regs = refl

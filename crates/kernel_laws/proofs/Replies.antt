@@ -1,19 +1,19 @@
 -- What a call gets stands in the registers of its process, and a refused one changes nothing else of it. By the walk
 -- over calls each form puts one reply into the registers, or has none (`Gets`); its words stand at their places, and
 -- all other registers are as before. That an ECALL tells a call goes by the instruction at pc.
-use Rattle.std.proofs.Common.{◌≡◌, ◌≢◌, ◌⊎◌, inl, inr, ◌<◌, ◌≤◌, ℕ, zero, suc, ◌+◌, ◌%◌, ◌^◌, ◌==◌, Bool, true, false}
+use Rattle.std.proofs.lemmas.List.Elements.{All-weaker}
+use Rattle.kernel_model.proofs.Calling.{of_commanded}
+use Rattle.std.proofs.Common.{◌≡◌, ◌≢◌, ◌⊎◌, inl, inr, ◌<◌, ◌≤◌, ℕ, suc, ◌+◌, ◌%◌, ◌^◌, ◌==◌, Bool, true, false}
 use Rattle.std.proofs.Common.{cond, find, List, [], ◌∷◌, length, Option, None, Some, is_some, option_map}
-use Rattle.std.proofs.Common.{Result, Ok, Err}
+use Rattle.std.proofs.Common.{Result}
 use Rattle.std.proofs.Common.{IfSome, refl, sym, ap, subst, ◌∙◌, arith}
-use Rattle.std.specs.Prelude.{All}
 use Rattle.std.proofs.lemmas.Bool.{false≢true}
-use Rattle.std.proofs.lemmas.List.Elements.{All-nil, All-cons, All-head, All-tail}
 use Rattle.tk_base.specs.Call.{code_of, error_of}
 use Rattle.tk_base.specs.Regs.{Registers, register, with_register}
 use Rattle.tk_base.specs.declared.access.Denial.{Denial}
 use Rattle.tk_base.specs.declared.call.CallRule.{CallRule}
 use Rattle.tk_base.specs.declared.kinds.PairKind.{PairKind}
-use Rattle.tk_base.specs.declared.kinds.PairKind.TheVariants.{Upcall, ReadOnly, ReadWrite, Readable}
+use Rattle.tk_base.specs.declared.kinds.PairKind.TheVariants.{Upcall}
 use Rattle.rv32_model.specs.Laws.{CallsAreOfEcall, Denies, IsInstrAt}
 use Rattle.rv32_model.specs.UserTurn.{MemoryAccess, executed, on_word, user_turn}
 use Rattle.rv32_model.specs.declared.instr.Instr.{Instr}
@@ -37,7 +37,7 @@ use Rattle.process_model.specs.Permission.{denied}
 use Rattle.process_record.specs.declared.process.State.{State}
 use Rattle.kernel_model.specs.Record.{Record, byte_at, instruction, with_effect}
 use Rattle.kernel_model.specs.declared.settings.Settings.{Settings}
-use Rattle.kernel_model.specs.Calls.{Served, driver_answered, failure_of, refused_with, served}
+use Rattle.kernel_model.specs.Calls.{Served, failure_of, refused_with, served}
 use Rattle.kernel_model.specs.Histories.{class_of}
 use Rattle.kernel_model.specs.Parts.{calls}
 use Rattle.kernel_model.specs.Turn.{Turned, arguments, at_turn_end, made, reply_shown, surroundings}
@@ -64,16 +64,8 @@ replied_regs p reply =
     ap (λ (pc : ℕ). record (put_reply reply p.regs) { pc = (pc + 4) % 2 ^ 32 }) (words_pc 10 (reply_words reply) p.regs)
 
 few_words : (reply : Reply) → length (reply_words reply) ≤ 4
-few_words (replies.Failure error) = omega arith
-few_words (replies.FailureU32 error first) = omega arith
-few_words (replies.FailureU32U32 error first second) = omega arith
-few_words (replies.FailureU64 error value) = omega arith
 few_words replies.Success = omega arith
-few_words (replies.SuccessU32 first) = omega arith
-few_words (replies.SuccessU32U32 first second) = omega arith
-few_words (replies.SuccessU64 value) = omega arith
-few_words (replies.SuccessU32U32U32 first second third) = omega arith
-few_words (replies.SuccessU32U64 first value) = omega arith
+few_words reply = omega arith
 
 -- what a call leaves in the registers that is replied to; and which calls have no reply
 module _ (r : Record) (form : CallForm) (is : call_of r.process.regs ≡ Some form) where
@@ -85,15 +77,12 @@ module _ (r : Record) (form : CallForm) (is : call_of r.process.regs ≡ Some fo
         → s.after.process.regs ≡ past reply r.process.regs
     silent : reply_shown r.process.regs s.outcome ≡ None → HasNone
 
-  same_reply : (a b : Reply) (p q : Option CallRule) → Replied a p ≡ Replied b q → a ≡ b
-  same_reply a b p q e = cc
-
   gets_reply : (s : Record) (acts : List BoardRequest) (reply : Reply) (rule : Option CallRule)
       → s.process.regs ≡ past reply r.process.regs
       → Gets (record { after = s; outcome = Replied reply rule; acts = acts })
   gets_reply s acts reply rule stands = record {
     reply = λ other q e.
-        stands ∙ ap (λ (x : Reply). past x r.process.regs) (same_reply reply other rule q e);
+        let same : reply ≡ other = cc in stands ∙ ap (λ (x : Reply). past x r.process.regs) same;
     silent = λ e. absurd (cc);
   }
 
@@ -102,15 +91,6 @@ module _ (r : Record) (form : CallForm) (is : call_of r.process.regs ≡ Some fo
       → Gets (record { after = s; outcome = outcome; acts = acts })
   gets_none s acts outcome apart has =
       record { reply = λ reply rule e. absurd (apart reply rule e); silent = λ e. has }
-
-  by_answer : (s : Record) (acts : List BoardRequest) (answer : Result Reply CallRule)
-      → s.process ≡ r.process → Gets (record (driver_answered s answer) { acts = acts })
-  by_answer s acts (Ok reply) same =
-      gets_reply _ acts reply None (replied_regs s.process reply ∙ ap (λ (p : Process). past reply p.regs) same)
-  by_answer s acts (Err rule) same =
-      gets_reply _ acts (Failure (error_of rule)) (Some rule)
-      (replied_regs s.process (Failure (error_of rule))
-      ∙ ap (λ (p : Process). past (Failure (error_of rule)) p.regs) same)
 
   gets : (settings : Settings) (time : ℕ) → Gets (served settings.strict (surroundings settings time r) r form)
   gets settings time =
@@ -123,7 +103,11 @@ module _ (r : Record) (form : CallForm) (is : call_of r.process.regs ≡ Some fo
         yields = λ number x y same.
             gets_none _ _ _ (kept_by_yield r number x y).silent.reply
             (inl (made_as r.process.regs (forms.Yield number x y) (is ∙ ap (λ (f : CallForm). Some f) same)).0);
-        commands = λ driver number x y taker same there. by_answer _ _ _ refl;
+        commands = λ driver number x y taker same there.
+            of_commanded Gets r (taker (surroundings settings time r) number x y r.own)
+            (λ reply answers. gets_reply _ _ reply None (replied_regs r.process reply))
+            (λ rule answers. gets_reply _ _ (Failure (error_of rule)) (Some rule)
+            (replied_regs r.process (Failure (error_of rule))));
         ends = λ kind code same.
             gets_none _ _ outcomes.Ended (λ reply rule e. cc)
             (inr (made_as r.process.regs (forms.Exit kind code) (is ∙ ap (λ (f : CallForm). Some f) same)));
@@ -147,20 +131,16 @@ reply_stands r s reply a b c d is shows =
       third = ap (λ (regs : Registers). register regs 12) is ∙ words.2;
       fourth = ap (λ (regs : Registers). register regs 13) is ∙ words.3;
       pc = ap (λ (regs : Registers). regs.pc) is;
-      others = λ n out. ap (λ (regs : Registers). register regs n) is ∙ beside n out;
+      others = λ n out.
+          ap (λ (regs : Registers). register regs n) is
+          ∙ words_beside 10 (reply_words reply) r.process.regs n (elim out [
+            | inl below ↦ inl below
+            | inr past ↦ let few = few_words reply in inr (omega (arith, past, few))
+          ]);
     }
-  where
-    beside : (n : ℕ) → (n < 10) ⊎ (13 < n) → register (past reply r.process.regs) n ≡ register r.process.regs n
-    beside n (inl below) = words_beside 10 (reply_words reply) r.process.regs n (inl below)
-    beside n (inr past_all) =
-        words_beside 10 (reply_words reply) r.process.regs n (inr (let few = few_words reply in omega (
-          arith,
-          past_all,
-          few,
-        )))
 
-call_seen : (r : Record) (form : CallForm) (is : call_of r.process.regs ≡ Some form) (s : Served) → Gets r form is s
-    → CallIsSeen r s.after (made r.process.regs s.outcome)
+call_seen : (r : Record) (form : CallForm) (is : call_of r.process.regs ≡ Some form) (s : Served)
+    → Gets (turn_counted r) form is s → CallIsSeen r s.after (made r.process.regs s.outcome)
 call_seen r form is s gets = record {
   class = refl;
   args = refl;
@@ -171,23 +151,13 @@ call_seen r form is s gets = record {
   where
     four_words : (outcome : Outcome) → IfSome (reply_shown r.process.regs outcome) (λ words. length words ≡ 4)
     four_words (Replied reply rule) = refl
-    four_words outcomes.ToDriver = tt
-    four_words outcomes.Waits = tt
-    four_words outcomes.Delivered = tt
-    four_words outcomes.GoesOn = tt
-    four_words outcomes.Ended = tt
-    four_words outcomes.Again = tt
+    four_words outcome = tt
 
     by_outcome : (a b c d : ℕ) (outcome : Outcome) → s.outcome ≡ outcome
         → reply_shown r.process.regs outcome ≡ Some (a ∷ b ∷ c ∷ d ∷ []) → ReplyStands r s.after a b c d
     by_outcome a b c d (Replied reply rule) same shows =
         reply_stands r s.after reply a b c d (gets.reply reply rule same) shows
-    by_outcome a b c d outcomes.ToDriver same shows = absurd (cc)
-    by_outcome a b c d outcomes.Waits same shows = absurd (cc)
-    by_outcome a b c d outcomes.Delivered same shows = absurd (cc)
-    by_outcome a b c d outcomes.GoesOn same shows = absurd (cc)
-    by_outcome a b c d outcomes.Ended same shows = absurd (cc)
-    by_outcome a b c d outcomes.Again same shows = absurd (cc)
+    by_outcome a b c d outcome same shows = absurd (cc)
 
 pub replies_stand : CallsAreOfEcall → RepliesStand
 replies_stand of_ecall =
@@ -197,21 +167,7 @@ replies_stand of_ecall =
       went = λ t is. tt;
       faults = λ t denial is. tt;
       makes = λ accesses form is runs.
-          let s = call_seen (turn_counted r) form is _ (gets (turn_counted r) form is settings time) in
-          record {
-            class = s.class;
-            args = s.args;
-            reply = λ a b c d shows. let stands = s.reply a b c d shows in record {
-              first = stands.first;
-              second = stands.second;
-              third = stands.third;
-              fourth = stands.fourth;
-              pc = stands.pc;
-              others = stands.others;
-            };
-            whole = s.whole;
-            silent = s.silent;
-          };
+          call_seen r form is _ (gets (turn_counted r) form is settings time);
       delivers = λ next is yielded. tt;
     }))
 
@@ -219,15 +175,8 @@ replies_stand of_ecall =
 some_call : (regs : Registers) (n : ℕ) → n ≤ 7
     → is_some (option_map (λ row. row.1) (find (λ row. row.0 == n) (class_table regs))) ≡ true
 unfolding class_table
-some_call regs zero few = refl
-some_call regs (suc zero) few = refl
-some_call regs (suc (suc zero)) few = refl
-some_call regs (suc (suc (suc zero))) few = refl
-some_call regs (suc (suc (suc (suc zero)))) few = refl
-some_call regs (suc (suc (suc (suc (suc zero))))) few = refl
-some_call regs (suc (suc (suc (suc (suc (suc zero)))))) few = refl
-some_call regs (suc (suc (suc (suc (suc (suc (suc zero))))))) few = refl
 some_call regs (suc (suc (suc (suc (suc (suc (suc (suc n)))))))) few = absurd (omega (arith, few))
+some_call regs n few = refl
 
 known_call : (regs : Registers) → class regs ≤ 7 → is_some (call_of regs) ≡ true
 unfolding call_of
@@ -263,9 +212,6 @@ ecalls_are_told of_ecall = of_each_turn (λ r s told. TellsItsCall r told) (tell
 
 -- The registers of a refused call.
 module _ (regs : Registers) (many : length regs.x ≡ 32) (rule : CallRule) where
-  code : ℕ
-  code = code_of (error_of rule)
-
   record Refuses (after : Registers) : Type 0 where
     variant : register after 10 ≡ cond (is_swap_class (class regs)) 2 0
     error : register after 11 ≡ code_of (error_of rule)
@@ -304,12 +250,7 @@ module _ (regs : Registers) (many : length regs.x ≡ 32) (rule : CallRule) wher
 
   swap_class : (kind : PairKind) → is_swap_class (class_of kind) ≡ true
   swap_class Upcall = refl
-  swap_class ReadOnly = refl
-  swap_class ReadWrite = refl
-  swap_class Readable = refl
-
-  IsRefusedBy : CallForm → Type 0
-  IsRefusedBy form = Refuses (put_reply (failure_of form rule) regs)
+  swap_class kind = refl
 
   carried : (form other : CallForm) → Some form ≡ Some other → Refuses (put_reply (failure_of form rule) regs)
       → Refuses (put_reply (failure_of other rule) regs)
@@ -355,11 +296,7 @@ seen w v label leaves rule e =
       world = l.world;
     }
 
-all_seen : (w v : World) (ls : List Label) → All (IfRefused w v) ls → All (IfRefusedSeen w v) ls
-all_seen w v [] each = All-nil (IfRefusedSeen w v)
-all_seen w v (label ∷ ls) each =
-    All-cons (IfRefusedSeen w v) label ls (seen w v label (All-head (IfRefused w v) label ls each))
-    (all_seen w v ls (All-tail (IfRefused w v) label ls each))
-
 pub refusals_are_seen : RefusalsChangeLittle → RefusalsAreSeen
-refusals_are_seen law w choice = all_seen w (after w choice) (labels w choice) (law w choice)
+refusals_are_seen law w choice =
+    All-weaker (IfRefused w (after w choice)) (IfRefusedSeen w (after w choice)) (seen w (after w choice))
+    (labels w choice) (law w choice)

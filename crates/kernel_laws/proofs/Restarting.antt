@@ -8,7 +8,7 @@ use Rattle.kernel_model.specs.Calls.{exit, restart}
 use Rattle.kernel_model.specs.Laws.{CanStartAgain}
 use Rattle.kernel_model.specs.Turn.{Event, apply, is_turn, turn_counted, turned}
 use Rattle.kernel_model.proofs.Restarts.{restarts}
-use Rattle.kernel_laws.specs.Restarting.{EndsByExit, ExitsEnd, HasEnded, HasStartedAgain, RestartsAreMade}
+use Rattle.kernel_laws.specs.Restarting.{EndsByExit, ExitsEnd, HasStartedAgain, RestartsAreMade}
 use Rattle.kernel_laws.specs.Restarting.{StartsAgainByAct, StartsAgainByExit}
 use Rattle.kernel_laws.proofs.Accepted.{HasCome, accepted_exit, at_call, exits}
 use Rattle.kernel_laws.proofs.Between.{of_each_answer, of_each_turn}
@@ -40,8 +40,7 @@ pub restarts_are_made : CallsAreOfEcall → RestartsAreMade
 unfolding exit
 restarts_are_made of_ecall = record {
   exits = of_each_turn StartsAgainByExit (λ settings time r call told exit_to can.
-      subst (HasStartedAgain r) (sym (exited of_ecall settings time r call 1 told exit_to.class exit_to.kind
-      exit_to.accepted))
+      rw (exited of_ecall settings time r call 1 told exit_to.class exit_to.kind exit_to.accepted)
       (counted_started r (restart (turn_counted r)) (started (turn_counted r) can)));
   acts = of_each_answer StartsAgainByAct starts_by_act;
 }
@@ -50,6 +49,5 @@ pub exits_end : CallsAreOfEcall → ExitsEnd
 unfolding exit
 exits_end of_ecall =
     of_each_turn EndsByExit (λ settings time r call told exit_to.
-    subst (HasEnded (slice_index call.args 1)) (sym (exited of_ecall settings time r call 0 told exit_to.class
-    exit_to.kind exit_to.accepted))
+    rw (exited of_ecall settings time r call 0 told exit_to.class exit_to.kind exit_to.accepted)
     (record { state = refl; lives = refl; held = refl; pending = refl }))

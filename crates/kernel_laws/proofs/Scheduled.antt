@@ -1,11 +1,17 @@
 -- What a turn of a process, and an answer to it, leaves of what was scheduled for it, and what it schedules: what
 -- remains is what was scheduled, less what the turn takes or drops (`IsRemainder`), and then comes one value, which the
 -- call or the event tells. By the walk over calls and ends; each answer leaves the inbox until it schedules.
-use Rattle.std.proofs.Common.{◌≡◌, ℕ, suc, ◌+◌, ◌-◌, ◌==◌, ◌&&◌, nat_le, not, Bool, true, false, cond, List, [], ◌∷◌}
+use Rattle.std.proofs.Common.{inl, inr}
+use Rattle.driver_model.specs.Random.{Progress}
+use Rattle.std.proofs.lemmas.Bool.{cases_Bool, cond_both}
+use Rattle.kernel_laws.proofs.Asking.{of_request}
+use Rattle.driver_model.specs.Commands.{Reads, Randoms, Stores, Writes}
+use Rattle.driver_model.specs.Requests.{RequestAnswered}
+use Rattle.std.proofs.Common.{◌≡◌, ℕ, suc, ◌+◌, ◌-◌, ◌==◌, ◌&&◌, nat_le, not, Bool, true, false, List, [], ◌∷◌}
 use Rattle.std.proofs.Common.{drop, filter}
-use Rattle.std.proofs.Common.{length, Option, None, Some, Result, Ok, Err, refl, sym, ap, ap₂, subst, ◌∙◌}
-use Rattle.std.proofs.Common.{IfSome, arith, eqb-true, unwrap_or}
-use Rattle.std.specs.Prelude.{is_none, option_and_then, remove}
+use Rattle.std.proofs.Common.{length, Option, None, Some, Result, Ok, Err, refl, sym, ap, ◌∙◌}
+use Rattle.std.proofs.Common.{IfSome, arith, eqb-true}
+use Rattle.std.specs.Prelude.{option_and_then, remove}
 use Rattle.std.specs.List.{position_or_len}
 use Rattle.std.specs.Option.{option_map, option_map_or}
 use Rattle.std.proofs.lemmas.Bool.{and_parts}
@@ -14,12 +20,10 @@ use Rattle.tk_base.specs.declared.access.Denial.{Denial}
 use Rattle.tk_base.specs.declared.call.CallRule.{CallRule}
 use Rattle.tk_base.specs.declared.call.CallRule.TheVariants.{NoDriver, Permission}
 use Rattle.tk_base.specs.declared.kinds.PairKind.{PairKind}
-use Rattle.tk_base.specs.declared.kinds.PairKind.TheVariants.{Upcall, ReadOnly, ReadWrite, Readable}
-use Rattle.tk_base.specs.Bits.{bit_of}
+use Rattle.tk_base.specs.declared.kinds.PairKind.TheVariants.{Upcall}
 use Rattle.tk_base.specs.Kinds.{is_buffer}
 use Rattle.tk_base.specs.declared.upcall.Upcall.{Upcall as Scheduled}
-use Rattle.tk_base.specs.declared.upcall.Wait.{Wait}
-use Rattle.tk_base.specs.declared.upcall.Wait.TheVariants.{For, Given, No}
+use Rattle.tk_base.specs.declared.upcall.Wait.TheVariants.{Given}
 use Rattle.tk_base.specs.Regs.{Registers}
 use Rattle.tk_base.specs.declared.process.Verb.{Verb}
 use Rattle.rv32_model.specs.Laws.{CallsAreOfEcall}
@@ -34,28 +38,22 @@ use Rattle.upcall_queue.specs.declared.inbox.Delivery.TheVariants.{Function, Arg
 use Rattle.upcall_queue.specs.declared.inbox.Inbox.{Inbox}
 use Rattle.upcall_queue.specs.Pending.{cleared, is_of, left_by, place_of, scheduled, taken_at, without_key}
 use Rattle.grant_values.specs.declared.alarm.Armed.{Armed}
-use Rattle.grant_values.specs.declared.console.WaitingRead.{WaitingRead}
-use Rattle.grant_values.specs.declared.console.WaitingWrite.{WaitingWrite}
 use Rattle.grant_values.specs.declared.random.RandomRequest.{RandomRequest}
-use Rattle.grant_values.specs.declared.storage.StorageKind.{StorageKind}
 use Rattle.grant_values.specs.declared.storage.StorageKind.TheVariants.{Read, Write}
 use Rattle.grant_values.specs.declared.storage.StorageRequest.{StorageRequest}
 use Rattle.process_model.specs.Own.{Own}
 use Rattle.process_model.specs.Flag.{with_flag}
 use Rattle.process_model.specs.Served.{ScheduledUpcall, own_scheduling, upcall_of}
 use Rattle.driver_model.specs.Alarm.{answered as alarm_answered, due_alarm}
-use Rattle.driver_model.specs.Parts.{fired_if, with_word}
+use Rattle.driver_model.specs.Parts.{fired_if}
 use Rattle.driver_model.specs.Buttons.{buttons, edged, is_told}
 use Rattle.driver_model.specs.Commands.{Commanded}
-use Rattle.driver_model.specs.Console.{console_reads, console_writes, reading_in, taking, write_completing}
 use Rattle.driver_model.specs.Drivers.{CommandContext, CommandHandler, handler_of}
 use Rattle.driver_model.specs.Laws.{RefusedByAnyDriver}
-use Rattle.driver_model.specs.Random.{advanced, answered as random_answered, completing, drawing, progress, randoms}
+use Rattle.driver_model.specs.Random.{answered as random_answered, drawing, progress}
 use Rattle.driver_model.specs.Random.{wanted}
-use Rattle.driver_model.specs.Requests.{unanswered, waiting_in}
-use Rattle.driver_model.specs.Steps.{DriverStep, own_after, scheduling, silently}
-use Rattle.driver_model.specs.Storage.{answered as storage_answered, moving, finished, storage_served}
-use Rattle.driver_model.specs.Storage.{storages}
+use Rattle.driver_model.specs.Steps.{DriverStep, own_after, silently}
+use Rattle.driver_model.specs.Storage.{answered as storage_answered, moving, storage_served}
 use Rattle.driver_model.specs.Upcalls.{scheduled_if}
 use Rattle.process_record.specs.Parts.{after_fault}
 use Rattle.kernel_model.specs.Record.{Record, record_with_step, with_effect}
@@ -63,14 +61,14 @@ use Rattle.kernel_model.specs.Parts.{with_process}
 use Rattle.kernel_model.specs.declared.settings.Settings.{Settings}
 use Rattle.kernel_model.specs.Calls.{Served, by_form, driver_answered, exit, failure_of, memop}
 use Rattle.kernel_model.specs.Parts.{object_permits}
-use Rattle.kernel_model.specs.Calls.{refused, refused_with, replied, restart, served}
+use Rattle.kernel_model.specs.Calls.{refused, refused_with, restart, served}
 use Rattle.kernel_model.specs.Calls.{swap_by, swap_refusal}
 use Rattle.kernel_model.specs.Calls.{taken_by, yielding}
 use Rattle.kernel_model.specs.Parts.{swapped}
 use Rattle.kernel_model.specs.Edges.{IsThenScheduled}
 use Rattle.kernel_model.specs.Named.{is_of_edge}
 use Rattle.kernel_model.specs.Histories.{class_of}
-use Rattle.kernel_model.specs.Turn.{Event, Turn, Alarmed, Edge, Taken, WriteDone, Input, Word, NoWord, Stored, Turned}
+use Rattle.kernel_model.specs.Turn.{Event, Turn, Alarmed, Edge, Input, Word, NoWord, Stored, Turned}
 use Rattle.kernel_model.specs.Turn.{apply, faulted, made, rule_shown}
 use Rattle.kernel_model.specs.Parts.{calls}
 use Rattle.kernel_model.specs.Turn.{Act, operated, surroundings}
@@ -78,7 +76,7 @@ use Rattle.kernel_model.specs.Turn.{turn_counted, turned}
 use Rattle.kernel_model.proofs.Classes.{command_in, exit_in, memop_in, of_registers, swap_in, yield_in}
 use Rattle.kernel_model.proofs.Memops.{by_test, memop_gives}
 use Rattle.kernel_model.proofs.Steps.{IsAnswer, of_operated}
-use Rattle.kernel_laws.specs.Scheduled.{answer_step, call_schedules, command_schedules, scheduled_by}
+use Rattle.kernel_laws.specs.Scheduled.{answer_step, call_schedules, scheduled_by}
 use Rattle.kernel_laws.specs.Scheduled.{turn_schedules, upcall_told}
 use Rattle.kernel_model.proofs.Commands.{command_leaves}
 use Rattle.kernel_model.proofs.Restarts.{restart_by}
@@ -96,69 +94,53 @@ later_removed x xs n = let one_more : 1 + n ≡ suc n = omega arith in ap (remov
 module _ {X : Type 0} (q : X → Bool) where
   first_gone : (xs : List X) → filter q (remove xs (position_or_len q xs)) ≡ drop 1 (filter q xs)
   first_gone [] = refl
-  first_gone (x ∷ xs) = by_test_of (q x) refl (first_gone xs)
-    where
-      by_test_of : (b : Bool) → q x ≡ b → filter q (remove xs (position_or_len q xs)) ≡ drop 1 (filter q xs)
-          → filter q (remove (x ∷ xs) (cond (not b) (1 + position_or_len q xs) 0))
-          ≡ drop 1 (cond b (x ∷ filter q xs) (filter q xs))
-      by_test_of true e later = refl
-      by_test_of false e later =
-          ap (filter q) (later_removed x xs (position_or_len q xs))
-          ∙ ap (λ (b : Bool). let rest = filter q (remove xs (position_or_len q xs)) in cond b (x ∷ rest) rest) e
-          ∙ later
+  first_gone (x ∷ xs) =
+      elim (cases_Bool (q x)) [
+        | inl e ↦ rw e
+        | inr e ↦ rw (e, later_removed x xs (position_or_len q xs), e) (first_gone xs)
+      ]
 
   all_gone : (xs : List X) → filter q (filter (λ x. not (q x)) xs) ≡ []
   all_gone [] = refl
-  all_gone (x ∷ xs) = by_test_of (q x) refl (all_gone xs)
-    where
-      by_test_of : (b : Bool) → q x ≡ b → filter q (filter (λ x. not (q x)) xs) ≡ []
-          → filter q (cond (not b) (x ∷ filter (λ x. not (q x)) xs) (filter (λ x. not (q x)) xs)) ≡ []
-      by_test_of true e later = later
-      by_test_of false e later =
-          ap (λ (b : Bool). let rest = filter q (filter (λ x. not (q x)) xs) in cond b (x ∷ rest) rest) e ∙ later
+  all_gone (x ∷ xs) =
+      elim (cases_Bool (q x)) [
+        | inl e ↦ rw e (all_gone xs)
+        | inr e ↦ rw (e, e) (all_gone xs)
+      ]
 
   module _ (p : X → Bool) (apart : (x : X) → q x ≡ true → p x ≡ false) where
-    -- one more in front
-    in_front : (x : X) (xs ys : List X) → filter p xs ≡ filter p ys → filter p (x ∷ xs) ≡ filter p (x ∷ ys)
-    in_front x xs ys later = ap (λ (rest : List X). cond (p x) (x ∷ rest) rest) later
-
     others_stay : (xs : List X) → filter p (remove xs (position_or_len q xs)) ≡ filter p xs
     others_stay [] = refl
-    others_stay (x ∷ xs) = by_test_of (q x) refl (others_stay xs)
-      where
-        by_test_of : (b : Bool) → q x ≡ b → filter p (remove xs (position_or_len q xs)) ≡ filter p xs
-            → filter p (remove (x ∷ xs) (cond (not b) (1 + position_or_len q xs) 0)) ≡ filter p (x ∷ xs)
-        by_test_of true e later = sym (ap (λ (b : Bool). cond b (x ∷ filter p xs) (filter p xs)) (apart x e))
-        by_test_of false e later =
-            ap (filter p) (later_removed x xs (position_or_len q xs))
-            ∙ in_front x (remove xs (position_or_len q xs)) xs later
+    others_stay (x ∷ xs) =
+        elim (cases_Bool (q x)) [
+          | inl e ↦ rw (e, apart x e)
+          | inr e ↦ rw (e, later_removed x xs (position_or_len q xs), others_stay xs)
+        ]
 
     others_left : (xs : List X) → filter p (filter (λ x. not (q x)) xs) ≡ filter p xs
     others_left [] = refl
-    others_left (x ∷ xs) = by_test_of (q x) refl (others_left xs)
-      where
-        by_test_of : (b : Bool) → q x ≡ b → filter p (filter (λ x. not (q x)) xs) ≡ filter p xs
-            → filter p (cond (not b) (x ∷ filter (λ x. not (q x)) xs) (filter (λ x. not (q x)) xs)) ≡ filter p (x ∷ xs)
-        by_test_of true e later = later ∙ sym (ap (λ (b : Bool). cond b (x ∷ filter p xs) (filter p xs)) (apart x e))
-        by_test_of false e later = in_front x (filter (λ x. not (q x)) xs) xs later
+    others_left (x ∷ xs) =
+        elim (cases_Bool (q x)) [
+          | inl e ↦ rw (e, apart x e) (others_left xs)
+          | inr e ↦ rw (e, others_left xs)
+        ]
 
 -- the first of all, which passes or does not
 front_gone : {X : Type 0} (p : X → Bool) (xs : List X)
     → (gone : ℕ) × (filter p (remove xs 0) ≡ drop gone (filter p xs))
 front_gone p [] = (0, refl)
-front_gone {X} p (x ∷ xs) = by_test_of (p x)
-  where
-    by_test_of : (b : Bool) → (gone : ℕ) × (filter p xs ≡ drop gone (cond b (x ∷ filter p xs) (filter p xs)))
-    by_test_of true = (1, refl)
-    by_test_of false = (0, refl)
+front_gone p (x ∷ xs) =
+    elim (cases_Bool (p x)) [
+      | inl e ↦ (1, rw e)
+      | inr e ↦ (0, rw e)
+    ]
 
 -- an upcall of a driver and a number is of an edge as these are those of edges
 of_key : (driver number : ℕ) (u : Scheduled) → is_of driver number u ≡ true
     → is_of_edge u ≡ is_of_edge (record u { driver = driver; number = number })
 of_key driver number u is =
     let both = and_parts (u.driver == driver) (u.number == number) is in
-    ap₂ (λ (d n : ℕ). is_of_edge (record u { driver = d; number = n })) (eqb-true u.driver driver both.0)
-    (eqb-true u.number number both.1)
+    rw (eqb-true u.driver driver both.0, eqb-true u.number number both.1)
 
 -- a driver and a number are those of edges, or no upcall of them is of an edge
 edge_key : (driver number : ℕ) (b : Bool) → (driver == buttons && number == 0) ≡ b
@@ -166,8 +148,7 @@ edge_key : (driver number : ℕ) (b : Bool) → (driver == buttons && number == 
     → P driver number) → P driver number
 edge_key driver number true is P same apart =
     let both = and_parts (driver == buttons) (number == 0) is in
-    subst (λ (d : ℕ). P d number) (sym (eqb-true driver buttons both.0))
-    (subst (λ (n : ℕ). P buttons n) (sym (eqb-true number 0 both.1)) same)
+    rw (eqb-true driver buttons both.0, eqb-true number 0 both.1) same
 edge_key driver number false is P same apart = apart (λ u e. of_key driver number u e ∙ is)
 
 -- What remains of what was scheduled for a process.
@@ -186,19 +167,15 @@ then_scheduled upcall before left later r is = record {
   given = r.given;
   gone = r.gone;
   pending = r.pending;
-  is = is ∙ by_upcall upcall;
+  is = is ∙ elim upcall as (λ o. scheduled_if o left ≡ option_map_or (λ u. scheduled u left) o left)
+      [ None ↦ refl | Some u ↦ refl ];
 }
-  where
-    by_upcall : (o : Option Scheduled) → scheduled_if o left ≡ option_map_or (λ u. scheduled u left) o left
-    by_upcall None = refl
-    by_upcall (Some u) = refl
 
--- what is waited for is not given
-no_wait : (args : List ℕ) → ◌≡◌ {A = Wait} No (Given args) → ⊥
-no_wait args e = cc
-
-one_wait : (driver number : ℕ) (args : List ℕ) → ◌≡◌ {A = Wait} (For driver number) (Given args) → ⊥
-one_wait driver number args e = cc
+-- what is pending less those that go
+less : (inbox : Inbox) (pending : List Scheduled) (gone : ℕ)
+    → filter is_of_edge pending ≡ drop gone (filter is_of_edge inbox.pending)
+    → IsRemainder inbox (record inbox { pending = pending })
+less inbox pending gone is = record { dropped = refl; given = λ args e. e; gone = gone; pending = is }
 
 -- what remains of what was scheduled: all; all, with something else that is waited for; all but the first, or the first
 -- of a driver and a number; all but those of a driver and a number; nothing
@@ -206,44 +183,28 @@ pub all_remain : (inbox : Inbox) → IsRemainder inbox inbox
 all_remain inbox = record { dropped = refl; given = λ args e. e; gone = 0; pending = refl }
 
 taken_first : (inbox : Inbox) → IsRemainder inbox (taken_at 0 inbox)
-taken_first inbox =
-    let front = front_gone is_of_edge inbox.pending in
-    record { dropped = refl; given = λ args e. e; gone = front.0; pending = front.1 }
+taken_first inbox = let front = front_gone is_of_edge inbox.pending in less inbox _ front.0 front.1
 
 taken_of : (driver number : ℕ) (inbox : Inbox)
     → IsRemainder inbox (taken_at (place_of driver number inbox.pending) inbox)
 taken_of driver number inbox =
     edge_key driver number _ refl (λ d n. IsRemainder inbox (taken_at (place_of d n inbox.pending) inbox))
-    (record { dropped = refl; given = λ args e. e; gone = 1; pending = first_gone is_of_edge inbox.pending })
-    (λ apart. record {
-      dropped = refl;
-      given = λ args e. e;
-      gone = 0;
-      pending = others_stay (is_of driver number) is_of_edge apart inbox.pending;
-    })
+    (less inbox _ 1 (first_gone is_of_edge inbox.pending))
+    (λ apart. less inbox _ 0 (others_stay (is_of driver number) is_of_edge apart inbox.pending))
 
 without_remain : (driver number : ℕ) (inbox : Inbox)
     → IsRemainder inbox (record inbox { pending = without_key driver number inbox.pending })
 without_remain driver number inbox =
     edge_key driver number _ refl
     (λ d n. IsRemainder inbox (record inbox { pending = without_key d n inbox.pending }))
-    (record {
-      dropped = refl;
-      given = λ args e. e;
-      gone = length (filter is_of_edge inbox.pending);
-      pending = all_gone is_of_edge inbox.pending ∙ sym (drop-length (filter is_of_edge inbox.pending));
-    })
-    (λ apart. record {
-      dropped = refl;
-      given = λ args e. e;
-      gone = 0;
-      pending = others_left (is_of driver number) is_of_edge apart inbox.pending;
-    })
+    (less inbox _ (length (filter is_of_edge inbox.pending))
+    (all_gone is_of_edge inbox.pending ∙ sym (drop-length (filter is_of_edge inbox.pending))))
+    (λ apart. less inbox _ 0 (others_left (is_of driver number) is_of_edge apart inbox.pending))
 
 none_remain : (inbox : Inbox) → IsRemainder inbox (cleared inbox)
 none_remain inbox = record {
   dropped = refl;
-  given = λ args e. absurd (no_wait args e);
+  given = λ args e. absurd (cc);
   gone = length (filter is_of_edge inbox.pending);
   pending = sym (drop-length (filter is_of_edge inbox.pending));
 }
@@ -251,7 +212,7 @@ none_remain inbox = record {
 delivered_remain : (next : Delivery) (inbox : Inbox) → IsRemainder inbox (left_by next inbox)
 delivered_remain (Function upcall) inbox = taken_first inbox
 delivered_remain (Arguments args) inbox =
-    record { dropped = refl; given = λ args e. absurd (no_wait args e); gone = 0; pending = refl }
+    record { dropped = refl; given = λ args e. absurd (cc); gone = 0; pending = refl }
 
 -- what a turn leaves of a process beside its bytes: what remains, and which buttons it knows to be pressed
 record Keeps (r s : Record) : Type 0 where
@@ -279,8 +240,13 @@ nothing_more r s k =
     record { leaves = then_scheduled None _ s.own.inbox _ k.remains refl; whole = tt; pressed = k.pressed }
 
 same_inbox : (r s : Record) → s.own.inbox ≡ r.own.inbox → s.pressed ≡ r.pressed → Keeps r s
-same_inbox r s inbox pressed =
-    record { remains = subst (IsRemainder r.own.inbox) (sym inbox) (all_remain r.own.inbox); pressed = pressed }
+same_inbox r s inbox pressed = record { remains = rw inbox (all_remain r.own.inbox); pressed = pressed }
+
+-- a process that starts again keeps nothing of what was scheduled
+keeps_none : (r s : Record) → s.own.inbox ≡ r.own.inbox → s.pressed ≡ r.pressed → Keeps r (restart s)
+keeps_none r s inbox pressed =
+    restart_by (Keeps r) s (same_inbox r s inbox pressed)
+    (λ h m is main. record { remains = rw inbox (none_remain r.own.inbox); pressed = pressed })
 
 pub flag_inbox : (at byte : ℕ) (own : Own) → (with_flag at byte own).inbox ≡ own.inbox
 flag_inbox at byte own = ap (λ (o : Own). o.inbox) (flag_rest at byte own)
@@ -288,13 +254,12 @@ flag_inbox at byte own = ap (λ (o : Own). o.inbox) (flag_rest at byte own)
 -- what a step of a driver leaves, which leaves what was scheduled
 pub step_inbox : (step : DriverStep) (inbox : Inbox) → step.own.inbox ≡ inbox
     → (own_after step).inbox ≡ scheduled_if (scheduled_by step) inbox
-step_inbox step inbox same = by_upcall step.schedules
-  where
-    by_upcall : (o : Option ScheduledUpcall)
-        → (own_scheduling o step.own).inbox
-        ≡ scheduled_if (option_map (λ u. upcall_of u.driver u.number u.args step.own) o) inbox
-    by_upcall None = same
-    by_upcall (Some u) = ap (scheduled (upcall_of u.driver u.number u.args step.own)) same
+step_inbox step inbox same =
+    elim step.schedules as (λ (o : Option ScheduledUpcall). (own_scheduling o step.own).inbox
+    ≡ scheduled_if (option_map (λ u. upcall_of u.driver u.number u.args step.own) o) inbox) [
+      | None ↦ same
+      | Some u ↦ ap (scheduled (upcall_of u.driver u.number u.args step.own)) same
+    ]
 
 -- the turn of a process
 module _ (refuse : RefusedByAnyDriver) (settings : Settings) (time : ℕ) (r : Record) where
@@ -321,105 +286,67 @@ module _ (refuse : RefusedByAnyDriver) (settings : Settings) (time : ℕ) (r : R
 
   -- where a call is no command, or was refused, it schedules nothing
   no_command : (n : ℕ) (s : Served) → (n == 2) ≡ false → class regs ≡ n → Left s → ByCall s
-  no_command n s apart is left =
-      subst (λ (o : Option Scheduled). Schedules o r s.after)
-      (sym (ap (λ (b : Bool). cond (b && is_none (rule_shown s.outcome)) (command_schedules around r.own args) None)
-      (ap (λ (k : ℕ). k == 2) is ∙ apart)))
-      (nothing_more r s.after left)
+  no_command n s apart is left = rw (is, apart) (nothing_more r s.after left)
 
   was_refused : (s : Served) (rule : CallRule) → rule_shown s.outcome ≡ Some rule → Left s → ByCall s
-  was_refused s rule is left =
-      subst (λ (o : Option Scheduled). Schedules o r s.after)
-      (sym (ap (λ (o : Option CallRule). cond (class regs == 2 && is_none o)
-      (command_schedules around r.own args) None) is
-      ∙ ap (λ (b : Bool). cond b (command_schedules around r.own args) None) (and-false (class regs == 2))))
-      (nothing_more r s.after left)
-
-  same : (s : Record) → s.own.inbox ≡ r.own.inbox → s.pressed ≡ r.pressed → Keeps r s
-  same s inbox pressed = same_inbox r s inbox pressed
+  was_refused s rule is left = rw (is, and-false (class regs == 2)) (nothing_more r s.after left)
 
   yields : (number one two : ℕ) → Left (yielding counted number one two)
   yields number one two =
       of_yield Left counted number one two (record {
-        none = λ zero is. same _ (flag_inbox one 0 r.own) refl;
-        first = λ upcall zero is. record {
-          remains = subst (λ (inbox : Inbox). IsRemainder r.own.inbox (taken_at 0 inbox))
-              (sym (flag_inbox one 1 r.own)) (taken_first r.own.inbox);
-          pressed = refl;
-        };
-        waits = λ is. same _ refl refl;
+        none = λ zero is. same_inbox r _ (flag_inbox one 0 r.own) refl;
+        first = λ upcall zero is.
+            record { remains = rw (flag_inbox one 1 r.own) (taken_first r.own.inbox); pressed = refl };
+        waits = λ is. same_inbox r _ refl refl;
         waits_for = λ asks is. record {
-          remains = record {
-            dropped = refl;
-            given = λ args e. absurd (one_wait one two args e);
-            gone = 0;
-            pending = refl;
-          };
+          remains = record { dropped = refl; given = λ args e. absurd (cc); gone = 0; pending = refl };
           pressed = refl;
         };
         found = λ upcall asks is. record { remains = taken_of one two r.own.inbox; pressed = refl };
-        goes_on = λ zero asks. same _ refl refl;
+        goes_on = λ zero asks. same_inbox r _ refl refl;
       })
 
   of_swap : (swap : Swap) (o : Option CallRule) → Left (swap_by counted swap o)
-  of_swap swap None = record { remains = by_kind (is_buffer swap.kind); pressed = refl }
-    where
-      by_kind : (b : Bool) → IsRemainder r.own.inbox (record r.own.inbox
-          { pending = cond b r.own.inbox.pending (without_key swap.driver swap.number r.own.inbox.pending) })
-      by_kind true = all_remain r.own.inbox
-      by_kind false = without_remain swap.driver swap.number r.own.inbox
-  of_swap swap (Some rule) = same _ refl refl
+  of_swap swap None = record {
+    remains = cond_both (is_buffer swap.kind) _ _ (λ pending. IsRemainder r.own.inbox (record r.own.inbox
+        { pending = pending })) (λ e. all_remain r.own.inbox) (λ e. without_remain swap.driver swap.number r.own.inbox);
+    pressed = refl;
+  }
+  of_swap swap (Some rule) = same_inbox r _ refl refl
 
   of_memop : (operation argument : ℕ) → Left (memop counted operation argument)
   of_memop operation argument =
-      memop_gives Left counted operation argument (λ rule. same _ refl refl) (λ reply. same _ refl refl)
-      (λ new reply. same _ refl refl)
-
-  of_restart : (s : Record) → s.own.inbox ≡ r.own.inbox → s.pressed ≡ r.pressed → Keeps r (restart s)
-  of_restart s inbox pressed =
-      restart_by (Keeps r) s (same s inbox pressed)
-      (λ h m is main. record {
-        remains = subst (λ (i : Inbox). IsRemainder r.own.inbox (cleared i)) (sym inbox) (none_remain r.own.inbox);
-        pressed = pressed;
-      })
+      memop_gives Left counted operation argument (λ rule. same_inbox r _ refl refl) (λ reply. same_inbox r _ refl refl)
+      (λ new reply. same_inbox r _ refl refl)
 
   of_exit : (kind code : ℕ) → Left (exit counted kind code)
   unfolding exit
   of_exit kind code =
       by_test Left (kind == 0) _ _ (record { remains = none_remain r.own.inbox; pressed = refl })
-      (by_test Left (kind == 1) _ _ (of_restart counted refl refl) (same _ refl refl))
+      (by_test Left (kind == 1) _ _ (keeps_none r counted refl refl) (same_inbox r _ refl refl))
 
   -- a command that is replied to, or refused
   of_answer : class regs ≡ 2 → (taker : CommandHandler) → handler_of (a0 regs) ≡ Some taker
       → let c = taker around (a1 regs) (a2 regs) (a3 regs) r.own in (answer : Result Reply CallRule) → c.answer ≡ answer
       → ByCall (record (driver_answered (record_with_step counted c.step) answer) { acts = c.acts })
   of_answer is taker taken (Ok reply) answers =
-      subst (λ (o : Option Scheduled). Schedules o r (replied (record_with_step counted c.step) reply).after)
-      (sym (ap (λ (b : Bool). cond (b && true) (command_schedules around r.own args) None) (ap (λ (k : ℕ). k == 2) is)
-      ∙ ap (option_and_then (λ (t : CommandHandler). scheduled_by (t around (a1 regs) (a2 regs) (a3 regs) r.own).step))
-      taken))
-      (record {
+      let c = taker around (a1 regs) (a2 regs) (a3 regs) r.own in
+      let queued = step_inbox c.step r.own.inbox
+      (command_leaves (a0 regs) taker taken around (a1 regs) (a2 regs) (a3 regs) r.own) in
+      rw (is, taken) (record {
         leaves = then_scheduled _ _ r.own.inbox _ (all_remain r.own.inbox) queued;
         whole = at_once (scheduled_by c.step) r.own.inbox (own_after c.step).inbox queued;
         pressed = refl;
       })
-    where
-      c : Commanded
-      c = taker around (a1 regs) (a2 regs) (a3 regs) r.own
-
-      queued : (own_after c.step).inbox ≡ scheduled_if (scheduled_by c.step) r.own.inbox
-      queued =
-          step_inbox c.step r.own.inbox
-          (command_leaves (a0 regs) taker taken around (a1 regs) (a2 regs) (a3 regs) r.own)
   of_answer is taker taken (Err rule) answers =
       let c = taker around (a1 regs) (a2 regs) (a3 regs) r.own in
       let same_step = refuse (a0 regs) taker around (a1 regs) (a2 regs) (a3 regs) r.own rule taken answers in
       let s = record (driver_answered (record_with_step counted c.step) (Err rule)) { acts = c.acts } in
-      was_refused s rule refl (same s.after (ap (λ (x : Commanded). (own_after x.step).inbox) same_step) refl)
+      was_refused s rule refl (same_inbox r s.after (ap (λ (x : Commanded). (own_after x.step).inbox) same_step) refl)
 
   of_commanded : class regs ≡ 2 → (o : Option CommandHandler) → handler_of (a0 regs) ≡ o
       → ByCall (taken_by around (a1 regs) (a2 regs) (a3 regs) counted o)
-  of_commanded is None taken = was_refused (refused counted NoDriver) NoDriver refl (same _ refl refl)
+  of_commanded is None taken = was_refused (refused counted NoDriver) NoDriver refl (same_inbox r _ refl refl)
   of_commanded is (Some taker) taken = of_answer is taker taken _ refl
 
   -- a call that its object permits, or does not
@@ -429,15 +356,14 @@ module _ (refuse : RefusedByAnyDriver) (settings : Settings) (time : ℕ) (r : R
   of_served call serves =
       by_test ByCall (object_permits settings.strict r.object call) _ _ serves
       (was_refused (refused_with counted Permission (failure_of call Permission)) Permission refl
-      (same _ refl refl))
+      (same_inbox r _ refl refl))
 
   of_fault : (s : Record) (denial : Denial) → s.own.inbox ≡ r.own.inbox → s.pressed ≡ r.pressed
       → ByTurn (faulted settings s denial)
   of_fault s denial inbox pressed =
-      nothing_more r _ (of_denial (Keeps r) settings s denial (record {
-        remains = subst (λ (i : Inbox). IsRemainder r.own.inbox (cleared i)) (sym inbox) (none_remain r.own.inbox);
-        pressed = pressed;
-      }) (of_restart (with_process s (after_fault s.process denial)) inbox pressed))
+      nothing_more r _ (of_denial (Keeps r) settings s denial
+      (record { remains = rw inbox (none_remain r.own.inbox); pressed = pressed })
+      (keeps_none r (with_process s (after_fault s.process denial)) inbox pressed))
 
   of_calls : (accesses : List MemoryAccess) → ByTurn (calls settings time counted accesses (call_of regs))
   unfolding by_form
@@ -458,9 +384,7 @@ module _ (refuse : RefusedByAnyDriver) (settings : Settings) (time : ℕ) (r : R
 
       no_swap : (kind : PairKind) → (class_of kind == 2) ≡ false
       no_swap Upcall = refl
-      no_swap ReadOnly = refl
-      no_swap ReadWrite = refl
-      no_swap Readable = refl
+      no_swap kind = refl
 
 -- the turn of a process leaves what remains of what was scheduled, and then schedules what its call does
 pub turn_leaves : RefusedByAnyDriver → CallsAreOfEcall → (settings : Settings) (time : ℕ) (r : Record)
@@ -471,130 +395,69 @@ turn_leaves refuse of_ecall settings time r =
       went = λ t is. nothing_more r _ (same_inbox r (with_effect (turn_counted r) t) refl refl);
       faults = λ t denial is. of_fault refuse settings time r (with_effect (turn_counted r) t) denial refl refl;
       makes = λ accesses form is runs.
-          subst (λ (o : Option CallForm). ByTurn refuse settings time r
-          (calls settings time (turn_counted r) accesses o)) is (of_calls refuse settings time r accesses);
+          rw is at (of_calls refuse settings time r accesses);
       delivers = λ next is yielded.
           nothing_more r _ (record { remains = delivered_remain next r.own.inbox; pressed = refl });
     })
-
--- a process that starts again keeps nothing of what was scheduled
-restart_keeps_none : (r : Record) → Keeps r (restart r)
-restart_keeps_none r =
-    restart_by (Keeps r) r (same_inbox r r refl refl)
-    (λ h m is main. record { remains = none_remain r.own.inbox; pressed = refl })
 
 -- an operator's act leaves what remains of what was scheduled, all or nothing, and schedules nothing
 pub act_leaves : (verb : Verb) (r : Record) → Schedules None r (operated verb r)
 act_leaves verb r =
     nothing_more r (operated verb r)
     (of_operated (λ ended s. Keeps r s) r (same_inbox r r refl refl) (λ held. same_inbox r _ refl refl)
-    (λ lives. record { remains = none_remain r.own.inbox; pressed = refl }) (restart_keeps_none r) verb)
+    (λ lives. record { remains = none_remain r.own.inbox; pressed = refl }) (keeps_none r r refl refl) verb)
 
--- What an answer leaves before its upcall is scheduled is what was scheduled before: of each kind of request
-read_inbox : (bytes : List ℕ) (own : Own) (o : Option WaitingRead)
-    → (unwrap_or (option_map (reading_in bytes own) o) (silently own)).own.inbox ≡ own.inbox
-read_inbox bytes own None = refl
-read_inbox bytes own (Some read) = refl
-
-taking_inbox : (own : Own) (o : Option WaitingWrite)
-    → (unwrap_or (option_map (taking own) o) (silently own)).own.inbox ≡ own.inbox
-taking_inbox own None = refl
-taking_inbox own (Some write) = refl
-
-write_inbox : (own : Own) (o : Option WaitingWrite)
-    → (unwrap_or (option_map (write_completing own) o) (silently own)).own.inbox ≡ own.inbox
-write_inbox own None = refl
-write_inbox own (Some write) = refl
-
-alarm_inbox : (now : ℕ) (own : Own) (o : Option Armed) → (fired_if now own o).own.inbox ≡ own.inbox
-alarm_inbox now own None = refl
-alarm_inbox now own (Some alarm) = refl
-
+-- What an answer leaves before its upcall is scheduled is what was scheduled before.
 progress_inbox : (word : Option ℕ) (request : RandomRequest) (own : Own)
     → (progress word request own).step.own.inbox ≡ own.inbox
-progress_inbox word request own = by_wanted (nat_le (wanted request own) request.written)
+progress_inbox word request own =
+    cond_both (nat_le (wanted request own) request.written) _ _ (λ (p : Progress). p.step.own.inbox ≡ own.inbox)
+    (λ e. refl) (λ e. by_word word)
   where
-    left : ℕ
-    left = wanted request own - request.written
-
-    by_left : (drawn : ℕ) (b : Bool)
-        → (cond b (completing (Some drawn) 0 (request.written + left) (with_word drawn left request own))
-        (record {
-          rest = Some (record request { written = request.written + 4 });
-          step = silently (with_word drawn left request own);
-          drawn = Some drawn;
-        })).step.own.inbox ≡ own.inbox
-    by_left drawn true = refl
-    by_left drawn false = refl
-
-    by_word : (o : Option ℕ) → (drawing left request own o).step.own.inbox ≡ own.inbox
+    by_word : (o : Option ℕ)
+        → (drawing (wanted request own - request.written) request own o).step.own.inbox ≡ own.inbox
     by_word None = refl
-    by_word (Some drawn) = by_left drawn (nat_le left 4)
-
-    by_wanted : (b : Bool)
-        → (cond b (completing None 0 request.written own) (drawing left request own word)).step.own.inbox
-        ≡ own.inbox
-    by_wanted true = refl
-    by_wanted false = by_word word
-
-random_inbox : (word : Option ℕ) (own : Own) (o : Option RandomRequest)
-    → (unwrap_or (option_map (λ (request : RandomRequest). advanced (progress word request own)) o)
-    (unanswered None own)).step.own.inbox ≡ own.inbox
-random_inbox word own None = refl
-random_inbox word own (Some request) = progress_inbox word request own
+    by_word (Some drawn) =
+        cond_both (nat_le (wanted request own - request.written) 4) _ _
+        (λ (p : Progress). p.step.own.inbox ≡ own.inbox) (λ e. refl) (λ e. refl)
 
 served_inbox : (fault : Bool) (flash : ℕ → ℕ) (bytes : List ℕ) (request : StorageRequest) (own : Own)
     → (storage_served fault flash bytes request own).step.own.inbox ≡ own.inbox
 served_inbox true flash bytes request own = refl
-served_inbox false flash bytes request own = by_kind request.kind
-  where
-    by_kind : (kind : StorageKind) → (moving kind flash bytes request own).step.own.inbox ≡ own.inbox
-    by_kind Read = refl
-    by_kind Write = refl
-
-storage_inbox : (fault : Bool) (flash : ℕ → ℕ) (bytes : List ℕ) (own : Own) (o : Option StorageRequest)
-    → (unwrap_or (option_map (λ (request : StorageRequest).
-    finished (storage_served fault flash bytes request own)) o) (unanswered None own)).step.own.inbox
-    ≡ own.inbox
-storage_inbox fault flash bytes own None = refl
-storage_inbox fault flash bytes own (Some request) = served_inbox fault flash bytes request own
-
-edged_inbox : (button : ℕ) (state : Bool) (own : Own) → (edged button state own).own.inbox ≡ own.inbox
-unfolding edged
-edged_inbox button state own = by_test_of (is_told button own)
-  where
-    by_test_of : (b : Bool)
-        → (cond b (scheduling buttons 0 (button ∷ bit_of state ∷ 0 ∷ []) own) (silently own)).own.inbox ≡ own.inbox
-    by_test_of true = refl
-    by_test_of false = refl
+served_inbox false flash bytes request own =
+    elim request.kind as (λ kind. (moving kind flash bytes request own).step.own.inbox ≡ own.inbox)
+    [ Read ↦ refl | Write ↦ refl ]
 
 answer_inbox : (event : Event) (r : Record) → (answer_step event r).own.inbox ≡ r.own.inbox
-unfolding answer_step alarm_answered random_answered storage_answered
+unfolding answer_step alarm_answered random_answered storage_answered edged
 answer_inbox (Turn time) r = refl
-answer_inbox (Alarmed now) r = alarm_inbox now r.own (due_alarm now r.own)
-answer_inbox (Edge button pressed) r = edged_inbox button pressed r.own
-answer_inbox Taken r = taking_inbox r.own (waiting_in console_writes r.own)
-answer_inbox WriteDone r = write_inbox r.own (waiting_in console_writes r.own)
-answer_inbox (Input bytes) r = read_inbox bytes r.own (waiting_in console_reads r.own)
-answer_inbox (Word word) r = random_inbox (Some word) r.own (waiting_in randoms r.own)
-answer_inbox NoWord r = random_inbox None r.own (waiting_in randoms r.own)
-answer_inbox (Stored moved) r = storage_inbox (not moved) _ r.storage r.own (waiting_in storages r.own)
 answer_inbox (Act verb) r = refl
+answer_inbox (Alarmed now) r =
+    elim (due_alarm now r.own) as (λ (o : Option Armed). (fired_if now r.own o).own.inbox ≡ r.own.inbox)
+    [ None ↦ refl | Some alarm ↦ refl ]
+answer_inbox (Edge button pressed) r =
+    cond_both (is_told button r.own) _ (silently r.own) (λ step. step.own.inbox ≡ r.own.inbox) (λ e. refl) (λ e. refl)
+answer_inbox (Input bytes) r =
+    of_request Reads r.own (λ (s : DriverStep). s.own.inbox ≡ r.own.inbox) _ _ refl (λ read e. refl)
+answer_inbox (Word word) r =
+    of_request Randoms r.own (λ (a : RequestAnswered _). a.step.own.inbox ≡ r.own.inbox) _ _ refl
+    (λ request e. progress_inbox (Some word) request r.own)
+answer_inbox NoWord r =
+    of_request Randoms r.own (λ (a : RequestAnswered _). a.step.own.inbox ≡ r.own.inbox) _ _ refl
+    (λ request e. progress_inbox None request r.own)
+answer_inbox (Stored moved) r =
+    of_request Stores r.own (λ (a : RequestAnswered _). a.step.own.inbox ≡ r.own.inbox) _ _ refl
+    (λ request e. served_inbox (not moved) _ r.storage request r.own)
+answer_inbox event r =
+    of_request Writes r.own (λ (s : DriverStep). s.own.inbox ≡ r.own.inbox) _ _ refl (λ write e. refl)
 
 -- an answer is that step
 answer_own : (settings : Settings) (event : Event) (r : Record) → IsAnswer event
     → (apply settings event r).own ≡ own_after (answer_step event r)
 unfolding apply answer_step
 answer_own settings (Turn time) r is = absurd (cc)
-answer_own settings (Alarmed now) r is = refl
-answer_own settings (Edge button pressed) r is = refl
-answer_own settings Taken r is = refl
-answer_own settings WriteDone r is = refl
-answer_own settings (Input bytes) r is = refl
-answer_own settings (Word word) r is = refl
-answer_own settings NoWord r is = refl
-answer_own settings (Stored moved) r is = refl
 answer_own settings (Act verb) r is = absurd (cc)
+answer_own settings event r is = refl
 
 -- so what is scheduled then is what was, and its upcall
 pub told_inbox : (settings : Settings) (event : Event) (r : Record) → IsAnswer event

@@ -1,10 +1,12 @@
 -- The round robin in a quiet stretch: where a slot has the next turn, and no device step is ready on the way, its next
 -- k instructions are the next k steps of the run. Each such turn leaves the slot present, in its slice, so it is the
 -- next choice again; the stretch goes on from there, by induction on k.
-use Rattle.std.proofs.Common.{◌≡◌, ℕ, zero, suc, ◌+◌, ◌-◌, ◌<◌, ◌≤◌, Bool, true, false, ◌&&◌, ◌==◌, nat_lt, not}
-use Rattle.std.proofs.Common.{map, if◌then◌else◌, List, [], ◌∷◌, length, find, ◌++◌, slice_get, slice_set, Option, None}
+use Rattle.std.proofs.lemmas.Bool.{cond_both}
+use Rattle.std.proofs.Common.{inl, inr}
+use Rattle.kernel_laws.proofs.Cases.{cases_option}
+use Rattle.std.proofs.Common.{◌≡◌, ℕ, zero, suc, ◌+◌, ◌-◌, ◌<◌, ◌≤◌, true, false, ◌&&◌, ◌==◌, nat_lt}
+use Rattle.std.proofs.Common.{map, List, [], ◌∷◌, length, ◌++◌, slice_get, slice_set, Option, None}
 use Rattle.std.proofs.Common.{Some, All, refl, sym, ap, ap₂, subst, ◌∙◌, arith, append_assoc, length-append}
-use Rattle.std.specs.Option.{option_map, option_or}
 use Rattle.std.proofs.lemmas.Bool.Decides.{nat_tests}
 use Rattle.std.proofs.lemmas.Grind.{flat_map-append}
 use Rattle.std.proofs.lemmas.List.{set-set}
@@ -12,24 +14,19 @@ use Rattle.std.proofs.lemmas.List.Elements.{All-nil, All-cons, All-append}
 use Rattle.std.proofs.lemmas.Option.{slice_get-map, slice_get_within, get_or_from_slice_get}
 use Rattle.rv32_model.specs.declared.turn_end.TurnEnd.TheVariants.{Went}
 use Rattle.tk_base.specs.declared.limits.TheConstants.{STEP_LIMIT}
-use Rattle.tk_base.specs.declared.process.Choice.{Choice}
-use Rattle.tk_base.specs.declared.process.Choice.TheVariants.{Run, Device, Pass}
-use Rattle.tk_base.specs.declared.process.Dev.{Dev}
-use Rattle.process_record.specs.declared.process.State.{State}
+use Rattle.tk_base.specs.declared.process.Choice.TheVariants.{Run}
 use Rattle.process_record.specs.declared.process.State.TheVariants.{Running}
-use Rattle.turn_scheduler.specs.RoundRobin.{choice, next_slot, ready_device, slots_after}
+use Rattle.turn_scheduler.specs.RoundRobin.{choice, next_slot, ready_device}
 use Rattle.turn_scheduler.specs.Parts.{place_is_ready as is_ready_at}
 use Rattle.turn_scheduler.specs.RoundRobin.{used_after}
 use Rattle.kernel_model.specs.declared.settings.Settings.{Settings}
 use Rattle.kernel_model.specs.Record.{Record, instruction}
-use Rattle.kernel_model.specs.Turn.{TurnTrace, Turned, at_turn_end, has_turn, may_turn, turn_in, turned}
-use Rattle.upcall_queue.specs.Pending.{due}
-use Rattle.kernel_model.specs.World.{World, Label, Stepped, after_turn_of, carried_out, is_let, is_ready}
-use Rattle.kernel_model.specs.Named.{can_run}
-use Rattle.kernel_model.specs.World.{only_in, ran}
+use Rattle.kernel_model.specs.Turn.{TurnTrace, may_turn, turned}
+use Rattle.kernel_model.specs.World.{World, Label, carried_out, is_let, is_ready}
+use Rattle.kernel_model.specs.World.{only_in}
 use Rattle.kernel_model.proofs.Runs.{ready_goes}
 use Rattle.kernel_model.specs.World.{stepped, turn_label}
-use Rattle.kernel_model.specs.Run.{Ran, next, next_time, printed, ready_devices, ready_slots, round, stays}
+use Rattle.kernel_model.specs.Run.{Ran, next, printed, ready_devices, ready_slots, round, stays}
 use Rattle.kernel_model.specs.Parts.{on_choice}
 use Rattle.kernel_model.specs.Run.{runs_on}
 use Rattle.kernel_model.specs.Parts.{told_first}
@@ -59,8 +56,7 @@ went : (s : Settings) (time : ℕ) (r : Record) → r.process.held ≡ false →
     → (instruction r).end ≡ Went
     → turned s time r ≡ record { after = instruction_made r; told = quiet_told r; acts = [] }
 went s time r free runs e =
-    free_turned s time r free ∙ ap (λ (state : State). turn_in s time state r) runs
-    ∙ ap (at_turn_end s time (instruction_made r) (instruction r).accesses) e
+    rw (free_turned s time r free, runs, e)
 
 -- a slot whose process runs is ready where it is let
 pub runs_and_goes : (w : World) (slot : ℕ) (r : Record) → slice_get w.records slot ≡ Some r → r.process.state ≡ Running
@@ -68,59 +64,34 @@ pub runs_and_goes : (w : World) (slot : ℕ) (r : Record) → slice_get w.record
 runs_and_goes w slot r at runs free lets =
     ready_goes (only_in w) (map may_turn w.records) slot lets
     (get_or_from_slice_get (map may_turn w.records) slot true false
-    (slice_get-map may_turn w.records slot ∙ ap (option_map may_turn) at ∙ ap Some may))
-  where
-    may : may_turn r ≡ true
-    may = ap₂ (λ (held : Bool) (state : State). not held && has_turn state (due r.own.inbox)) free runs
+    (slice_get-map may_turn w.records slot ∙ rw (at, free, runs)))
 
 -- a present slot whose process runs goes on with its slice
 pub stays_on : PresentStaysOn
 unfolding next_slot
 stays_on w slot r p at runs free u lets =
-    subst (λ (o : Option ℕ). next_slot (ready_slots w) o w.present.used w.pace.slice ≡ Some slot) (sym p)
-    (ap (λ (g : Bool). if g then Some slot else find (is_ready_at (ready_slots w)) (slots_after (Some slot)))
-    (ap (λ (b : Bool). b && nat_lt w.present.used w.pace.slice) (runs_and_goes w slot r at runs free lets) ∙ left))
-  where
-    left : (true && nat_lt w.present.used w.pace.slice) ≡ true
-    left = grind (arith, nat_tests)
+    let left : nat_lt w.present.used w.pace.slice ≡ true = grind (arith, nat_tests) in
+    rw (p, runs_and_goes w slot r at runs free lets, left)
 
 -- the slot that has the next turn of a process is the next choice, where no device step is ready
 pub chosen_next : (w : World) (slot : ℕ) → ready_device (ready_devices w) ≡ None
     → next_slot (ready_slots w) w.present.slot w.present.used w.pace.slice ≡ Some slot → next w ≡ Some (Run slot)
 unfolding next choice
 chosen_next w slot calm turn =
-    let passes : Option Choice = option_map (λ n. Pass (n - w.clock.time)) (next_time w) in
-    ap (λ (o : Option Dev). option_or (option_map Device o)
-    (option_or (option_map Run (next_slot (ready_slots w) w.present.slot w.present.used w.pace.slice)) passes))
-    calm
-    ∙ ap (λ (o : Option ℕ). option_or (option_map Run o) passes) turn
+    rw (calm, turn)
 
 -- a turn of a process that runs is ready below the limit of steps
 runs_ready : (w : World) (slot : ℕ) (r : Record) → slice_get w.records slot ≡ Some r → r.process.state ≡ Running
     → r.process.held ≡ false → w.clock.steps < STEP_LIMIT → is_ready w (Run slot) ≡ true
 runs_ready w slot r at runs free below =
-    run_ready w slot (ap can_run at
-    ∙ ap₂ (λ (held : Bool) (state : State). not held && has_turn state (due r.own.inbox)) free runs) below
+    run_ready w slot (rw (at, free, runs)) below
 
 module _ (w : World) (slot : ℕ) (r : Record) (p : w.present.slot ≡ Some slot) (at : slice_get w.records slot ≡ Some r)
     (runs : r.process.state ≡ Running) (free : r.process.held ≡ false) where
   -- no turn leads anywhere
   none_made : after_stretch 0 w slot r ≡ w
   none_made =
-      ap (λ (rs : List Record). record w {
-        records = rs;
-        clock =
-            record { time = w.clock.time + 0; steps = w.clock.steps + 0 };
-        present =
-            record { slot = Some slot; used = w.present.used + 0 };
-      }) (set-same w.records slot r at)
-      ∙ ap₂ (λ (time steps : ℕ). record w {
-        clock = record { time = time; steps = steps };
-        present =
-            record { slot = Some slot; used = w.present.used + 0 };
-      }) (none_more w.clock.time) (none_more w.clock.steps)
-      ∙ ap₂ (λ (o : Option ℕ) (used : ℕ). record w { present = record { slot = o; used = used } }) (sym p)
-      (none_more w.present.used)
+      rw (set-same w.records slot r at, none_more w.clock.time, none_more w.clock.steps, none_more w.present.used, ← p)
 
   -- the present slot goes on
   goes_on_next : ready_device (ready_devices w) ≡ None → w.present.used < w.pace.slice
@@ -136,56 +107,27 @@ module _ (w : World) (slot : ℕ) (r : Record) (p : w.present.slot ≡ Some slot
       → stepped w (Run slot)
       ≡ record {
         after = after_stretch 1 w slot (instruction_made r);
-        labels =
-            turn_label slot w.clock.time (quiet_told r) ∷ [];
+        labels = turn_label slot w.clock.time (quiet_told r) ∷ [];
       }
   unfolding carried_out
   one_step below u e =
-      stepped_ready w (Run slot) (runs_ready w slot r at runs free below)
-      ∙ ap (ran w slot) at
-      ∙ ap (λ (t : Turned). made_by t) (went w.settings w.clock.time r free runs e)
-      ∙ ap (λ (n : ℕ). record {
-        after =
-            record w {
-              records = slice_set w.records slot (instruction_made r);
-              clock =
-                  record { time = w.clock.time + 1; steps = w.clock.steps + 1 };
-              present =
-                  record { slot = Some slot; used = n };
-            };
-        labels = turn_label slot w.clock.time (quiet_told r) ∷ [];
-      })
-      (used_more u)
-    where
-      made_by : Turned → Stepped
-      made_by t = record { after = after_turn_of w slot t; labels = turn_label slot w.clock.time t.told ∷ [] }
+      rw (
+        stepped_ready w (Run slot) (runs_ready w slot r at runs free below),
+        at,
+        went w.settings w.clock.time r free runs e,
+        used_more u,
+      )
 
   -- the stretch goes on with the rest from there
   pub together : (k : ℕ) (later : Record)
       → after_stretch k (after_stretch 1 w slot (instruction_made r)) slot later ≡ after_stretch (suc k) w slot later
   together k later =
-      ap (λ (rs : List Record). record w {
-        records = rs;
-        clock =
-            record { time = w.clock.time + 1 + k; steps = w.clock.steps + 1 + k };
-        present =
-            record { slot = Some slot; used = w.present.used + 1 + k };
-      })
-      (set-set w.records slot (instruction_made r) later)
-      ∙ ap₂ (λ (time steps : ℕ). record w {
-        records = slice_set w.records slot later;
-        clock =
-            record { time = time; steps = steps };
-        present = record { slot = Some slot; used = w.present.used + 1 + k };
-      })
-      (sym (one_then w.clock.time k)) (sym (one_then w.clock.steps k))
-      ∙ ap (λ (used : ℕ). record w {
-        records = slice_set w.records slot later;
-        clock =
-            record { time = w.clock.time + suc k; steps = w.clock.steps + suc k };
-        present =
-            record { slot = Some slot; used = used };
-      }) (sym (one_then w.present.used k))
+      rw (
+        set-set w.records slot (instruction_made r) later,
+        one_then w.clock.time k,
+        one_then w.clock.steps k,
+        one_then w.present.used k,
+      )
 
   -- a stretch that goes on after one step
   one_first : (k : ℕ) (later : Record) → w.clock.steps < STEP_LIMIT → next w ≡ Some (Run slot)
@@ -217,8 +159,7 @@ no_stretch w = record {
   turns = refl;
   quiet = All-nil IsQuietTurn;
   prints = refl;
-  time =
-      sym (none_more w.clock.time);
+  time = sym (none_more w.clock.time);
   steps = sym (none_more w.clock.steps);
 }
 
@@ -275,11 +216,9 @@ uses_one o used slice slot u = begins ∙ one_more o
 
     one_more : (o : Option ℕ) → used_after o used slice slot - 1 + 1 ≡ used_after o used slice slot
     one_more None = refl
-    one_more (Some present) = by ((present == slot) && nat_lt used slice)
-      where
-        by : (b : Bool) → (if b then used + 1 else 1) - 1 + 1 ≡ (if b then used + 1 else 1)
-        by true = omega arith
-        by false = refl
+    one_more (Some present) =
+        cond_both ((present == slot) && nat_lt used slice) (used + 1) 1 (λ n. n - 1 + 1 ≡ n) (λ e. omega arith)
+        (λ e. refl)
 
 -- so both worlds go on in the same way
 same_round : (n slot : ℕ) (w : World) (r : Record) → w.clock.steps < STEP_LIMIT → next w ≡ Some (Run slot)
@@ -287,25 +226,15 @@ same_round : (n slot : ℕ) (w : World) (r : Record) → w.clock.steps < STEP_LI
     → (at_turn w slot).present.used < w.pace.slice → round (suc n) (at_turn w slot) ≡ round (suc n) w
 unfolding round carried_out
 same_round n slot w r below f g at u =
-    ap (on_choice (stays (at_turn w slot)) (λ c. runs_on (round n) (stepped (at_turn w slot) c))) g
-    ∙ ap (runs_on (round n)) same_step
-    ∙ sym (ap (on_choice (stays w) (λ c. runs_on (round n) (stepped w c))) f)
-  where
-    step_with : Turned → ℕ → Stepped
-    step_with t used =
-        record {
-          after =
-              record (after_turn_of w slot t) { present = record { slot = Some slot; used = used } };
-          labels =
-              turn_label slot w.clock.time t.told ∷ [];
-        }
-
-    same_step : stepped (at_turn w slot) (Run slot) ≡ stepped w (Run slot)
-    same_step =
-        stepped_ready (at_turn w slot) (Run slot) (run_ready (at_turn w slot) slot (turn_is_ready w slot f) below)
-        ∙ ap (ran (at_turn w slot) slot) at
-        ∙ ap (step_with (turned w.settings w.clock.time r)) (uses_one w.present.slot w.present.used w.pace.slice slot u)
-        ∙ sym (stepped_ready w (Run slot) (run_ready w slot (turn_is_ready w slot f) below) ∙ ap (ran w slot) at)
+    let can = turn_is_ready w slot f in
+    rw (
+      g,
+      f,
+      stepped_ready (at_turn w slot) (Run slot) (run_ready (at_turn w slot) slot can below),
+      stepped_ready w (Run slot) (run_ready w slot can below),
+      at,
+      uses_one w.present.slot w.present.used w.pace.slice slot u,
+    )
 
 pub round_is_stretch : RoundIsStretch
 unfolding after_instructions
@@ -335,28 +264,17 @@ stops (suc m) w f = ap (on_choice (stays w) (λ c. runs_on (round m) (stepped w 
 -- a run in two parts
 pub rounds_join : RoundsJoin
 unfolding round
-rounds_join zero m n w e = ap (λ (j : ℕ). round j w) (e ∙ none_first m)
-  where
-    none_first : (m : ℕ) → 0 + m ≡ m
-    none_first m = omega arith
+rounds_join zero m n w e = let same : n ≡ m = omega (arith, e) in ap (λ (j : ℕ). round j w) same
 rounds_join (suc k) m n w e =
-    ap (λ (j : ℕ). round j w) (e ∙ one_more k m) ∙ by_next (next w) refl (λ s. rounds_join k m (k + m) s.after refl)
-  where
-    one_more : (k m : ℕ) → suc k + m ≡ suc (k + m)
-    one_more k m = omega arith
-
-    by_next : (o : Option Choice) → next w ≡ o
-        → ((s : Stepped)
-        → round (k + m) s.after ≡ told_first (round k s.after).labels (round m (round k s.after).world))
-        → on_choice (stays w) (λ c. runs_on (round (k + m)) (stepped w c)) (next w)
-        ≡ (let first = on_choice (stays w) (λ c. runs_on (round k) (stepped w c)) (next w) in
-        told_first first.labels (round m first.world))
-    by_next None f later = rw f (sym (stops m w f))
-    by_next (Some c) f later =
-        let s = stepped w c in
-        rw f (ap (told_first s.labels) (later s)
-        ∙ ap (λ (ls : List Label). record { world = (round m (round k s.after).world).world; labels = ls })
-        (sym (append_assoc s.labels (round k s.after).labels (round m (round k s.after).world).labels)))
+    let more : n ≡ suc (k + m) = omega (arith, e) in
+    rw more (elim (cases_option (next w)) [
+      | inl none ↦ rw none (sym (stops m w none))
+      | inr c ↦
+          let s = stepped w c.0 in
+          rw c.1 (ap (told_first s.labels) (rounds_join k m (k + m) s.after refl)
+          ∙ ap (λ (ls : List Label). record { world = (round m (round k s.after).world).world; labels = ls })
+          (sym (append_assoc s.labels (round k s.after).labels (round m (round k s.after).world).labels)))
+    ])
 
 -- a stretch after another
 pub stretches_join : StretchesJoin
@@ -373,9 +291,6 @@ stretches_join k m n w v u e first second =
           (All-append IsQuietTurn (round k w).labels (round m v).labels first.quiet second.quiet);
       prints = ap printed labels ∙ flat_map-append _ (round k w).labels (round m v).labels
           ∙ ap₂ (λ (a b : List ℕ). a ++ b) first.prints second.prints;
-      time = second.time ∙ ap (λ (t : ℕ). t + m) first.time ∙ together (w.clock.time);
-      steps = second.steps ∙ ap (λ (t : ℕ). t + m) first.steps ∙ together (w.clock.steps);
+      time = second.time ∙ ap (λ (t : ℕ). t + m) first.time ∙ omega (arith, e);
+      steps = second.steps ∙ ap (λ (t : ℕ). t + m) first.steps ∙ omega (arith, e);
     }
-  where
-    together : (x : ℕ) → x + k + m ≡ x + n
-    together x = omega (arith, e)

@@ -6,7 +6,7 @@ use Rattle.tk_base.specs.Regs.{Registers}
 use Rattle.tk_base.specs.declared.call.CallRule.TheVariants.{Permission}
 use Rattle.grant_values.specs.Drivers.{number_of_driver}
 use Rattle.grant_values.specs.declared.drivers.Driver.{Driver}
-use Rattle.grant_values.specs.declared.drivers.Driver.TheVariants.{Alarm, Buttons, Console, Leds, Random, Storage}
+use Rattle.grant_values.specs.declared.drivers.Driver.TheVariants.{Alarm}
 use Rattle.rv32_model.specs.declared.turn_end.TurnEnd.{TurnEnd}
 use Rattle.rv32_model.specs.declared.turn_end.TurnEnd.TheVariants as ends
 use Rattle.rv32_model.specs.UserTurn.{MemoryAccess}
@@ -15,7 +15,7 @@ use Rattle.syscall_abi.specs.declared.form.CallForm.TheVariants as forms
 use Rattle.syscall_abi.specs.Call.{a0, call_of, class}
 use Rattle.process_model.specs.Own.{Own}
 use Rattle.process_record.specs.declared.process.State.{State}
-use Rattle.process_record.specs.declared.process.State.TheVariants.{Running, Yielded, Faulted, Terminated}
+use Rattle.process_record.specs.declared.process.State.TheVariants.{Running}
 use Rattle.board_devices.specs.Clock.{clock_at}
 use Rattle.driver_model.specs.Alarm.{alarm_driver}
 use Rattle.driver_model.specs.Commands.{Commanded}
@@ -40,11 +40,7 @@ blind n driver taker is apart around number a2 a3 own = handled IsBlind driver t
 
     by_driver : (d : Driver) → number_of_driver d ≡ driver → IsBlind (handler_by d)
     by_driver Alarm e = absurd (false≢true (sym apart ∙ eq-eqb driver alarm_driver (sym e)))
-    by_driver Console e = refl
-    by_driver Leds e = refl
-    by_driver Buttons e = refl
-    by_driver Random e = refl
-    by_driver Storage e = refl
+    by_driver d e = refl
 
 -- whether registers make a command to the alarm
 abbrev is_alarms : Registers → Bool
@@ -67,13 +63,10 @@ module _ (n : ℕ) (around : CommandContext) (r : Record) (none : is_alarms r.pr
   of_form : (form : CallForm) → call_of r.process.regs ≡ Some form
       → by_form (record around { now = n }) r form ≡ by_form around r form
   unfolding by_form
-  of_form (forms.Yield number a1 a2) is = refl
-  of_form (forms.Swap swap) is = refl
   of_form (forms.Command driver number a2 a3) is =
       of_taken driver number a2 a3 (handler_of driver) refl
       (made_as r.process.regs (forms.Command driver number a2 a3) is).1
-  of_form (forms.Memop operation argument) is = refl
-  of_form (forms.Exit kind code) is = refl
+  of_form form is = refl
 
   of_served : (strict : Bool) (call : CallForm) → call_of r.process.regs ≡ Some call
       → served strict (record around { now = n }) r call ≡ served strict around r call
@@ -98,18 +91,15 @@ module _ (settings : Settings) (start time other : ℕ) where
   of_end : (r : Record) (accesses : List MemoryAccess) (end : TurnEnd)
       → let t = at_turn_end settings time r accesses end in is_for_alarm t.told.call ≡ false
       → at_turn_end elsewhere other r accesses end ≡ t
-  of_end r accesses ends.Went none = refl
   of_end r accesses ends.Call none = of_calls r accesses (call_of r.process.regs) refl none
-  of_end r accesses (ends.Trap denial) none = refl
+  of_end r accesses end none = refl
 
   of_state : (state : State) (r : Record)
       → let t = turn_in settings time state r in is_for_alarm t.told.call ≡ false
       → turn_in elsewhere other state r ≡ t
   of_state Running r none =
       let t = instruction r in of_end (with_effect (turn_counted r) t) t.accesses t.end none
-  of_state Yielded r none = refl
-  of_state Faulted r none = refl
-  of_state (Terminated code) r none = refl
+  of_state state r none = refl
 
 pub time_comes_in_by_the_alarm : TimeComesInByTheAlarm
 unfolding turned

@@ -1,8 +1,11 @@
 -- The turns of a run by round robin are turns one after another, whatever comes between them: only a turn changes who
 -- is present, and every step leaves as many records and the pace. So the worlds before turns follow from where the run
 -- begins (`Follow`), by induction on its steps, and the scheduler's law speaks of each window of them.
+use Rattle.kernel_laws.proofs.Cases.{cases_option}
+use Rattle.std.proofs.lemmas.Bool.{cases_Bool}
+use Rattle.std.proofs.Common.{inl, inr}
 use Rattle.std.proofs.Common.{◌≡◌, ℕ, zero, suc, ◌≤◌, ◌<◌, Bool, true, false, cond, ◌&&◌, nat_lt, List, [], ◌∷◌, ◌++◌}
-use Rattle.std.proofs.Common.{length, map, filter, slice_get, slice_index_or, Option, None, Some, refl, sym, ap, ap₂}
+use Rattle.std.proofs.Common.{length, map, slice_get, slice_index_or, Option, None, Some, refl, sym, ap}
 use Rattle.std.proofs.Common.{subst, ◌∙◌, arith, not}
 use Rattle.std.specs.Prelude.{All}
 use Rattle.std.specs.Option.{option_map, option_or}
@@ -25,11 +28,9 @@ use Rattle.kernel_model.specs.World.{Pace, Present, Stepped, World, after, carri
 use Rattle.kernel_model.specs.Named.{can_run}
 use Rattle.kernel_model.specs.World.{is_let, may_be_made, only_at, only_in, ran}
 use Rattle.kernel_model.specs.Run.{may_go, next, ready_slots, situation_of}
-use Rattle.kernel_model.specs.Parts.{on_choice}
 use Rattle.kernel_model.specs.Replay.{chosen}
-use Rattle.kernel_laws.specs.Fairness.{HasTurnAmong, IsReadyIn, ReadyProcessesHaveTurns, chooses_turn, makes_turn}
+use Rattle.kernel_laws.specs.Fairness.{HasTurnAmong, IsReadyIn, ReadyProcessesHaveTurns, chooses_turn}
 use Rattle.kernel_laws.specs.Fairness.{turn_worlds}
-use Rattle.kernel_laws.specs.Fairness.{worlds}
 use Rattle.kernel_model.proofs.Places.{of_acted, of_stepped, of_world, stepped_else, stepped_ready}
 use Rattle.kernel_model.proofs.Told.{told_length}
 use Rattle.kernel_model.proofs.Runs.{going_is_let, going_is_ready, going_length, next_slot_ready, ready_runs}
@@ -74,11 +75,8 @@ turn_present : (w : World) (slot : ℕ) → can_run (slice_get w.records slot) �
 unfolding carried_out
 turn_present w slot can below =
     ap (λ (s : Stepped). s.after.present) (stepped_ready w (Run slot) (run_ready w slot can below))
-    ∙ by_record (slice_get w.records slot) can
-  where
-    by_record : (o : Option Record) → can_run o ≡ true → (ran w slot o).after.present ≡ present_after w slot
-    by_record None e = absurd (cc)
-    by_record (Some r) e = refl
+    ∙ (elim (slice_get w.records slot) as (λ o. can_run o ≡ true
+    → (ran w slot o).after.present ≡ present_after w slot) [ None ↦ λ e. absurd (cc) | Some r ↦ λ e. refl ]) can
 
 -- the round robin gives a turn to a process that may have one
 chosen_slot : (device : Option Dev) (q : Option ℕ) (at : Option ℕ) (pass : ℕ → ℕ) (slot : ℕ)
@@ -175,47 +173,29 @@ nothing_follows w = record { turns = tt; first = tt; each = All-nil (SameBoard w
 run_follows : (n : ℕ) (w : World) → Follow w (turn_worlds n w)
 unfolding chosen
 run_follows zero w = nothing_follows w
-run_follows (suc n) w = by_next (next w) refl (λ c. run_follows n (after w c))
+run_follows (suc n) w =
+    elim (cases_option (next w)) [
+      | inl none ↦ rw none (nothing_follows w)
+      | inr c ↦ rw c.1 (by_choice c.0 c.1 (run_follows n (after w c.0)))
+    ]
   where
-    is_no_turn : (o : Option Choice) → next w ≡ o → chooses_turn o ≡ false → makes_turn w ≡ false
-    is_no_turn o e none =
-        ap (λ (b : Bool). nat_lt w.clock.steps STEP_LIMIT && b) (ap chooses_turn e ∙ none)
-        ∙ and-false (nat_lt w.clock.steps STEP_LIMIT)
-
-    with_rest : (b : Bool) (rest : List World) → makes_turn w ≡ b → Follow w (cond b (w ∷ rest) rest)
-        → Follow w (cond (makes_turn w) (w ∷ rest) rest)
-    with_rest b rest e follow = subst (λ (c : Bool). Follow w (cond c (w ∷ rest) rest)) (sym e) follow
-
-    -- at the limit of steps no turn is made
-    by_limit : (slot : ℕ) (b : Bool) → nat_lt w.clock.steps STEP_LIMIT ≡ b → next w ≡ Some (Run slot)
-        → Follow (after w (Run slot)) (turn_worlds n (after w (Run slot)))
-        → let rest = turn_worlds n (after w (Run slot)) in Follow w (cond (makes_turn w) (w ∷ rest) rest)
-    by_limit slot true below e later =
-        let rest = turn_worlds n (after w (Run slot)) in
-        with_rest true rest (ap₂ (λ (b c : Bool). b && c) below (ap chooses_turn e))
-        (begins w slot rest e (grind (arith, nat_tests)) later)
-    by_limit slot false none e later =
-        let rest = turn_worlds n (after w (Run slot)) in
-        let stays : after w (Run slot) ≡ w =
-        ap (λ (s : Stepped). s.after) (stepped_else w (Run slot)
-        (ap (λ (b : Bool). b && may_be_made w (Run slot)) none)) in
-        with_rest false rest (ap (λ (b : Bool). b && chooses_turn (next w)) none)
-        (passes w (after w (Run slot)) rest (step_same w (Run slot)) (ap (λ (v : World). v.present) stays) later)
-
-    by_next : (o : Option Choice) → next w ≡ o → ((c : Choice) → Follow (after w c) (turn_worlds n (after w c)))
-        → Follow w (filter makes_turn (worlds w (on_choice [] (λ c. c ∷ chosen n (after w c)) o)))
-    by_next None e later = nothing_follows w
-    by_next (Some (Run slot)) e later = by_limit slot (nat_lt w.clock.steps STEP_LIMIT) refl e (later (Run slot))
-    by_next (Some (Device device)) e later =
-        let c = Device device in
-        let rest = turn_worlds n (after w c) in
-        with_rest false rest (is_no_turn (Some c) e refl)
-        (passes w (after w c) rest (step_same w c) (device_present w device) (later c))
-    by_next (Some (Pass ticks)) e later =
-        let c = Pass ticks in
-        let rest = turn_worlds n (after w c) in
-        with_rest false rest (is_no_turn (Some c) e refl)
-        (passes w (after w c) rest (step_same w c) (pass_present w ticks) (later c))
+    by_choice : (c : Choice) → next w ≡ Some c → Follow (after w c) (turn_worlds n (after w c))
+        → let rest = turn_worlds n (after w c) in
+        Follow w (cond (nat_lt w.clock.steps STEP_LIMIT && chooses_turn (next w)) (w ∷ rest) rest)
+    by_choice (Device device) e later =
+        rw (e, and-false (nat_lt w.clock.steps STEP_LIMIT))
+        (passes w (after w (Device device)) _ (step_same w (Device device)) (device_present w device) later)
+    by_choice (Pass ticks) e later =
+        rw (e, and-false (nat_lt w.clock.steps STEP_LIMIT))
+        (passes w (after w (Pass ticks)) _ (step_same w (Pass ticks)) (pass_present w ticks) later)
+    by_choice (Run slot) e later =
+        elim (cases_Bool (nat_lt w.clock.steps STEP_LIMIT)) [
+          | inl below ↦ rw (below, e) (begins w slot _ e (grind (arith, nat_tests)) later)
+          | inr none ↦
+              let stays = ap (λ (s : Stepped). s.after.present) (stepped_else w (Run slot)
+              (ap (λ (b : Bool). b && may_be_made w (Run slot)) none)) in
+              rw none (passes w (after w (Run slot)) _ (step_same w (Run slot)) stays later)
+        ]
 
 -- turns one after another are so from each of them on, and up to each
 turns_from : (vs us : List World) → AreTurns (map situation_of (vs ++ us)) → AreTurns (map situation_of us)
@@ -228,30 +208,23 @@ turns_from (v ∷ vs) us turns = turns_from vs us (rest_turns (situation_of v) (
 
 turns_up_to : (vs us : List World) → AreTurns (map situation_of (vs ++ us)) → AreTurns (map situation_of vs)
 turns_up_to [] us turns = tt
-turns_up_to (v ∷ []) us turns = by_rest us turns
-  where
-    by_rest : (us : List World) → AreTurns (situation_of v ∷ map situation_of us) → AreTurns (situation_of v ∷ [])
-    by_rest [] h = h
-    by_rest (u ∷ us) h = (h.0.0, h.0.1)
+turns_up_to (v ∷ []) [] turns = turns
+turns_up_to (v ∷ []) (u ∷ us) turns = (turns.0.0, turns.0.1)
 turns_up_to (v ∷ u ∷ vs) us turns = (turns.0, turns_up_to (u ∷ vs) us turns.1)
 
 -- so is what holds of each
-module _ (P : World → Type 0) where
-  each_from : (vs us : List World) → All P (vs ++ us) → All P us
-  each_from [] us each = each
-  each_from (v ∷ vs) us each = each_from vs us (All-tail P v (vs ++ us) each)
-
-  each_up_to : (vs us : List World) → All P (vs ++ us) → All P vs
-  each_up_to [] us each = All-nil P
-  each_up_to (v ∷ vs) us each =
-      All-cons P v vs (All-head P v (vs ++ us) each) (each_up_to vs us (All-tail P v (vs ++ us) each))
+pub split : {X : Type 0} (P : X → Type 0) (xs ys : List X) → All P (xs ++ ys) → All P xs × All P ys
+split P [] ys each = (All-nil P, each)
+split P (x ∷ xs) ys each =
+    let rest = split P xs ys (All-tail P x (xs ++ ys) each) in
+    (All-cons P x xs (All-head P x (xs ++ ys) each) rest.0, rest.1)
 
 -- a window of such turns
 in_window : (w : World) (earlier window later : List World) → Follow w (earlier ++ (window ++ later))
     → AreTurns (map situation_of window) × All (SameBoard w) window
 in_window w earlier window later follow = (
   turns_up_to window later (turns_from earlier (window ++ later) follow.turns),
-  each_up_to (SameBoard w) window later (each_from (SameBoard w) earlier (window ++ later) follow.each),
+  (split (SameBoard w) window later (split (SameBoard w) earlier (window ++ later) follow.each).1).0,
 )
 
 slot_ready : (records : List Record) (slot : ℕ) → can_run (slice_get records slot) ≡ true
@@ -263,10 +236,7 @@ slot_ready (r ∷ rs) (suc slot) e = slot_ready rs slot e
 -- what follows of each element by two things that hold of each
 all_by_both : {X : Type 0} (P Q R : X → Type 0) → ((x : X) → P x → Q x → R x) → (xs : List X) → All P xs → All Q xs
     → All R xs
-all_by_both P Q R both [] p q = All-nil R
-all_by_both P Q R both (x ∷ xs) p q =
-    All-cons R x xs (both x (All-head P x xs p) (All-head Q x xs q))
-    (all_by_both P Q R both xs (All-tail P x xs p) (All-tail Q x xs q))
+all_by_both P Q R both xs p q k d lt = both _ (p k d lt) (q k d lt)
 
 -- and without time partitions it is in the situation
 ready_plainly : (v : World) (slot : ℕ) → v.pace.window ≡ 0 → can_run (slice_get v.records slot) ≡ true

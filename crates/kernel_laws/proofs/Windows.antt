@@ -1,7 +1,10 @@
 -- With time partitions the next choice is that of the window. Of flags of one slot alone that slot is next, if its flag
 -- is set; a list by slots is read at that slot; and the nearest of all times and the window's end is the earliest of
 -- the parts. So each part of the world's choice is that of the lane.
-use Rattle.std.proofs.Common.{◌≡◌, ◌≤◌, ◌<◌, ℕ, zero, suc, ◌+◌, ◌-◌, min, Bool, true, false, cond}
+use Rattle.kernel_laws.proofs.Cases.{cases_option}
+use Rattle.std.proofs.lemmas.Bool.{cases_Bool}
+use Rattle.std.proofs.Common.{inl, inr}
+use Rattle.std.proofs.Common.{◌≡◌, ◌≤◌, ◌<◌, ℕ, zero, suc, ◌+◌, ◌-◌, Bool, true, false, cond}
 use Rattle.std.proofs.Common.{◌&&◌, nat_le, IsTrue, ◌||◌, if◌then◌else◌, List, [], ◌∷◌, map, find, slice_get}
 use Rattle.std.proofs.Common.{slice_index_or, is_some}
 use Rattle.std.proofs.Common.{Option, None, Some, refl, sym, ap, ap₂, ◌∙◌, arith, eqb-true}
@@ -12,7 +15,7 @@ use Rattle.std.proofs.lemmas.Bool.Decides.{nat_tests}
 use Rattle.tk_base.specs.declared.limits.TheConstants.{SLOT_COUNT}
 use Rattle.tk_base.specs.declared.process.Choice.TheVariants.{Run, Device, Pass}
 use Rattle.tk_base.specs.declared.process.Dev.{Dev}
-use Rattle.tk_base.specs.declared.process.Dev.TheVariants.{Event, Alarm, Uart, Receive, Random, Store}
+use Rattle.tk_base.specs.declared.process.Dev.TheVariants.{Event, Alarm, Uart}
 use Rattle.turn_scheduler.specs.RoundRobin.{choice, device_order, device_place, next_slot, ready_device}
 use Rattle.turn_scheduler.specs.Parts.{place_is_ready}
 use Rattle.partition_turns.specs.LanesView.{LanesView, alarm_time, lane_of, slot_is_ready, uart_time}
@@ -63,11 +66,7 @@ module _ (w : World) (slot : ℕ) (there : slot < SLOT_COUNT) where
 
   device_same : (device : Dev) → device_is_ready (lanes_in w) slot device ≡ (work_for w slot).ready device
   device_same Event = refl
-  device_same Alarm = ap (λ (lane : List Bool). slice_index_or lane 0 false) lane_is
-  device_same Uart = ap (λ (lane : List Bool). slice_index_or lane 1 false) lane_is
-  device_same Receive = ap (λ (lane : List Bool). slice_index_or lane 2 false) lane_is
-  device_same Random = ap (λ (lane : List Bool). slice_index_or lane 3 false) lane_is
-  device_same Store = ap (λ (lane : List Bool). slice_index_or lane 4 false) lane_is
+  device_same device = rw lane_is
 
   first_device : device_in_window (lanes_in w) slot ≡ ready_device (map (work_for w slot).ready device_order)
   unfolding device_in_window ready_device
@@ -79,11 +78,7 @@ module _ (w : World) (slot : ℕ) (there : slot < SLOT_COUNT) where
       at_place : (ready : Dev → Bool) (device : Dev)
           → ready device ≡ place_is_ready (map ready device_order) (device_place device)
       at_place ready Event = refl
-      at_place ready Alarm = refl
-      at_place ready Uart = refl
-      at_place ready Receive = refl
-      at_place ready Random = refl
-      at_place ready Store = refl
+      at_place ready device = refl
 
       same : (p q : Dev → Bool) (xs : List Dev) → ((x : Dev) → p x ≡ q x) → find p xs ≡ find q xs
       same p q [] each = refl
@@ -93,98 +88,77 @@ module _ (w : World) (slot : ℕ) (there : slot < SLOT_COUNT) where
 turn_same : (flags : List Bool) (slot : ℕ) (present : Option ℕ) (used slice : ℕ) → slot < SLOT_COUNT
     → next_slot (may_go (Some slot) flags) present used slice
     ≡ (if slice_index_or flags slot false then Some slot else None)
-turn_same flags slot present used slice there = by_flag (slice_index_or flags slot false) refl
-  where
-    table : List Bool
-    table = may_go (Some slot) flags
-
-    itself : is_let (Some slot) slot ≡ true
-    itself = grind (arith, nat_tests)
-
-    by_flag : (b : Bool) → slice_index_or flags slot false ≡ b
-        → next_slot table present used slice ≡ (if b then Some slot else None)
-    by_flag true e = by_next (next_slot table present used slice) refl
-      where
-        by_next : (o : Option ℕ) → next_slot table present used slice ≡ o → o ≡ Some slot
-        by_next None f = absurd (false≢true (sym (no_turn table present used slice slot f there)
+turn_same flags slot present used slice there =
+    let table = may_go (Some slot) flags in
+    let itself : is_let (Some slot) slot ≡ true = grind (arith, nat_tests) in
+    elim (cases_option (next_slot table present used slice)) [
+      | inl none ↦ elim (cases_Bool (slice_index_or flags slot false)) [
+        | inl e ↦
+            absurd (false≢true (sym (no_turn table present used slice slot none there)
             ∙ ready_goes (Some slot) flags slot itself e))
-        by_next (Some other) f =
-            ap Some (eqb-true other slot (going_is_let (Some slot) flags other
-            (next_slot_ready table present used slice other f)))
-    by_flag false e = by_next (next_slot table present used slice) refl
-      where
-        by_next : (o : Option ℕ) → next_slot table present used slice ≡ o → o ≡ None
-        by_next None f = refl
-        by_next (Some other) f =
-            let ready = next_slot_ready table present used slice other f in
-            let same = eqb-true other slot (going_is_let (Some slot) flags other ready) in
-            absurd (false≢true (sym e ∙ ap (λ (s : ℕ). slice_index_or flags s false) (sym same)
-            ∙ going_is_ready (Some slot) flags other ready))
+        | inr e ↦ rw (none, e)
+      ]
+      | inr other ↦
+          let ready = next_slot_ready table present used slice other.0 other.1 in
+          let same = eqb-true other.0 slot (going_is_let (Some slot) flags other.0 ready) in
+          let is = ap (λ (s : ℕ). slice_index_or flags s false) (sym same)
+          ∙ going_is_ready (Some slot) flags other.0 ready in
+          rw (other.1, is) (ap Some same)
+    ]
 
 -- the nearest of three times and of an end
 nearest : (a b c : Option ℕ) (end : ℕ)
     → nearer (nearer a (nearer b c)) (Some end) ≡ Some (earlier a (earlier b (earlier c end)))
 nearest None None None end = refl
-nearest None None (Some z) end = refl
 nearest None (Some y) None end = refl
-nearest None (Some y) (Some z) end = let same : min (min y z) end ≡ min y (min z end) = omega arith in ap Some same
 nearest (Some x) None None end = refl
-nearest (Some x) None (Some z) end = let same : min (min x z) end ≡ min x (min z end) = omega arith in ap Some same
-nearest (Some x) (Some y) None end = let same : min (min x y) end ≡ min x (min y end) = omega arith in ap Some same
-nearest (Some x) (Some y) (Some z) end =
-    let same : min (min x (min y z)) end ≡ min x (min y (min z end)) = omega arith in ap Some same
+nearest (Some x) (Some y) None end = ap Some (omega arith)
+nearest a b c end = ap Some (omega arith)
 
 ends_same : (w : World) (slot : ℕ) → slot < SLOT_COUNT
     → nearer (work_for w slot).next (Some (window_end w.clock.time w.pace.window))
     ≡ Some (passes_to_in (lanes_in w) slot)
 unfolding passes_to_in
 ends_same w slot there =
-    let end = window_end w.clock.time w.pace.window in
-    let event = first_arrival_time w.devices.arrivals in
-    nearest event (due_time w slot) (sending_time (Some slot) w.devices) end
-    ∙ ap₂ (λ (alarm uart : Option ℕ). Some (earlier event (earlier alarm (earlier uart end))))
-    (sym (alarm_is w slot there)) (sym (uart_is w slot there))
+    rw (alarm_is w slot there, uart_is w slot there)
+    (nearest (first_arrival_time w.devices.arrivals) (due_time w slot) (sending_time (Some slot) w.devices)
+    (window_end w.clock.time w.pace.window))
 
 -- whether anything is left, for a slot and for any
 is_none_nearer : (a b c : Option ℕ) → is_some (nearer a (nearer b c)) ≡ (is_some a || (is_some b || is_some c))
 is_none_nearer None None c = refl
 is_none_nearer None (Some y) None = refl
-is_none_nearer None (Some y) (Some z) = refl
 is_none_nearer (Some x) None None = refl
-is_none_nearer (Some x) None (Some z) = refl
 is_none_nearer (Some x) (Some y) None = refl
-is_none_nearer (Some x) (Some y) (Some z) = refl
+is_none_nearer a b c = refl
 
 left_slot : (w : World) (slot : ℕ) → slot < SLOT_COUNT
     → is_left_for w slot ≡ (can_run (slice_get w.records slot)
     || (is_some (device_in_window (lanes_in w) slot) || (is_some (first_arrival_time w.devices.arrivals)
     || (is_some (alarm_time (lanes_in w) slot) || is_some (uart_time (lanes_in w) slot)))))
 left_slot w slot there =
-    let event = first_arrival_time w.devices.arrivals in
-    ap₂ (λ (device : Option Dev) (next : Bool). can_run (slice_get w.records slot) || (is_some device || next))
-    (sym (first_device w slot there))
-    (is_none_nearer event (due_time w slot) (sending_time (Some slot) w.devices)
-    ∙ ap₂ (λ (alarm uart : Option ℕ). is_some event || (is_some alarm || is_some uart)) (sym (alarm_is w slot there))
-    (sym (uart_is w slot there)))
+    rw (
+      first_device w slot there,
+      alarm_is w slot there,
+      uart_is w slot there,
+      is_none_nearer (first_arrival_time w.devices.arrivals) (due_time w slot) (sending_time (Some slot) w.devices),
+    )
 
 -- nothing is left of these five exactly where nothing is of the one and the others
 none_of_five : (a b c d e : Bool) → (a || (b || (c || (d || e)))) ≡ false
     → (c ≡ false) × ((a || (b || (d || e))) ≡ false)
-none_of_five true b c d e f = absurd (false≢true (sym f))
-none_of_five false true c d e f = absurd (false≢true (sym f))
-none_of_five false false true d e f = absurd (false≢true (sym f))
 none_of_five false false false d e f = (refl, f)
+none_of_five a b c d e f = absurd (false≢true (sym f))
 
 none_of_all : (a b c d e : Bool) → c ≡ false → (a || (b || (d || e))) ≡ false → (a || (b || (c || (d || e)))) ≡ false
-none_of_all true b c d e f g = absurd (false≢true (sym g))
-none_of_all false true c d e f g = absurd (false≢true (sym g))
-none_of_all false false true d e f g = absurd (false≢true (sym f))
 none_of_all false false false d e f g = g
+none_of_all false false true d e f g = absurd (false≢true (sym f))
+none_of_all a b c d e f g = absurd (false≢true (sym g))
 
 same_bool : (a b : Bool) → (a ≡ false → b ≡ false) → (b ≡ false → a ≡ false) → a ≡ b
-same_bool true true f g = refl
 same_bool true false f g = g refl
 same_bool false true f g = sym (f refl)
+same_bool true true f g = refl
 same_bool false false f g = refl
 
 -- where nothing is found among the slots, no slot passes, and the other way round
@@ -211,17 +185,13 @@ left_same w =
     event : Option ℕ
     event = first_arrival_time w.devices.arrivals
 
-    flag_there : (slot : ℕ) → slot_is_ready l slot ≡ can_run (slice_get w.records slot)
-    flag_there slot = told_ready w.records slot
-
     none_of : (slot : ℕ) → slot < SLOT_COUNT → is_left_for w slot ≡ false
         → (is_some event ≡ false) × (is_left_in l slot ≡ false)
     none_of slot there none =
         let all = none_of_five (can_run (slice_get w.records slot)) (is_some (device_in_window l slot)) (is_some event)
         (is_some (alarm_time l slot)) (is_some (uart_time l slot)) (sym (left_slot w slot there) ∙ none) in (
           all.0,
-          ap (λ (b : Bool). b || (is_some (device_in_window l slot)
-              || (is_some (alarm_time l slot) || is_some (uart_time l slot)))) (flag_there slot) ∙ all.1,
+          rw (told_ready w.records slot) all.1,
         )
 
     none_there : is_some (find (is_left_for w) (range_with_len 0 SLOT_COUNT)) ≡ false
@@ -229,8 +199,7 @@ left_same w =
     none_there none =
         let each : (i : ℕ) → i < SLOT_COUNT → (is_some event ≡ false) × (is_left_in l i ≡ false) =
         λ i h. none_of i h (none_passes (is_left_for w) i none h) in
-        ap (λ (b : Bool). b || is_some (find (is_left_in l) (range_with_len 0 SLOT_COUNT))) (each 0 (omega arith)).0
-        ∙ none_is_found (is_left_in l) (λ i h. (each i h).1)
+        rw (each 0 (omega arith)).0 (none_is_found (is_left_in l) (λ i h. (each i h).1))
 
     none_here : (is_some event || is_some (find (is_left_in l) (range_with_len 0 SLOT_COUNT))) ≡ false
         → is_some (find (is_left_for w) (range_with_len 0 SLOT_COUNT)) ≡ false
@@ -239,9 +208,7 @@ left_same w =
         none_is_found (is_left_for w) (λ i h. left_slot w i h
         ∙ none_of_all (can_run (slice_get w.records i)) (is_some (device_in_window l i)) (is_some event)
         (is_some (alarm_time l i)) (is_some (uart_time l i)) both.0
-        (ap (λ (b : Bool). b || (is_some (device_in_window l i)
-        || (is_some (alarm_time l i) || is_some (uart_time l i)))) (sym (flag_there i))
-        ∙ none_passes (is_left_in l) i both.1 h))
+        (rw (← told_ready w.records i) (none_passes (is_left_in l) i both.1 h)))
 
 -- whose window it is, and how far time passes
 only_is : (time n : ℕ) → 1 ≤ n → only_at time n ≡ Some (window_slot time n)
@@ -288,15 +255,10 @@ next_is_of_the_window w some =
     passes_is w w.pace.window some
     ∙ ap₂ (λ (b : Bool) (x : Work). if b then nearer x.next (Some (window_end time w.pace.window)) else None)
     (left_same w) work in
-    ap₂ (λ (o : Option Dev) (q : Option ℕ). option_or (option_map Device o) (option_or (option_map Run q)
-    (option_map (λ at. Pass (at - time)) (passes_to w w.pace.window)))) device turn
-    ∙ ap (λ (at : Option ℕ). option_or (option_map Device (device_in_window l slot))
-    (option_or (option_map Run (if slot_is_ready l slot then Some slot else None))
-    (option_map (λ n. Pass (n - time)) at))) to
-    ∙ ap (option_or (option_map Device (device_in_window l slot)))
+    rw (device, turn, to) (ap (option_or (option_map Device (device_in_window l slot)))
     (turn_or (slot_is_ready l slot) (is_left_in_lanes l) slot
     (nearer (work_for w slot).next (Some (window_end time w.pace.window))) (passes_to_in l slot) time
-    (ends_same w slot there))
+    (ends_same w slot there)))
 
 -- what comes in lies ahead where its time has not come
 arrival_ahead : (time at : ℕ) (arrivals : List Arrival) → is_time time arrivals ≡ false
@@ -344,6 +306,4 @@ lanes_are_ahead law w some = by_device
     by_device Uart e at f =
         free_ahead (waits_in (Some slot) Writes w.devices) (line_in slot w.devices).free w.clock.time at
         (sym (device_same w slot there Uart) ∙ e) (sym (uart_is w slot there) ∙ f)
-    by_device Receive e at f = absurd (cc)
-    by_device Random e at f = absurd (cc)
-    by_device Store e at f = absurd (cc)
+    by_device device e at f = absurd (cc)

@@ -1,10 +1,11 @@
 -- Which random words the steps tell, and which are left: lane by lane, those told and then those left are those that
 -- there were. The source draws the next word of the lane that serves, and tells it; by the walk over devices nothing
 -- else draws one, and runs follow by induction on the choices.
+use Rattle.std.proofs.lemmas.Bool.{cases_Bool}
+use Rattle.std.proofs.Common.{inl, inr}
 use Rattle.std.proofs.Common.{◌≡◌, ◌≤◌, ℕ, zero, suc, ◌==◌, Bool, true, false, cond, List, [], ◌∷◌, ◌++◌}
 use Rattle.std.proofs.Common.{length, slice_get, slice_index_or, slice_set, IfSome, Option, None, Some, refl, sym, ap}
-use Rattle.std.proofs.Common.{ap₂}
-use Rattle.std.proofs.Common.{subst, ◌∙◌, arith, eqb-true, eq-eqb}
+use Rattle.std.proofs.Common.{◌∙◌, arith, eqb-true, eq-eqb}
 use Rattle.std.proofs.lemmas.Bool.{false≢true}
 use Rattle.std.proofs.lemmas.List.{get_or-set_other}
 use Rattle.std.proofs.lemmas.List.{append_assoc, append-nil}
@@ -91,39 +92,22 @@ module _ (tell : EventsTellSteps) (w : World) (lane : ℕ) where
   -- a word is drawn in the lane that serves, and in no other
   draws : (slot : ℕ) (r : Record) → served_by w dev.Random ≡ Some slot
       → DrawsInOrder (one_answered w slot r (random_step (lane_in w) w.devices slot r))
-  draws slot r first = by_lane (lane_by (only_for w.pace.window slot) == lane) refl
-    where
-      here : lane_by (only_for w.pace.window slot) ≡ lane_in w
-      here = served_here w.clock.time w.pace.window slot (slots_in Randoms w.devices.waiting) first
-
-      words : List ℕ
-      words = words_in (lane_in w) w.devices
-
-      drawn : Option ℕ
-      drawn = (random.answered (slice_get words 0) r.own).moved
-
-      label : Label
-      label = answer_label slot (record { event = drawn_event drawn; printed = [] })
-
-      left : List (List ℕ)
-      left = slice_set w.devices.words (lane_in w) (random.words_after drawn words)
-
-      left_here : slice_index_or left (lane_in w) [] ≡ random.words_after drawn words
-      left_here = put_there w.devices.words (lane_in w) (random.words_after drawn words)
-          (λ h. ap (random.words_after drawn) (none_there w.devices.words (lane_in w) h) ∙ none_after drawn)
-
-      by_lane : (b : Bool) → (lane_by (only_for w.pace.window slot) == lane) ≡ b
-          → words_in lane w.devices ≡ words_told (cond b (label ∷ []) []) ++ slice_index_or left lane []
-      by_lane true is =
-          let same : lane ≡ lane_in w = sym (eqb-true (lane_by (only_for w.pace.window slot)) lane is) ∙ here in
-          subst (λ (l : ℕ). words_in l w.devices ≡ (drawn_in (drawn_event drawn) ++ []) ++ slice_index_or left l [])
-          (sym same)
-          (drawn_is words drawn (tell.drawn (slice_get words 0) r.own)
-          ∙ ap₂ (λ (told rest : List ℕ). told ++ rest) (sym (append-nil (drawn_in (drawn_event drawn))))
-          (sym left_here))
-      by_lane false is =
-          sym (get_or-set_other w.devices.words (lane_in w) lane (random.words_after drawn words) []
-          (λ same. false≢true (sym is ∙ eq-eqb (lane_by (only_for w.pace.window slot)) lane (here ∙ sym same))))
+  draws slot r first =
+      let here = served_here w.clock.time w.pace.window slot (slots_in Randoms w.devices.waiting) first in
+      let words = words_in (lane_in w) w.devices in
+      let drawn = (random.answered (slice_get words 0) r.own).moved in
+      let after = random.words_after drawn words in
+      let left_here = put_there w.devices.words (lane_in w) after
+      (λ h. ap (random.words_after drawn) (none_there w.devices.words (lane_in w) h) ∙ none_after drawn) in
+      elim (cases_Bool (lane_by (only_for w.pace.window slot) == lane)) [
+        | inl is ↦
+            let same : lane ≡ lane_in w = sym (eqb-true (lane_by (only_for w.pace.window slot)) lane is) ∙ here in
+            rw (is, same, append-nil (drawn_in (drawn_event drawn)), left_here)
+            (drawn_is words drawn (tell.drawn (slice_get words 0) r.own))
+        | inr is ↦
+            rw is (sym (get_or-set_other w.devices.words (lane_in w) lane after []
+            (λ same. false≢true (sym is ∙ eq-eqb (lane_by (only_for w.pace.window slot)) lane (here ∙ sym same)))))
+      ]
 
   edges : (button : ℕ) (pressed : Bool) (rest : List Arrival)
       → DrawsInOrder (edge_done w button pressed (with_rest w.devices rest))
@@ -153,14 +137,14 @@ module _ (tell : EventsTellSteps) (w : World) (lane : ℕ) where
 
   choice_draws : (choice : Choice) → DrawsInOrder (carried_out w choice)
   unfolding carried_out
-  choice_draws (Run slot) = by_record (slice_get w.records slot)
-    where
-      by_record : (o : Option Record) → DrawsInOrder (ran w slot o)
-      by_record None = refl
-      by_record (Some r) =
-          let t = turned w.settings w.clock.time r in
-          quietly (turn_label slot w.clock.time t.told) (routed slot t.acts w.devices) refl
-          (routed_words slot t.acts w.devices)
+  choice_draws (Run slot) =
+      elim (slice_get w.records slot) as (λ o. DrawsInOrder (ran w slot o)) [
+        | None ↦ refl
+        | Some r ↦
+            let t = turned w.settings w.clock.time r in
+            quietly (turn_label slot w.clock.time t.told) (routed slot t.acts w.devices) refl
+            (routed_words slot t.acts w.devices)
+      ]
   choice_draws (Device device) = deed_draws device
   choice_draws (Pass ticks) = refl
 
@@ -174,7 +158,8 @@ words_are_drawn_in_order tell w (choice ∷ choices) lane =
     let first = words_told (of_lane w.pace.window lane (labels w choice)) in
     let later = words_told (of_lane v.pace.window lane (labels_of_all v choices)) in
     let left = words_in lane (after_all v choices).devices in
-    step_draws tell w lane choice
-    ∙ ap (λ (words : List ℕ). first ++ words) (words_are_drawn_in_order tell v choices lane)
-    ∙ sym (append_assoc first later left)
-    ∙ ap (λ (words : List ℕ). words ++ left) (sym (lane_joined word_told w choice choices lane))
+    rw (
+      lane_joined word_told w choice choices lane,
+      append_assoc first later left,
+      ← words_are_drawn_in_order tell v choices lane,
+    ) (step_draws tell w lane choice)

@@ -33,9 +33,9 @@ use Rattle.kernel_model.specs.Record.{Record}
 use Rattle.kernel_model.specs.Turn.{apply, turned}
 use Rattle.kernel_model.specs.Worked.{board}
 use Rattle.kernel_model.specs.World.{World, after, carried_out, labels, may_be_made, stepped, with_queue}
-use Rattle.std.proofs.Common.{◌≡◌, ◌⊎◌, inl, inr, ◌<◌, ◌≤◌, ℕ, zero, suc, ◌+◌, ◌-◌, ◌%◌, ◌^◌, List, [], ◌∷◌, None}
+use Rattle.std.proofs.Common.{◌≡◌, inl, inr, ◌<◌, ◌≤◌, ℕ, zero, suc, ◌+◌, ◌-◌, ◌^◌, List, [], ◌∷◌, None}
 use Rattle.std.proofs.Common.{Option, Some}
-use Rattle.std.proofs.Common.{replicate, slice_index_or, true, false, sym, ap, subst, refl, arith}
+use Rattle.std.proofs.Common.{replicate, slice_index_or, true, sym, ap, subst, refl, arith}
 use Rattle.std.proofs.Common.{◌∙◌}
 use Rattle.std.specs.List.{Any}
 use Rattle.std.proofs.lemmas.Bool.{true≢false}
@@ -44,7 +44,6 @@ use Rattle.tk_base.specs.declared.call.CallRule.{CallRule}
 use Rattle.tk_base.specs.declared.upcall.Upcall.{Upcall as Scheduled}
 use Rattle.tk_base.specs.declared.upcall.Wait.TheVariants.{For, Given}
 use Rattle.upcall_queue.specs.declared.inbox.Inbox.{Inbox}
-use Rattle.syscall_abi.specs.Reply.{with_words}
 use Rattle.grant_values.specs.declared.alarm.Armed.{Armed}
 use Rattle.grant_values.specs.declared.console.WaitingWrite.{WaitingWrite}
 use Rattle.grant_values.specs.declared.storage.StorageRequest.{StorageRequest}
@@ -63,7 +62,7 @@ use Rattle.kernel_laws.specs.Alarms.{IsDue, IsLeastLeft}
 use Rattle.kernel_laws.specs.Devices.{ChangesItsOwn, SpeaksSo}
 use Rattle.kernel_laws.specs.Inputs.{HasRoom, IsTheLast, KeepsInput}
 use Rattle.kernel_model.specs.Choices.{Throughout}
-use Rattle.kernel_model.specs.Turn.{Input, Taken, Word, WriteDone}
+use Rattle.kernel_model.specs.Turn.{Input, Word}
 use Rattle.kernel_model.specs.World.{Devices}
 use Rattle.board_devices.specs.SerialLine.{line_at}
 use Rattle.std.proofs.Common.{◌++◌}
@@ -71,11 +70,10 @@ use Rattle.std.proofs.lemmas.List.Elements.{All-cons, All-head, All-nil}
 use Rattle.kernel_laws.specs.Arming.{SetsAlarm, SetsBy, SetsButtons}
 use Rattle.kernel_laws.specs.OneRun.{NothingIsLeft}
 use Rattle.kernel_laws.specs.Passes.{NoneIsReadyBefore}
-use Rattle.tk_base.specs.Bits.{with_bit}
 use Rattle.kernel_laws.specs.Asking.{GoesOnAs, IsAskedBy, IsOfCommand}
 use Rattle.kernel_laws.specs.Delivered.{RunsFunction, StandsBehind}
-use Rattle.kernel_laws.specs.Queues.{ChangesByOne, IsOfFirst, JoinsOrLeaves}
-use Rattle.kernel_laws.specs.Ready.{HasDue, IsOfReady, MayHaveTurn}
+use Rattle.kernel_laws.specs.Queues.{ChangesByOne, IsOfFirst}
+use Rattle.kernel_laws.specs.Ready.{IsOfReady, MayHaveTurn}
 use Rattle.kernel_laws.specs.Replies.{CallIsSeen, ChangesByRefusal, ReplyStands, TellsItsCall}
 use Rattle.tk_base.specs.declared.call.CallRule.TheVariants.{Break}
 use Rattle.upcall_queue.specs.declared.inbox.Delivery.TheVariants.{Function}
@@ -88,13 +86,10 @@ use Rattle.kernel_laws.proofs.Delivered.{runs_function}
 use Rattle.kernel_laws.proofs.Registers.{words_beside}
 use Rattle.kernel_laws.proofs.Replies.{changes}
 use Rattle.std.proofs.lemmas.Bool.Decides.{nat_tests}
-use Rattle.tk_base.specs.declared.process.Dev.{Dev}
 use Rattle.upcall_queue.specs.declared.inbox.Delivery.TheVariants.{Arguments}
 use Rattle.driver_model.specs.Alarm.{due_slot, ticks_left_in}
-use Rattle.grant_model.specs.Grants.{Grant}
 use Rattle.process_record.specs.Process.{is_alive}
 use Rattle.tk_base.specs.declared.limits.TheConstants.{SLOT_COUNT}
-use Rattle.kernel_laws.specs.OneRun.{work_with}
 use Rattle.kernel_laws.specs.Delivered.{HasArguments}
 use Rattle.kernel_laws.proofs.Delivered.{has_arguments}
 use Rattle.kernel_laws.specs.Arming.{AreSetByCommands, Becomes, CommandSets}
@@ -133,11 +128,7 @@ one_leaves = inr (0, _, omega arith, refl, inr refl)
 
 none_comes_first : ChangesByOne (named 0 ∷ []) (1 ∷ []) (0 ∷ 1 ∷ []) → ⊥
 none_comes_first (inl same) = cc
-none_comes_first (inr one) = by_move (only_one _ (named 0) one)
-  where
-    by_move : JoinsOrLeaves 0 (1 ∷ []) (0 ∷ 1 ∷ []) → ⊥
-    by_move (inl last) = cc
-    by_move (inr gone) = cc
+none_comes_first (inr one) = elim (only_one _ (named 0) one) [ inl last ↦ cc | inr gone ↦ cc ]
 
 -- A turn: of a process that runs; a kernel that gives one to a process which is held, or to one that has yielded and to
 -- which nothing is due.
@@ -148,12 +139,12 @@ none_held : MayHaveTurn (record (calls 0 0 0) { process = record (calls 0 0 0).p
 none_held may = true≢false may.free
 
 none_undue : MayHaveTurn (record (calls 0 0 0) { process = record (calls 0 0 0).process { state = Yielded } }) → ⊥
-none_undue may = by_state may.state
-  where
-    by_state : (Yielded ≡ Running) ⊎ ((Yielded ≡ Yielded) × HasDue (calls 0 0 0).own.inbox) → ⊥
-    by_state (inl same) = cc
-    by_state (inr (e, inl due)) = omega (arith, due.1)
-    by_state (inr (e, inr given)) = let is = given.1 in cc
+none_undue may =
+    elim may.state [
+      | inl same ↦ cc
+      | inr (e, inl due) ↦ omega (arith, due.1)
+      | inr (e, inr given) ↦ let is = given.1 in cc
+    ]
 
 -- An alarm that was armed at 0 for 5 ticks: it is due at 5; a kernel that fires it at 4.
 abbrev armed : Record
@@ -167,15 +158,13 @@ due_at_five =
 
 none_early : IsDue 4 armed → ⊥
 unfolding counts_of drivers shape_of
-none_early due = by_alarm due.alarm due.armed due.passed
-  where
-    by_alarm : (a : Armed) → ◌≡◌ {A = Option Armed} (Some (record { reference = 0; delta = 5 })) (Some a)
-        → a.delta ≤ (4 + (2 ^ 32 - a.reference)) % 2 ^ 32 → ⊥
-    by_alarm a is passed =
-        let same : record { reference = 0; delta = 5 } ≡ a = cc in
-        let five : 5 ≡ a.delta = ap (λ (x : Armed). x.delta) same in
-        let zero_is : 0 ≡ a.reference = ap (λ (x : Armed). x.reference) same in
-        omega (arith, passed, five, zero_is)
+none_early due =
+    let is : ◌≡◌ {A = Option Armed} (Some (record { reference = 0; delta = 5 })) (Some due.alarm) = due.armed in
+    let same : record { reference = 0; delta = 5 } ≡ due.alarm = cc in
+    let five : 5 ≡ due.alarm.delta = ap (λ (x : Armed). x.delta) same in
+    let zero_is : 0 ≡ due.alarm.reference = ap (λ (x : Armed). x.reference) same in
+    let passed = due.passed in
+    omega (arith, passed, five, zero_is)
 
 -- A reply: memop 2 is answered by where the block starts; a kernel that tells that, and leaves the registers.
 abbrev told_start : CallMade
@@ -191,25 +180,18 @@ start_stands = record {
   third = refl;
   fourth = refl;
   pc = refl;
-  others = beside;
+  others = λ n out. words_beside 10 (129 ∷ RAM_START ∷ []) (asks 2 0).process.regs n (elim out [
+    | inl below ↦ inl below
+    | inr past ↦ inr (omega (arith, past))
+  ]);
 }
-  where
-    beside : (n : ℕ) → (n < 10) ⊎ (13 < n)
-        → register (with_words 10 (129 ∷ RAM_START ∷ []) (asks 2 0).process.regs) n
-        ≡ register (asks 2 0).process.regs n
-    beside n (inl below) = words_beside 10 (129 ∷ RAM_START ∷ []) (asks 2 0).process.regs n (inl below)
-    beside n (inr past) =
-        words_beside 10 (129 ∷ RAM_START ∷ []) (asks 2 0).process.regs n (inr (omega (arith, past)))
 
 none_only_told : CallIsSeen (asks 2 0) (asks 2 0) told_start → ⊥
 none_only_told seen = let first = (seen.reply 129 RAM_START 0 0 refl).first in omega (arith, first)
 
 -- nor may it be that of other arguments than its process's
 none_of_others : CallIsSeen (asks 3 0) (turn_of (asks 3 0)).after told_start → ⊥
-none_of_others seen = let args = seen.args in by_first args
-  where
-    by_first : ◌≡◌ {A = List ℕ} (2 ∷ 0 ∷ 0 ∷ 0 ∷ []) (3 ∷ 0 ∷ 0 ∷ 0 ∷ []) → ⊥
-    by_first e = cc
+none_of_others seen = let args : ◌≡◌ {A = List ℕ} (2 ∷ 0 ∷ 0 ∷ 0 ∷ []) (3 ∷ 0 ∷ 0 ∷ 0 ∷ []) = seen.args in cc
 
 -- A refusal, of a break 4 bytes below the block; a kernel that drops an upcall beside it.
 refused_so : let r = asks 1 (2 ^ 32 - 12) in
@@ -252,11 +234,11 @@ none_for_more (inr (none, asked)) =
 none_writes : IsOfCommand Stores None (Some (commands (0x50001 ∷ 2 ∷ 0 ∷ 4 ∷ [])))
     (record { kind = Write; offset = 0; length = 4 }) → ⊥
 none_writes (inl waits) = cc
-none_writes (inr (none, asked)) = by_kind asked.asks
-  where
-    by_kind : IsAskedBy Stores (record { kind = Write; offset = 0; length = 4 }) (0x50001 ∷ 2 ∷ 0 ∷ 4 ∷ []) → ⊥
-    by_kind (inl reading) = let kind = ap (λ (q : StorageRequest). q.kind) reading.1 in cc
-    by_kind (inr writing) = let number = writing.0.1 in omega (arith, number)
+none_writes (inr (none, asked)) =
+    elim asked.asks [
+      | inl reading ↦ let kind = ap (λ (q : StorageRequest). q.kind) reading.1 in cc
+      | inr writing ↦ let number = writing.0.1 in omega (arith, number)
+    ]
 
 -- while it waits more is taken of it; a kernel whose device shortens it
 more_taken : GoesOnAs Writes (record { length = 7; taken = 0 }) (record { length = 7; taken = 2 })
@@ -275,20 +257,15 @@ none_loses_newest last =
     let newest : 1 ≡ 2 = ap (λ (bytes : List ℕ). slice_index_or bytes 255 0) last.is in omega (arith, newest)
 
 none_reads_the_middle : IsTheLast (5 ∷ 6 ∷ []) [] (6 ∷ []) (5 ∷ []) → ⊥
-none_reads_the_middle last = by_first last.is
-  where
-    by_first : ◌≡◌ {A = List ℕ} (6 ∷ 5 ∷ []) (5 ∷ 6 ∷ []) → ⊥
-    by_first same = cc
+none_reads_the_middle last = let is : ◌≡◌ {A = List ℕ} (6 ∷ 5 ∷ []) (5 ∷ 6 ∷ []) = last.is in cc
 
 -- Of two bytes that stood in a ring one was read; a kernel that reads the later one first.
 one_is_read : KeepsInput (1 ∷ 2 ∷ []) [] (1 ∷ []) (2 ∷ []) (Throughout (HasRoom 0) reads [])
 one_is_read = record { kept = inr (2 ∷ [], (refl, inr ([], (refl, refl)))); whole = λ roomy. refl }
 
 none_reads_later_first : KeepsInput (1 ∷ 2 ∷ []) [] (2 ∷ []) (1 ∷ []) (Throughout (HasRoom 0) reads []) → ⊥
-none_reads_later_first keeps = by_first (keeps.whole tt)
-  where
-    by_first : ◌≡◌ {A = List ℕ} (2 ∷ 1 ∷ []) (1 ∷ 2 ∷ []) → ⊥
-    by_first same = cc
+none_reads_later_first keeps =
+    let whole : ◌≡◌ {A = List ℕ} (2 ∷ 1 ∷ []) (1 ∷ 2 ∷ []) = keeps.whole tt in cc
 
 -- A device: a word that is drawn is told as one, and taken off those that are left; a UART that tells of input, and a
 -- word for which a ring is emptied.
@@ -302,20 +279,15 @@ draws_alone = record {
 
 none_tells_input : (w v : World) → ChangesItsOwn dev.Uart w v (record (named 0) { event = Input [] } ∷ []) → ⊥
 none_tells_input w v changes =
-    by_event
-    (All-head (λ label. SpeaksSo dev.Uart label.event) (record (named 0) { event = Input [] }) [] changes.speaks)
-  where
-    by_event : (Input [] ≡ Taken) ⊎ (Input [] ≡ WriteDone) → ⊥
-    by_event (inl taken) = cc
-    by_event (inr written) = cc
+    elim (All-head (λ label. SpeaksSo dev.Uart label.event) (record (named 0) { event = Input [] }) [] changes.speaks)
+    [ inl taken ↦ cc | inr written ↦ cc ]
 
 none_empties_ring : (v : World) → (line_at 0 v.devices.lines).ring ≡ [] → ChangesItsOwn dev.Random reads v [] → ⊥
 unfolding reads
 none_empties_ring v empty changes =
-    by_ring (sym empty ∙ ap (λ (d : Devices). (line_at 0 d.lines).ring) changes.devices)
-  where
-    by_ring : ◌≡◌ {A = List ℕ} [] (5 ∷ 6 ∷ 7 ∷ []) → ⊥
-    by_ring same = cc
+    let ring : ◌≡◌ {A = List ℕ} [] (5 ∷ 6 ∷ 7 ∷ []) =
+    sym empty ∙ ap (λ (d : Devices). (line_at 0 d.lines).ring) changes.devices in
+    cc
 
 -- A byte of the storage, past what the buffer reaches that is held: the request is for two bytes, the buffer has one.
 abbrev holds_one : Record
@@ -373,29 +345,25 @@ arms_so = record { class = refl; accepted = refl; sets = (refl, inr (inl (refl, 
 
 none_arms_at_once : SetsBy SetsAlarm 4 None (Some (record { reference = 4; delta = 0 }))
     (commands (0 ∷ 5 ∷ 9 ∷ 0 ∷ [])) → ⊥
-none_arms_at_once set = by_number set.sets.1
+none_arms_at_once set =
+    elim set.sets.1 [
+      | inl three ↦ let n = three.0 in omega (arith, n)
+      | inr (inl five) ↦
+          some_delta (record { reference = 4; delta = 0 }) (record { reference = 4; delta = 9 }) five.1 refl refl
+      | inr (inr six) ↦ let n = six.0 in omega (arith, n)
+    ]
   where
-    by_number : ((◌≡◌ {A = ℕ} 5 3) × (◌≡◌ {A = Option Armed} (Some (record { reference = 4; delta = 0 })) None))
-        ⊎ (((◌≡◌ {A = ℕ} 5 5) × (◌≡◌ {A = Option Armed} (Some (record { reference = 4; delta = 0 }))
-        (Some (record { reference = 4; delta = 9 }))))
-        ⊎ ((◌≡◌ {A = ℕ} 5 6) × (◌≡◌ {A = Option Armed} (Some (record { reference = 4; delta = 0 }))
-        (Some (record { reference = 9; delta = 0 }))))) → ⊥
-    by_number (inl three) = let n = three.0 in omega (arith, n)
-    by_number (inr (inl five)) =
-        some_delta (record { reference = 4; delta = 0 }) (record { reference = 4; delta = 9 }) five.1 refl refl
-      where
-        some_delta : (a b : Armed) → Some a ≡ Some b → a.delta ≡ 0 → b.delta ≡ 9 → ⊥
-        some_delta a b e zero_is nine = let same : a ≡ b = cc in
-            let delta : a.delta ≡ b.delta = ap (λ (x : Armed). x.delta) same in omega (arith, delta, zero_is, nine)
-    by_number (inr (inr six)) = let n = six.0 in omega (arith, n)
+    some_delta : (a b : Armed) → Some a ≡ Some b → a.delta ≡ 0 → b.delta ≡ 9 → ⊥
+    some_delta a b e zero_is nine = let same : a ≡ b = cc in
+        let delta : a.delta ≡ b.delta = ap (λ (x : Armed). x.delta) same in omega (arith, delta, zero_is, nine)
 
 -- Command 2 of the buttons; it does not set that the process is told of the button still.
 none_disables_nothing : SetsBy SetsButtons 0 1 1 (commands (3 ∷ 2 ∷ 0 ∷ 0 ∷ [])) → ⊥
-none_disables_nothing set = by_number set.sets.1
-  where
-    by_number : ((◌≡◌ {A = ℕ} 2 1) × (1 ≡ with_bit 1 0 true)) ⊎ ((◌≡◌ {A = ℕ} 2 2) × (1 ≡ with_bit 1 0 false)) → ⊥
-    by_number (inl one) = let n = one.0 in omega (arith, n)
-    by_number (inr two) = let mask = two.1 in omega (arith, mask)
+none_disables_nothing set =
+    elim set.sets.1 [
+      | inl one ↦ let n = one.0 in omega (arith, n)
+      | inr two ↦ let mask = two.1 in omega (arith, mask)
+    ]
 
 -- An exit with 1; a kernel that ends the process instead, whose restarts stay.
 none_ends : (r s : Record) → s.process.restarts ≡ r.process.restarts → HasStartedAgain r s → ⊥
@@ -409,17 +377,13 @@ starts_again = record { restarts = refl; life = refl; state = refl }
 passes_three : NoneIsReadyBefore arrives_at_three 3
 unfolding due_slot
 passes_three later dev.Event below = grind (arith, nat_tests)
-passes_three later dev.Alarm below = refl
-passes_three later dev.Uart below = refl
-passes_three later dev.Receive below = refl
-passes_three later dev.Random below = refl
-passes_three later dev.Store below = refl
+passes_three later device below = refl
 
 nothing_left : NothingIsLeft (board 1 [])
 unfolding due_slot
 nothing_left = record {
   slots = λ slot. refl;
-  devices = λ slot below. none_ready;
+  devices = λ slot below. elim [ dev.Event ↦ refl | _ ↦ refl ];
   arrivals = refl;
   alarms = λ slot. tt;
   writes = λ slot below. refl;
@@ -427,14 +391,6 @@ nothing_left = record {
   randoms = λ slot below. refl;
   stores = λ slot below. refl;
 }
-  where
-    none_ready : (device : Dev) → (work_with (board 1 []) 0).ready device ≡ false
-    none_ready dev.Event = refl
-    none_ready dev.Alarm = refl
-    none_ready dev.Uart = refl
-    none_ready dev.Receive = refl
-    none_ready dev.Random = refl
-    none_ready dev.Store = refl
 
 disables : SetsBy SetsButtons 0 1 0 (commands (3 ∷ 2 ∷ 0 ∷ 0 ∷ []))
 disables = record { class = refl; accepted = refl; sets = (refl, inr (refl, refl)) }
@@ -463,12 +419,12 @@ stopped = record armed { own = alarm.with_alarm None armed.own }
 
 none_stops_alone : AreSetByCommands 4 armed stopped untraced → ⊥
 unfolding counts_of drivers shape_of
-none_stops_alone set = by_alarm set.alarm
-  where
-    by_alarm : Becomes SetsAlarm None 4 untraced armed stopped (Some (record { reference = 0; delta = 5 })) None → ⊥
-    by_alarm (inl same) = cc
-    by_alarm (inr (inl set)) = set
-    by_alarm (inr (inr again)) = let life = again.0 in omega (arith, life)
+none_stops_alone set =
+    elim set.alarm [
+      | inl same ↦ let is : ◌≡◌ {A = Option Armed} None (Some (record { reference = 0; delta = 5 })) = same in cc
+      | inr (inl sets) ↦ sets
+      | inr (inr again) ↦ let life = again.0 in omega (arith, life)
+    ]
 
 -- A read that waits, and a button that is pressed; a kernel that takes the read away then.
 abbrev reads_two : Record
@@ -523,11 +479,11 @@ seven_wait = record {
     by_queue Writes request asked = ap Some (sym asked.1)
     by_queue Reads request asked = absurd (omega (arith, asked.0.1))
     by_queue Randoms request asked = absurd (omega (arith, asked.0.0))
-    by_queue Stores request asked = absurd (no_storage request asked)
-      where
-        no_storage : (request : StorageRequest) → IsAskedBy Stores request (1 ∷ 1 ∷ 7 ∷ 0 ∷ []) → ⊥
-        no_storage request (inl reading) = omega (arith, reading.0.1)
-        no_storage request (inr writing) = omega (arith, writing.0.1)
+    by_queue Stores request asked =
+        elim asked [
+          | inl reading ↦ absurd (omega (arith, reading.0.1))
+          | inr writing ↦ absurd (omega (arith, writing.0.1))
+        ]
 
 none_forgets : CommandAsks (calls 0 0 0) (calls 0 0 0) (commands (1 ∷ 1 ∷ 7 ∷ 0 ∷ [])) → ⊥
 none_forgets asks =
@@ -582,10 +538,8 @@ abbrev stored_to : ℕ → Label
 stored_to slot = record { slot = slot; event = Stored true; trace = untraced; printed = [] }
 
 first_is_told : IsOfFirst two_wait (stored_to 0)
-first_is_told Writes is = absurd (cc)
-first_is_told Reads is = absurd (cc)
-first_is_told Randoms is = absurd (cc)
 first_is_told Stores is = refl
+first_is_told queue is = absurd (cc)
 
 none_of_second : IsOfFirst two_wait (stored_to 1) → ⊥
 none_of_second first = let same : ◌≡◌ {A = Option ℕ} (Some 0) (Some 1) = first Stores refl in
@@ -658,8 +612,7 @@ none_moved r s moved lies = let start = lies.start in omega (arith, moved, start
 
 alone_apart : BlocksAreApart (board 1 (calls 0 0 0 ∷ []))
 alone_apart zero zero r s apart is there = absurd (apart refl)
-alone_apart zero (suc j) r s apart is there = absurd (cc)
-alone_apart (suc i) j r s apart is there = absurd (cc)
+alone_apart i j r s apart is there = absurd (cc)
 
 none_overlap : BlocksAreApart (board 1 (calls 0 0 0 ∷ calls 0 0 0 ∷ [])) → ⊥
 none_overlap apart =
@@ -671,10 +624,7 @@ at_first_so = refl
 
 none_keeps_grants : IsAsAtFirst (calls 0 0 0) armed → ⊥
 unfolding counts_of drivers shape_of
-none_keeps_grants first = by_grants (ap (λ (r : Record). r.own.grants) first)
-  where
-    by_grants : {x : Grant} {xs : List Grant} → ◌≡◌ {A = List Grant} (x ∷ xs) [] → ⊥
-    by_grants e = cc
+none_keeps_grants first = let grants = ap (λ (r : Record). r.own.grants) first in cc
 
 -- An edge of a button is told in silence; a kernel that prints a byte with it.
 told_in_silence : IsSilent (record { slot = 0; event = Edge 0 true; trace = untraced; printed = [] })

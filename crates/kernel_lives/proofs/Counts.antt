@@ -1,13 +1,12 @@
 -- Time, steps and turns add up, by induction on the choices. One choice adds one step, and either a turn of one
 -- process, no time, or ticks (`OneMore`): a turn that is ready counts, by the walk of `Changes`, and answers and acts
 -- count nothing. That a ready device finds whom it serves needs that who waits is there, which each step keeps.
-use Rattle.std.proofs.Common.{◌≡◌, ◌<◌, ℕ, zero, suc, ◌+◌, ◌==◌, Bool, true, false, cond, not, nat_lt, List, []}
+use Rattle.std.proofs.Common.{◌≡◌, ◌<◌, ℕ, zero, suc, ◌+◌, ◌==◌, Bool, true, not, nat_lt, List, []}
 use Rattle.std.proofs.Common.{◌∷◌}
 use Rattle.std.proofs.Common.{◌++◌, length, slice_get, slice_set, Option, None, Some, is_some, refl, sym, ap}
-use Rattle.std.proofs.Common.{subst, ◌∙◌, arith, ap₂, map}
+use Rattle.std.proofs.Common.{◌∙◌, arith, map}
 use Rattle.std.specs.Prelude.{All}
 use Rattle.tk_base.specs.declared.process.Verb.{Verb}
-use Rattle.std.specs.Option.{option_map}
 use Rattle.std.proofs.lemmas.Bool.{false≢true, and_parts}
 use Rattle.std.proofs.lemmas.List.{length-map}
 use Rattle.std.proofs.lemmas.Option.{slice_get_within}
@@ -30,45 +29,36 @@ use Rattle.kernel_model.specs.Record.{Record}
 use Rattle.kernel_model.specs.declared.settings.Settings.{Settings}
 use Rattle.kernel_model.specs.Calls.{restart}
 use Rattle.kernel_model.specs.Turn.{Event, apply, may_turn, operated, turned}
-use Rattle.kernel_model.specs.Parts.{edge_known}
 use Rattle.kernel_model.specs.Laws.{edge_heard, queue_after_answer}
 use Rattle.kernel_model.specs.World.{DeviceAnswer, DeviceStep, Devices, Stepped, World, acted, after}
 use Rattle.kernel_model.specs.Parts.{alarmed}
-use Rattle.kernel_model.specs.World.{answering}
 use Rattle.kernel_model.specs.Parts.{acts_of}
 use Rattle.kernel_model.specs.World.{arrived, can_act, carried_out, device_step_of, done, is_ready}
-use Rattle.kernel_model.specs.Named.{can_run}
 use Rattle.kernel_model.specs.World.{may_be_made, now_in, owns_in, queue_without}
 use Rattle.kernel_model.specs.Parts.{is_waited_for}
-use Rattle.kernel_model.specs.World.{ran}
 use Rattle.kernel_model.specs.World.{random_step, receive_step, routed, serving, storing, transmitting}
 use Rattle.kernel_model.specs.Named.{slots_in}
 use Rattle.kernel_model.specs.World.{lane_in, may_serve, only_in, with_queue}
 use Rattle.kernel_model.specs.Choices.{are_ready}
-use Rattle.kernel_model.specs.Replay.{after_all}
-use Rattle.kernel_lives.specs.Counts.{AddsUp, CountsAddUp, WaitingAreThere, ticks_passed, turns_made, turns_of_all}
+use Rattle.kernel_lives.specs.Counts.{CountsAddUp, WaitingAreThere, ticks_passed, turns_made, turns_of_all}
 use Rattle.kernel_lives.proofs.Changes.{IsKept, after_turn}
 use Rattle.kernel_model.proofs.Restarts.{restart_by}
 use Rattle.kernel_model.proofs.Steps.{IsAnswer, answer_changes, of_answers, of_operated}
 use Rattle.kernel_laws.proofs.Turns.{step_same}
 use Rattle.kernel_model.proofs.Places.{queue_with, stepped_ready}
 use Rattle.kernel_model.proofs.Told.{of_coming}
+use Rattle.std.proofs.Common.{inl, inr}
+use Rattle.std.proofs.lemmas.Bool.{cond_both}
+use Rattle.std.proofs.lemmas.Option.{gets}
+use Rattle.kernel_model.proofs.Places.{same_some}
+use Rattle.kernel_lives.proofs.Changes.{none_or_one}
 
 -- a turn counts, where it can be had
 abbrev Any : Own → Own → Type 0
 Any a b = Unit {0}
 
 any_service : OfEachService Any
-any_service = record {
-  command = λ driver taker is around number a2 a3 own. tt;
-  alarmed = λ now own. tt;
-  edged = λ button state own. tt;
-  taken = λ own. tt;
-  write_done = λ own. tt;
-  input = λ bytes own. tt;
-  drawn = λ word own. tt;
-  stored = λ fault flash bytes own. tt;
-}
+any_service = omega arith
 
 abbrev Made : ℕ → Record → Type 0
 Made n r = r.process.turns ≡ n
@@ -79,18 +69,14 @@ turns_again n r h = restart_by (Made n) r h (λ header m is main. h)
 turns_kept : (n : ℕ) → IsKept Any (Made n) (Made n)
 turns_kept n = record {
   done = λ r h. h;
-  regs = λ r regs refusal h. h;
-  waits = λ r alive h. h;
+  goes = λ r regs state refusal same h. h;
   serves = λ r o storage pressed s h. h;
   hands = λ r swap may h. h;
   moves = λ r new may h. h;
-  flags = λ r at byte h. h;
-  inboxes = λ r change takes h. h;
-  delivers = λ r next alive h. h;
-  exits = λ r code h. h;
-  again = λ r alive h. turns_again n r h;
-  faults = λ r denial h. h;
-  faults_again = λ r denial alive h. turns_again n _ h;
+  bytes = λ r ram inbox as_many takes h. h;
+  ends = λ r state denial over h. h;
+  again = turns_again n;
+  faults_again = λ r denial h. turns_again n _ h;
 }
 
 -- a turn of a process that may have one counts
@@ -114,12 +100,7 @@ act_counts verb r =
 turns_set : (rs : List Record) (i : ℕ) (r s : Record) → slice_get rs i ≡ Some r
     → turns_of_all (slice_set rs i s) + r.process.turns ≡ turns_of_all rs + s.process.turns
 turns_set [] i r s is = absurd (cc)
-turns_set (x ∷ rs) zero r s is =
-    let same : x.process.turns ≡ r.process.turns = first x r is in
-    omega (arith, same)
-  where
-    first : (x r : Record) → Some x ≡ Some r → x.process.turns ≡ r.process.turns
-    first x r e = let same : x ≡ r = cc in ap (λ (y : Record). y.process.turns) same
+turns_set (x ∷ rs) zero r s is = omega (arith, ap (λ (y : Record). y.process.turns) (same_some x r is))
 turns_set (x ∷ rs) (suc i) r s is = let rest = turns_set rs i r s is in omega (arith, rest)
 
 -- who waits is there
@@ -135,20 +116,16 @@ leaves n slot line all = All-filter (λ s. not (s == slot)) (λ s. s < n) line a
 
 left : (n slot : ℕ) (completed : Bool) (line : List ℕ) → All (λ s. s < n) line
     → All (λ s. s < n) (queue_after_answer completed slot line)
-left n slot true line all = leaves n slot line all
-left n slot false line all = all
+left n slot completed line all =
+    cond_both completed _ _ (All (λ s. s < n)) (λ e. leaves n slot line all) (λ e. all)
 
 -- where one queue changes
 queue_there : (n : ℕ) (name : QueueName) (change : List ℕ → List ℕ) (d : Devices)
     → ((slots : List ℕ) → All (λ slot. slot < n) slots → All (λ slot. slot < n) (change slots)) → AreThere n d
     → AreThere n (with_queue name change d)
 queue_there n name change d all h queue =
-    subst (All (λ slot. slot < n)) (sym (queue_with queue name change d)) (by_test (is_same name queue))
-  where
-    by_test : (b : Bool) → All (λ slot. slot < n) (cond b (change (slots_in queue d.waiting)) (slots_in queue
-        d.waiting))
-    by_test true = all (slots_in queue d.waiting) (h queue)
-    by_test false = h queue
+    rw (queue_with queue name change d)
+    (cond_both (is_same name queue) _ _ (All (λ slot. slot < n)) (λ e. all _ (h queue)) (λ e. h queue))
 
 acted_there : (n slot : ℕ) (act : BoardRequest) (d : Devices) → slot < n → AreThere n d → AreThere n (acted slot act d)
 acted_there n slot (Waits queue) d less h =
@@ -167,25 +144,16 @@ unfoldable IsMade : ℕ → Option DeviceStep → Type 0
 IsMade n None = ⊥
 IsMade n (Some deed) = AreThere n deed.devices
 
-not_none : {X : Type 0} (xs : List X) (i : ℕ) → i < length xs → slice_get xs i ≡ None → ⊥
-not_none [] i less e = omega (arith, less)
-not_none (x ∷ xs) zero less e = cc
-not_none (x ∷ xs) (suc i) less e = not_none xs i (omega (arith, less)) e
-
 module _ (law : DueSlotIsThere) (w : World) (h : AreThere (length w.records) w.devices) where
-  n : ℕ
-  n = length w.records
-
   made_there : (make : ℕ → Record → DeviceAnswer) (slot : ℕ) → slot < length w.records
       → ((slot : ℕ) (r : Record) → AreThere (length w.records) (make slot r).devices)
       → IsMade (length w.records) (serving w.records make (Some slot))
   unfolding IsMade
-  made_there make slot there each = by_record (slice_get w.records slot) refl
-    where
-      by_record : (o : Option Record) → slice_get w.records slot ≡ o
-          → IsMade (length w.records) (option_map (λ (r : Record). answering slot (make slot r)) o)
-      by_record None e = not_none w.records slot there e
-      by_record (Some r) e = each slot r
+  made_there make slot there each =
+      elim (none_or_one (slice_get w.records slot)) [
+        | inl e ↦ absurd (grind (arith, gets))
+        | inr (r, e) ↦ rw e (each slot r)
+      ]
 
   first_made : (make : ℕ → Record → DeviceAnswer) (line : List ℕ) → All (λ s. s < length w.records) line
       → is_waited_for line ≡ true → ((slot : ℕ) (r : Record) → AreThere (length w.records) (make slot r).devices)
@@ -227,13 +195,11 @@ module _ (law : DueSlotIsThere) (w : World) (h : AreThere (length w.records) w.d
   served queue = may_serve (only_in w) (slots_in queue w.devices.waiting)
 
   served_there : (queue : QueueName) → All (λ s. s < length w.records) (served queue)
-  served_there queue = by_only (only_in w)
-    where
-      by_only : (only : Option ℕ)
-          → All (λ s. s < length w.records) (may_serve only (slots_in queue w.devices.waiting))
-      by_only None = h queue
-      by_only (Some only) =
-          All-filter (λ slot. slot == only) (λ s. s < length w.records) (slots_in queue w.devices.waiting) (h queue)
+  served_there queue =
+      elim (none_or_one (only_in w)) [
+        | inl e ↦ rw e (h queue)
+        | inr (only, e) ↦ rw e (All-filter (λ slot. slot == only) (λ s. s < length w.records) _ (h queue))
+      ]
 
   deed_made : (device : Dev) → can_act w device ≡ true → IsMade (length w.records) (device_step_of w device)
   deed_made dev.Event e = arrival_made w.devices.arrivals e
@@ -259,11 +225,8 @@ edge_turns : (button : ℕ) (pressed : Bool) (rs : List Record)
     → turns_of_all (map (edge_heard button pressed) rs) ≡ turns_of_all rs
 edge_turns button pressed [] = refl
 edge_turns button pressed (r ∷ rs) =
-    ap₂ (λ (first rest : ℕ). first + rest) (by_test (differs r.pressed button pressed)) (edge_turns button pressed rs)
-  where
-    by_test : (b : Bool) → (cond b (edge_known button pressed r) r).process.turns ≡ r.process.turns
-    by_test true = refl
-    by_test false = refl
+    rw (edge_turns button pressed rs) (cond_both (differs r.pressed button pressed) _ _
+    (λ (s : Record). s.process.turns + turns_of_all rs ≡ r.process.turns + turns_of_all rs) (λ e. refl) (λ e. refl))
 
 told_turns : (w : World) (device : Dev)
     → turns_of_all (done w (device_step_of w device)).after.records ≡ turns_of_all w.records
@@ -271,48 +234,43 @@ unfolding apply
 told_turns w device =
     of_answers w (λ (s : Stepped). turns_of_all s.after.records ≡ turns_of_all w.records) refl (λ devices. refl)
     (λ button pressed devices. edge_turns button pressed w.records)
-    (λ slot r there a is.
-    let set = turns_set w.records slot r (apply w.settings a.answer.event r) there in
-    let same = answer_counts w.settings a.answer.event r is in
-    omega (arith, set, same))
-    (λ verb devices slot r there.
-    let set = turns_set w.records slot r (operated verb r) there in
-    let same = act_counts verb r in
-    omega (arith, set, same)) device
+    (λ slot r there a is. omega (
+      arith,
+      turns_set w.records slot r (apply w.settings a.answer.event r) there,
+      answer_counts w.settings a.answer.event r is,
+    ))
+    (λ verb devices slot r there. omega (arith, turns_set w.records slot r (operated verb r) there, act_counts verb r))
+    device
 
--- one choice
-record OneMore (w : World) (turns ticks : ℕ) (v : World) : Type 0 where
-  time : v.clock.time ≡ w.clock.time + (turns + ticks)
+-- what one choice that is ready adds
+record OneMore (w : World) (c : Choice) (v : World) : Type 0 where
+  time : v.clock.time ≡ w.clock.time + (turns_made (c ∷ []) + ticks_passed (c ∷ []))
   steps : v.clock.steps ≡ w.clock.steps + 1
-  sum : turns_of_all v.records ≡ turns_of_all w.records + turns
+  sum : turns_of_all v.records ≡ turns_of_all w.records + turns_made (c ∷ [])
   waiting : AreThere (length w.records) v.devices
 
-run_more : (w : World) (slot : ℕ) → AreThere (length w.records) w.devices → can_run (slice_get w.records slot) ≡ true
-    → OneMore w 1 0 (carried_out w (Run slot)).after
-unfolding carried_out
-run_more w slot h can = by_record (slice_get w.records slot) refl can
-  where
-    by_record : (o : Option Record) → slice_get w.records slot ≡ o → can_run o ≡ true
-        → OneMore w 1 0 (ran w slot o).after
-    by_record None e can = absurd (false≢true can)
-    by_record (Some r) e can =
-        let t = turned w.settings w.clock.time r in
-        let set = turns_set w.records slot r t.after e in
-        let more = turn_counts w.settings w.clock.time r can in
-        record {
-          time = omega arith;
-          steps = refl;
-          sum = omega (arith, set, more);
-          waiting = routed_there (length w.records) slot t.acts w.devices (slice_get_within w.records slot r e) h;
-        }
-
-device_more : DueSlotIsThere → (w : World) (device : Dev) → AreThere (length w.records) w.devices
-    → can_act w device ≡ true → OneMore w 0 0 (carried_out w (Device device)).after
-unfolding carried_out IsMade
-device_more law w device h can = by_deed (device_step_of w device) (deed_made law w h device can) (told_turns w device)
+one_more : DueSlotIsThere → (w : World) (c : Choice) → AreThere (length w.records) w.devices → is_ready w c ≡ true
+    → OneMore w c (carried_out w c).after
+unfolding carried_out may_be_made IsMade
+one_more law w (Run slot) h ready =
+    elim (none_or_one (slice_get w.records slot)) [
+      | inl e ↦ absurd (false≢true (rw e at (and_parts (nat_lt w.clock.steps STEP_LIMIT) _ ready).1))
+      | inr (r, e) ↦
+          let t = turned w.settings w.clock.time r in
+          let can = rw e at (and_parts (nat_lt w.clock.steps STEP_LIMIT) _ ready).1 in
+          rw e (record {
+            time = omega arith;
+            steps = refl;
+            sum = omega (arith, turns_set w.records slot r t.after e, turn_counts w.settings w.clock.time r can);
+            waiting = routed_there (length w.records) slot t.acts w.devices (slice_get_within w.records slot r e) h;
+          })
+    ]
+one_more law w (Device device) h ready =
+    by_deed (device_step_of w device)
+    (deed_made law w h device (and_parts (nat_lt w.clock.steps STEP_LIMIT) _ ready).1) (told_turns w device)
   where
     by_deed : (o : Option DeviceStep) → IsMade (length w.records) o
-        → turns_of_all (done w o).after.records ≡ turns_of_all w.records → OneMore w 0 0 (done w o).after
+        → turns_of_all (done w o).after.records ≡ turns_of_all w.records → OneMore w (Device device) (done w o).after
     by_deed None made same = absurd made
     by_deed (Some deed) made same = record {
       time = omega arith;
@@ -320,50 +278,27 @@ device_more law w device h can = by_deed (device_step_of w device) (deed_made la
       sum = omega (arith, same);
       waiting = made;
     }
+one_more law w (Pass ticks) h ready = record { time = omega arith; steps = refl; sum = omega arith; waiting = h }
 
-pass_more : (w : World) (ticks : ℕ) → AreThere (length w.records) w.devices
-    → OneMore w 0 ticks (carried_out w (Pass ticks)).after
-unfolding carried_out
-pass_more w ticks h = record { time = omega arith; steps = refl; sum = omega arith; waiting = h }
-
--- where it is ready, the step is that
-ready_more : (w : World) (c : Choice) (turns ticks : ℕ) → is_ready w c ≡ true
-    → OneMore w turns ticks (carried_out w c).after → OneMore w turns ticks (after w c)
-ready_more w c turns ticks ready one =
-    subst (λ (s : Stepped). OneMore w turns ticks s.after) (sym (stepped_ready w c ready)) one
-
-there_after : (w : World) (c : Choice) → AreThere (length w.records) (after w c).devices → WaitingAreThere (after w c)
-there_after w c h = subst (λ (n : ℕ). AreThere n (after w c).devices) (sym (step_same w c).records) h
-
--- and then some more
-adds_on : (w : World) (c : Choice) (choices : List Choice) (turns ticks : ℕ)
-    → turns_made (c ∷ choices) ≡ turns + turns_made choices → ticks_passed (c ∷ choices) ≡ ticks + ticks_passed choices
-    → OneMore w turns ticks (after w c) → AddsUp (after w c) choices (after_all (after w c) choices)
-    → AddsUp w (c ∷ choices) (after_all w (c ∷ choices))
-adds_on w c choices turns ticks made passed one rest = record {
-  time = omega (arith, made, passed, one.time, rest.time);
-  steps = omega (arith, one.steps, rest.steps);
-  turns = omega (arith, made, one.sum, rest.turns);
-  waiting = rest.waiting;
-}
+-- the first of some choices adds what it adds alone
+one_first : (c : Choice) (choices : List Choice)
+    → (turns_made (c ∷ choices) ≡ turns_made (c ∷ []) + turns_made choices)
+    × (ticks_passed (c ∷ choices) ≡ ticks_passed (c ∷ []) + ticks_passed choices)
+one_first (Run slot) choices = (omega arith, omega arith)
+one_first (Device device) choices = (omega arith, omega arith)
+one_first (Pass ticks) choices = (omega arith, omega arith)
 
 pub counts_add_up : DueSlotIsThere → CountsAddUp
-unfolding may_be_made
 counts_add_up law w [] h ready = record { time = omega arith; steps = omega arith; turns = omega arith; waiting = h }
-counts_add_up law w (Run slot ∷ choices) h ready =
-    let rest = and_parts (is_ready w (Run slot)) (are_ready (after w (Run slot)) choices) ready in
-    let one = ready_more w (Run slot) 1 0 rest.0
-    (run_more w slot h (and_parts (nat_lt w.clock.steps STEP_LIMIT) _ rest.0).1) in
-    adds_on w (Run slot) choices 1 0 (omega arith) (omega arith) one
-    (counts_add_up law (after w (Run slot)) choices (there_after w (Run slot) one.waiting) rest.1)
-counts_add_up law w (Device device ∷ choices) h ready =
-    let rest = and_parts (is_ready w (Device device)) (are_ready (after w (Device device)) choices) ready in
-    let one = ready_more w (Device device) 0 0 rest.0
-    (device_more law w device h (and_parts (nat_lt w.clock.steps STEP_LIMIT) _ rest.0).1) in
-    adds_on w (Device device) choices 0 0 (omega arith) (omega arith) one
-    (counts_add_up law (after w (Device device)) choices (there_after w (Device device) one.waiting) rest.1)
-counts_add_up law w (Pass ticks ∷ choices) h ready =
-    let rest = and_parts (is_ready w (Pass ticks)) (are_ready (after w (Pass ticks)) choices) ready in
-    let one = ready_more w (Pass ticks) 0 ticks rest.0 (pass_more w ticks h) in
-    adds_on w (Pass ticks) choices 0 ticks (omega arith) (omega arith) one
-    (counts_add_up law (after w (Pass ticks)) choices (there_after w (Pass ticks) one.waiting) rest.1)
+counts_add_up law w (c ∷ choices) h ready =
+    let tests = and_parts (is_ready w c) (are_ready (after w c) choices) ready in
+    let one : OneMore w c (after w c) = rw (stepped_ready w c tests.0, after) (one_more law w c h tests.0) in
+    let there : WaitingAreThere (after w c) = rw (step_same w c).records one.waiting in
+    let rest = counts_add_up law (after w c) choices there tests.1 in
+    let first = one_first c choices in
+    record {
+      time = omega (arith, first.0, first.1, one.time, rest.time);
+      steps = omega (arith, one.steps, rest.steps);
+      turns = omega (arith, first.0, one.sum, rest.turns);
+      waiting = rest.waiting;
+    }

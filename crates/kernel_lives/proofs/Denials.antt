@@ -7,7 +7,7 @@ use Rattle.process_record.specs.Parts.{after_fault}
 use Rattle.kernel_model.specs.Record.{Record, with_effect}
 use Rattle.kernel_model.specs.declared.settings.Settings.{Settings}
 use Rattle.kernel_model.specs.Turn.{faulted, turn_counted, turned}
-use Rattle.kernel_model.specs.Parts.{calls, with_process}
+use Rattle.kernel_model.specs.Parts.{with_process}
 use Rattle.kernel_model.specs.World.{World, after, labels}
 use Rattle.kernel_model.specs.Accounts.{IsRecordedIn, RecordsDenial}
 use Rattle.kernel_model.proofs.Labels.{of_labels}

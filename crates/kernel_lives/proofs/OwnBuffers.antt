@@ -1,11 +1,11 @@
 -- Where the buffers of a process lie whose own is whole.
-use Rattle.std.proofs.Common.{◌≡◌, ◌⊎◌, inl, inr, ◌≤◌, ℕ, ◌+◌, ◌==◌, ◌||◌, Bool, true, false, refl, sym}
-use Rattle.std.proofs.Common.{ap, ◌∙◌, arith, eqb-true, length}
+use Rattle.std.proofs.Common.{◌≡◌, ◌⊎◌, inl, inr, ◌≤◌, ℕ, ◌+◌, true, refl, sym}
+use Rattle.std.proofs.Common.{ap, ◌∙◌, arith, length}
 use Rattle.std.specs.Prelude.{IsTrue}
 use Rattle.std.proofs.lemmas.Bool.{false≢true}
 use Rattle.std.proofs.lemmas.Bool.Decides.{nat_tests}
 use Rattle.tk_base.specs.declared.kinds.PairKind.{PairKind}
-use Rattle.tk_base.specs.declared.kinds.PairKind.TheVariants.{Upcall, ReadOnly, ReadWrite, Readable}
+use Rattle.tk_base.specs.declared.kinds.PairKind.TheVariants.{Upcall, ReadOnly, ReadWrite}
 use Rattle.tk_base.specs.Kinds.{is_buffer, is_writable}
 use Rattle.process_layout.specs.Interval.{lies_within}
 use Rattle.process_layout.specs.Bounds.{Bounds}
@@ -24,25 +24,10 @@ abbrev LiesIn : PairKind → Bounds → ℕ × ℕ → Type 0
 LiesIn kind e pair =
     (lies_in_ram e pair.0 pair.1 ≡ true) ⊎ ((kind ≡ ReadOnly) × (lies_in_flash e pair.0 pair.1 ≡ true))
 
-one_lies : (n : ℕ) (none ram : Bool) {A : Type 0} → (n == 0) ≡ none → 1 ≤ n → IsTrue (none || ram) → (ram ≡ true) ⊎ A
-one_lies n true ram zero some may = let is : n ≡ 0 = eqb-true n 0 zero in absurd (omega (arith, some, is))
-one_lies n false true zero some may = inl refl
-one_lies n false false zero some may = absurd (cc)
-
 kept_lies : (kind : PairKind) (e : Bounds) (pair : ℕ × ℕ) → is_buffer kind ≡ true → IsTrue (may_keep kind e pair)
     → 1 ≤ pair.1 → LiesIn kind e pair
 kept_lies Upcall e pair is may some = absurd (cc)
-kept_lies ReadOnly e pair is may some =
-    by_place (pair.1 == 0) (lies_in_ram e pair.0 pair.1) (lies_in_flash e pair.0 pair.1) refl may
-  where
-    by_place : (none ram flash : Bool) → (pair.1 == 0) ≡ none → IsTrue (none || ram || flash)
-        → (ram ≡ true) ⊎ ((ReadOnly ≡ ReadOnly) × (flash ≡ true))
-    by_place true ram flash zero may = let is : pair.1 ≡ 0 = eqb-true pair.1 0 zero in absurd (omega (arith, some, is))
-    by_place false true flash zero may = inl refl
-    by_place false false true zero may = inr (refl, refl)
-    by_place false false false zero may = absurd (cc)
-kept_lies ReadWrite e pair is may some = one_lies pair.1 (pair.1 == 0) (lies_in_ram e pair.0 pair.1) refl some may
-kept_lies Readable e pair is may some = one_lies pair.1 (pair.1 == 0) (lies_in_ram e pair.0 pair.1) refl some may
+kept_lies kind e pair is may some = grind (arith, nat_tests)
 
 module _ (r : Record) (whole : HasWholeOwn r) (kind : PairKind) (driver number : ℕ) (is : is_buffer kind ≡ true) where
   abbrev buffer : ℕ × ℕ
@@ -95,9 +80,7 @@ writable_lies kind is r whole driver number some =
 
     is_buffer_too : (kind : PairKind) → is_writable kind ≡ true → is_buffer kind ≡ true
     is_buffer_too Upcall is = absurd (cc)
-    is_buffer_too ReadOnly is = absurd (cc)
-    is_buffer_too ReadWrite is = refl
-    is_buffer_too Readable is = refl
+    is_buffer_too kind is = refl
 
     by_place : LiesIn kind (record r.own.layout { brk = r.own.layout.mark }) pair → LiesInOwn r.own pair
     by_place (inl ram) =

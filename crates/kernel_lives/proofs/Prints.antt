@@ -1,9 +1,9 @@
 -- What a step prints, it prints of a buffer: of all devices the UART's sending half and the line that lists a process
 -- alone print, by the walk over devices. What is sent is the next part of the buffer of the write that waits, as many
 -- bytes as are taken.
-use Rattle.std.proofs.Common.{◌≡◌, ◌<◌, ℕ, ◌+◌, ◌==◌, Bool, true, false, cond, List, [], ◌∷◌, drop, length}
-use Rattle.std.proofs.Common.{slice_index, unwrap_or, option_map, Option, None, Some, IfSome, is_some, refl, sym, ap}
-use Rattle.std.proofs.Common.{slice_get, subst}
+use Rattle.std.proofs.Common.{◌≡◌, ◌<◌, ℕ, ◌+◌, ◌==◌, Bool, true, false, cond, [], ◌∷◌, drop, length}
+use Rattle.std.proofs.Common.{slice_index, Option, None, Some, refl, ap}
+use Rattle.std.proofs.Common.{slice_get}
 use Rattle.std.proofs.Common.{◌∙◌, arith}
 use Rattle.std.specs.Prelude.{All}
 use Rattle.std.proofs.lemmas.List.{get_or-drop, get_or-take, length-take}
@@ -13,7 +13,7 @@ use Rattle.tk_base.specs.declared.process.Dev.{Dev}
 use Rattle.grant_values.specs.declared.console.WaitingWrite.{WaitingWrite}
 use Rattle.driver_model.specs.Console as console
 use Rattle.driver_model.specs.Console.{console_writes}
-use Rattle.driver_model.specs.Requests.{RequestAnswered, request_in, unanswered, waiting_in}
+use Rattle.driver_model.specs.Requests.{request_in, waiting_in}
 use Rattle.kernel_model.specs.Record.{Record}
 use Rattle.tk_base.specs.declared.process.Verb.{Verb}
 use Rattle.kernel_model.specs.Turn.{Act, Event, Taken, WriteDone, turned}
@@ -27,6 +27,9 @@ use Rattle.kernel_model.specs.Prints.{AreOfItsBuffer, IsPrintedBy, PrintsAreOfBu
 use Rattle.kernel_model.specs.Parts.{buffer_bytes}
 use Rattle.kernel_model.specs.Parts.{console_buffer}
 use Rattle.kernel_model.proofs.Labels.{labels_by_device}
+use Rattle.std.proofs.Common.{inl, inr}
+use Rattle.std.proofs.lemmas.Bool.{cases_Bool}
+use Rattle.kernel_lives.proofs.Changes.{none_or_one}
 
 -- the bytes that come next are those of the buffer
 next_of : (write : WaitingWrite) (r : Record) (k : ℕ) → k < length (console.next_bytes (flash_of r) write r.own)
@@ -41,7 +44,7 @@ next_of write r k less =
           ∙ get_or-drop write.taken (buffer_bytes r) k 0,
     )
 
-if_so : {X : Type 0} (b : Bool) (o : Option X) (x : X) → cond b o None ≡ Some x → (b ≡ true) × (o ≡ Some x)
+pub if_so : {X : Type 0} (b : Bool) (o : Option X) (x : X) → cond b o None ≡ Some x → (b ≡ true) × (o ≡ Some x)
 if_so true o x e = (refl, e)
 if_so false o x e = cc
 
@@ -49,29 +52,17 @@ if_so false o x e = cc
 sent_of : (r : Record) → 0 < length (console.sent (flash_of r) r.own).moved
     → AreOfItsBuffer (console.sent (flash_of r) r.own).moved r
 unfolding console.sent
-sent_of r = by_waiting (waiting_in console_writes r.own) refl
-  where
-    by_portion : (write : WaitingWrite) (b : Bool) → waiting_in console_writes r.own ≡ Some write
-        → let s : RequestAnswered (List ℕ) =
-        cond b (record { step = console.write_completing r.own write; moved = []; completed = true })
-        (record {
-          step = console.taking r.own write;
-          moved = console.next_bytes (flash_of r) write r.own;
-          completed =
-              false;
-        }) in
-        0 < length s.moved → AreOfItsBuffer s.moved r
-    by_portion write true is some = absurd (omega (arith, some))
-    by_portion write false is some =
-        let waits = if_so r.own.lives (request_in console_writes r.own) write is in
-        record { lives = waits.0; write = write; waits = waits.1; each = next_of write r }
-
-    by_waiting : (o : Option WaitingWrite) → waiting_in console_writes r.own ≡ o
-        → let s : RequestAnswered (List ℕ) =
-        unwrap_or (option_map (console.sending (flash_of r) r.own) o) (unanswered [] r.own) in
-        0 < length s.moved → AreOfItsBuffer s.moved r
-    by_waiting None is some = absurd (omega (arith, some))
-    by_waiting (Some write) is some = by_portion write (console.portion write r.own == 0) is some
+sent_of r some =
+    elim (none_or_one (waiting_in console_writes r.own)) [
+      | inl none ↦ absurd (omega (arith, rw none at some))
+      | inr (write, is) ↦
+          let waits = if_so r.own.lives (request_in console_writes r.own) write is in
+          elim (cases_Bool (console.portion write r.own == 0)) [
+            | inl e ↦ absurd (omega (arith, rw (is, e) at some))
+            | inr e ↦
+                rw (is, e) (record { lives = waits.0; write = write; waits = waits.1; each = next_of write r })
+          ]
+    ]
 
 module _ (w : World) where
   -- what is told of a device's step
@@ -92,11 +83,9 @@ module _ (w : World) where
   sends : (slot : ℕ) (r : Record) → slice_get w.records slot ≡ Some r
       → Tells (one_answered w slot r (transmitting (lane_in w) w.clock.time w.devices slot r))
   sends slot r is =
-      let bytes = (console.sent (flash_of r) r.own).moved in
-      All-cons (PrintsItsBuffer w) _ [] (λ some.
-      subst (λ (o : Option Record). (is_some o ≡ true)
-      × IfSome o (IsPrintedBy (cond (console.sent (flash_of r) r.own).completed WriteDone Taken) slot bytes)) (sym is)
-      (refl, by_completed (console.sent (flash_of r) r.own).completed (sent_of r some))) (All-nil (PrintsItsBuffer w))
+      All-cons (PrintsItsBuffer w) _ []
+      (λ some. rw is (refl, by_completed (console.sent (flash_of r) r.own).completed (sent_of r some)))
+      (All-nil (PrintsItsBuffer w))
     where
       by_completed : (completed : Bool) → AreOfItsBuffer (console.sent (flash_of r) r.own).moved r
           → IsPrintedBy (cond completed WriteDone Taken) slot (console.sent (flash_of r) r.own).moved r
@@ -108,10 +97,7 @@ module _ (w : World) where
       → All (PrintsItsBuffer w)
       (answer_label slot (record { event = Act verb; printed = listed verb slot r }) ∷ [])
   acts verb slot r is =
-      All-cons (PrintsItsBuffer w) _ [] (λ some.
-      subst (λ (o : Option Record). (is_some o ≡ true)
-      × IfSome o (IsPrintedBy (Act verb) slot (listed verb slot r))) (sym is)
-      (refl, refl)) (All-nil (PrintsItsBuffer w))
+      All-cons (PrintsItsBuffer w) _ [] (λ some. rw is (refl, refl)) (All-nil (PrintsItsBuffer w))
 
   edges : (button : ℕ) (pressed : Bool) → All (PrintsItsBuffer w) (edge_labels button pressed w)
   edges button pressed =

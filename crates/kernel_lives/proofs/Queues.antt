@@ -1,29 +1,27 @@
 -- That queues follow requests: by what one slot that joins or leaves does to who stands in them.
-use Rattle.std.proofs.Common.{◌≡◌, inl, inr, ◌≤◌, ℕ, ◌+◌, ◌==◌, Bool, true, false, cond, not, List, [], ◌∷◌, ◌++◌}
-use Rattle.std.proofs.Common.{filter, refl, sym, ap, subst, ◌∙◌, arith, eqb-true, eq-eqb}
-use Rattle.std.proofs.lemmas.Bool.{false≢true}
+use Rattle.std.proofs.Common.{◌≡◌, inl, inr, ◌≤◌, ℕ, ◌+◌, ◌==◌, Bool, true, false, not, List, [], ◌∷◌, ◌++◌}
+use Rattle.std.proofs.Common.{filter, refl, sym, ap, subst, ◌∙◌, arith, eqb-true}
 use Rattle.std.proofs.lemmas.List.{append-nil}
 use Rattle.std.proofs.lemmas.List.Elements.{All-nil, All-cons}
 use Rattle.driver_model.specs.Commands.{QueueName}
-use Rattle.kernel_model.specs.Named.{slots_in}
-use Rattle.kernel_model.specs.World.{World, after, labels, queue_without}
-use Rattle.kernel_laws.specs.Queues.{ChangesByOne, JoinsOrLeaves, QueuesKeepOrder}
-use Rattle.kernel_lives.specs.Lists.{ListsAreOfRequests, ListsStay, once_if, times_in}
+use Rattle.kernel_model.specs.World.{World, after, queue_without}
+use Rattle.kernel_laws.specs.Queues.{JoinsOrLeaves, QueuesKeepOrder}
+use Rattle.kernel_lives.specs.Lists.{ListsStay, once_if, times_in}
 use Rattle.kernel_lives.specs.Requests.{FollowsRequests, QueuesFollowRequests, asks_in}
 use Rattle.kernel_lives.proofs.Lists.{gone_from, gone_other, joined, joined_other}
 use Rattle.kernel_lives.proofs.Requests.{counts, stands, stands_later}
+use Rattle.std.proofs.lemmas.Bool.{cases_Bool}
+use Rattle.std.proofs.lemmas.Bool.Decides.{nat_tests}
 
 -- two tests that are the same of each slot in a list leave the same of it
 same_filter : (p q : ℕ → Bool) (xs : List ℕ) → ((x : ℕ) → 1 ≤ times_in x xs → p x ≡ q x) → filter p xs ≡ filter q xs
 same_filter p q [] same = refl
 same_filter p q (x ∷ xs) same =
-    let later = same_filter p q xs (λ y stands_there. same y (stands_later y x xs stands_there)) in
-    ap (λ (b : Bool). cond b (x ∷ filter p xs) (filter p xs)) (same x (stands x x xs refl))
-    ∙ ap (λ (ys : List ℕ). cond (q x) (x ∷ ys) ys) later
+    rw (same x (stands x x xs refl), same_filter p q xs (λ y there. same y (stands_later y x xs there)))
 
 all_stay : (xs : List ℕ) → filter (λ (x : ℕ). true) xs ≡ xs
 all_stay [] = refl
-all_stay (x ∷ xs) = ap (λ (ys : List ℕ). x ∷ ys) (all_stay xs)
+all_stay (x ∷ xs) = rw (all_stay xs)
 
 none_of : (b : Bool) (n : ℕ) → n ≡ once_if b → n ≡ 0 → b ≡ false
 none_of true n e none = absurd (omega (arith, e, none))
@@ -65,41 +63,32 @@ module _ (w v : World) (queue : QueueName) (before later : List ℕ)
       }
     where
       kept : times_in slot before ≡ 0 → (x : ℕ) → 1 ≤ times_in x before → still x ≡ true
-      kept none x there = by_test (slot == x) refl
-        where
-          by_test : (b : Bool) → (slot == x) ≡ b → still x ≡ true
-          by_test true e =
-              let one : slot ≡ x = eqb-true slot x e in
-              let gone : times_in x before ≡ 0 = subst (λ (n : ℕ). times_in n before ≡ 0) one none in
-              absurd (omega (arith, gone, there))
-          by_test false e =
-              let as_often : times_in x later ≡ times_in x before =
-              ap (times_in x) same ∙ joined_other slot x before e in
-              counts (still x) (times_in x later) (asks x) (omega (arith, as_often, there))
+      kept none x there =
+          elim (cases_Bool (slot == x)) [
+            | inl e ↦ absurd (omega (arith, rw (eqb-true slot x e) at none, there))
+            | inr e ↦
+                let as_often = ap (times_in x) same ∙ joined_other slot x before e in
+                counts (still x) (times_in x later) (asks x) (omega (arith, as_often, there))
+          ]
 
   leaves : (slot : ℕ) → later ≡ queue_without slot before → FollowsRequests queue w v before later
   leaves slot same = record {
     come = [];
-    is = same ∙ sym (append-nil (filter still before)
-        ∙ same_filter still (λ x. not (x == slot)) before (λ x there. by_test x there (x == slot) refl));
+    is = same ∙ sym (append-nil (filter still before) ∙ same_filter still (λ x. not (x == slot)) before left);
     one = omega arith;
     begin = All-nil Begins;
   }
     where
-      by_test : (x : ℕ) → 1 ≤ times_in x before → (b : Bool) → (x == slot) ≡ b → still x ≡ not b
-      by_test x there true e =
-          let one : x ≡ slot = eqb-true x slot e in
-          none_of (still x) (times_in x later) (asks x)
-          (ap (times_in x) same ∙ subst (λ (n : ℕ). times_in n (queue_without slot before) ≡ 0) (sym one)
-          (gone_from slot before))
-      by_test x there false e =
-          let as_often : times_in x later ≡ times_in x before =
-          ap (times_in x) same ∙ gone_other slot x before (apart (slot == x) refl) in
-          counts (still x) (times_in x later) (asks x) (omega (arith, as_often, there))
-        where
-          apart : (b : Bool) → (slot == x) ≡ b → (slot == x) ≡ false
-          apart true is = absurd (false≢true (sym e ∙ eq-eqb x slot (sym (eqb-true slot x is))))
-          apart false is = is
+      left : (x : ℕ) → 1 ≤ times_in x before → still x ≡ not (x == slot)
+      left x there =
+          elim (cases_Bool (x == slot)) [
+            | inl e ↦ rw e (none_of (still x) (times_in x later) (asks x)
+                (ap (times_in x) same ∙ rw (eqb-true x slot e) (gone_from slot before)))
+            | inr e ↦
+                let apart : (slot == x) ≡ false = grind (arith, nat_tests) in
+                let as_often = ap (times_in x) same ∙ gone_other slot x before apart in
+                rw e (counts (still x) (times_in x later) (asks x) (omega (arith, as_often, there)))
+          ]
 
   moves : (slot : ℕ) → JoinsOrLeaves slot before later → FollowsRequests queue w v before later
   moves slot (inl joined_it) = joins slot joined_it
@@ -107,16 +96,9 @@ module _ (w v : World) (queue : QueueName) (before later : List ℕ)
 
 pub queues_follow_requests : QueuesKeepOrder → ListsStay → QueuesFollowRequests
 queues_follow_requests order stay w choice queue lists =
-    by_change (order w choice queue)
-  where
-    v : World
-    v = after w choice
-
-    later_lists : ListsAreOfRequests v
-    later_lists = stay w (choice ∷ []) lists
-
-    by_change : ChangesByOne (labels w choice) (slots_in queue w.devices.waiting) (slots_in queue v.devices.waiting)
-        → FollowsRequests queue w v (slots_in queue w.devices.waiting) (slots_in queue v.devices.waiting)
-    by_change (inl same) = stays w v queue _ _ (lists.each queue) (later_lists.each queue) same
-    by_change (inr one) =
-        moves w v queue _ _ (lists.each queue) (later_lists.each queue) one.1.slot one.4
+    let v = after w choice in
+    let later = stay w (choice ∷ []) lists in
+    elim (order w choice queue) [
+      | inl same ↦ stays w v queue _ _ (lists.each queue) (later.each queue) same
+      | inr one ↦ moves w v queue _ _ (lists.each queue) (later.each queue) one.1.slot one.4
+    ]

@@ -7,14 +7,12 @@ use Rattle.tk_base.specs.Regs.{Registers, with_register}
 use Rattle.tk_base.specs.declared.access.Denial.{Denial}
 use Rattle.tk_base.specs.declared.access.Rule.{Rule}
 use Rattle.tk_base.specs.declared.access.Width.{Width}
-use Rattle.tk_base.specs.declared.access.Access.TheVariants.{Load, Store}
 use Rattle.rv32_model.specs.Laws.{Denies}
 use Rattle.rv32_model.specs.UserTurn.{UserTurn, after_load, after_store, effect, executed, fetched, instr_of}
 use Rattle.rv32_model.specs.UserTurn.{on_word, user_turn}
 use Rattle.rv32_model.specs.declared.instr.Instr.{Instr}
 use Rattle.rv32_model.specs.declared.instr.Instr.TheVariants as instrs
 use Rattle.rv32_model.specs.declared.instr.LoadKind.{LoadKind}
-use Rattle.rv32_model.specs.declared.turn_end.TurnEnd.TheVariants as ends
 use Rattle.syscall_abi.specs.Reply.{reply_words, with_words}
 use Rattle.syscall_abi.specs.declared.form.CallForm.{CallForm}
 use Rattle.syscall_abi.specs.declared.reply.Reply.{Reply}
@@ -32,7 +30,7 @@ use Rattle.kernel_model.specs.Calls.{Served, failure_of, restart, served}
 use Rattle.kernel_model.specs.Calls.{yielding}
 use Rattle.kernel_model.specs.Lives.{HoldsThroughout}
 use Rattle.process_record.specs.Parts.{after_fault}
-use Rattle.kernel_model.specs.Parts.{calls, with_process}
+use Rattle.kernel_model.specs.Parts.{with_process}
 use Rattle.kernel_model.specs.Record.{Record, byte_at, instruction, with_effect}
 use Rattle.kernel_model.specs.declared.settings.Settings.{Settings}
 use Rattle.kernel_model.specs.Turn.{faulted, surroundings, turn_counted}
@@ -59,18 +57,9 @@ module _ (denies : Denies) (bytes : ℕ → ℕ) (regs : Registers) where
   store_many length_is width at value (Some rule) = refl
 
   effect_many : (size : ℕ) (instr : Instr) → length (effect denies bytes size instr regs).regs.x ≡ length regs.x
-  effect_many size (instrs.Lui rd imm) = as_many regs rd _
-  effect_many size (instrs.Auipc rd imm) = as_many regs rd _
-  effect_many size (instrs.Jal rd offset) = as_many regs rd _
-  effect_many size (instrs.Jalr rd rs1 offset) = as_many regs rd _
-  effect_many size (instrs.Branch test rs1 rs2 offset) = refl
   effect_many size (instrs.Load kind rd rs1 offset) = load_many size kind rd _ _ _
   effect_many size (instrs.Store width rs1 rs2 offset) = store_many size width _ _ _
-  effect_many size (instrs.OpImm op rd rs1 imm) = as_many regs rd _
-  effect_many size (instrs.Op op rd rs1 rs2) = as_many regs rd _
-  effect_many size instrs.Fence = refl
-  effect_many size instrs.Ecall = refl
-  effect_many size instrs.Ebreak = refl
+  effect_many size instr = search as_many
 
   executed_many : (size : ℕ) (o : Option Instr) → length (executed denies bytes size o regs).regs.x ≡ length regs.x
   unfolding executed

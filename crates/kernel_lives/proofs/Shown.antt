@@ -1,11 +1,10 @@
 -- That a process's own calls write the bytes that they promise: the clock, and the flag of a yield. What an accepted
 -- call leaves is known by its class (`Accepts`); bytes that are written over others stand at their own places and leave
 -- all others. That they lie in the process's bytes is so since its own is whole.
-use Rattle.std.proofs.Common.{◌≡◌, ◌⊎◌, inl, inr, ◌<◌, ◌≤◌, ℕ, ◌+◌, ◌-◌, Bool, true, false, cond, min, List}
-use Rattle.std.proofs.Common.{length, take, Option, None, Some, IfSome, slice_get, slice_index, slice_set, refl, sym}
+use Rattle.std.proofs.Common.{◌≡◌, ◌⊎◌, ◌<◌, ◌≤◌, ℕ, ◌+◌, ◌-◌, true, min, List}
+use Rattle.std.proofs.Common.{length, take, Option, None, Some, IfSome, slice_get, slice_index, refl, sym}
 use Rattle.std.proofs.Common.{ap, subst, ◌∙◌, arith}
 use Rattle.std.specs.Int.{w32, to_le_bytes}
-use Rattle.std.proofs.lemmas.Bool.{cases_lt, false≢true}
 use Rattle.std.proofs.lemmas.Bool.Decides.{nat_tests}
 use Rattle.std.proofs.lemmas.List.{get_or-set_same, length-take, places}
 use Rattle.tk_base.specs.Bytes.{over}
@@ -17,7 +16,6 @@ use Rattle.rv32_model.specs.Laws.{CallsAreOfEcall}
 use Rattle.process_layout.specs.Interval.{lies_within}
 use Rattle.process_model.specs.Changes.{own_byte}
 use Rattle.process_model.specs.Flag.{with_flag}
-use Rattle.process_model.specs.Handed.{lies_in_ram}
 use Rattle.process_model.specs.Own.{Own}
 use Rattle.process_model.specs.Served.{fitting}
 use Rattle.process_record.specs.declared.emit.CallMade.{CallMade}
@@ -36,47 +34,21 @@ use Rattle.kernel_laws.proofs.Accepted.{Accepts, HasCome, accepted_yield, comes_
 use Rattle.kernel_laws.proofs.Between.{of_each_turn, of_turns_at}
 use Rattle.kernel_lives.specs.Given.{ClockIsShown, ClocksAreShown, FlagTells, FlagsTell, HasFlag}
 use Rattle.kernel_lives.proofs.OwnBuffers.{writable_lies}
-use Rattle.kernel_lives.proofs.StoredBytes.{over_read}
 use Rattle.kernel_model.proofs.Places.{same_some}
-
--- bytes that are written over others change their own places alone
-over_beside : (xs ys : List ℕ) (p k : ℕ) → k < length xs → (k < p) ⊎ (p + length ys ≤ k)
-    → slice_index (over xs p ys) k ≡ slice_index xs k
-over_beside xs ys p k within (inl below) = grind (arith, places)
-over_beside xs ys p k within (inr above) = grind (arith, places)
 
 -- Four bytes that are written to the start of a buffer, as many as fit.
 module _ (ram le : List ℕ) (four : length le ≡ 4) (buffer : ℕ × ℕ) (start : ℕ) where
   abbrev written : List ℕ
   written = over ram (buffer.0 - start + 0) (fitting buffer 0 le)
 
-  fits_all : buffer.1 - 0 ≡ buffer.1
-  fits_all = omega arith
-
   stands : (k : ℕ) → start ≤ buffer.0 → buffer.0 + buffer.1 ≤ start + length ram → k < length (take buffer.1 le)
       → slice_index written (buffer.0 + 0 + k - start) ≡ slice_index (take buffer.1 le) k
-  stands k above below less =
-      let size = length-take buffer.1 le in
-      let at : buffer.0 + 0 + k - start ≡ buffer.0 - start + 0 + k = omega (arith, above) in
-      ap (λ (n : ℕ). slice_index (over ram (buffer.0 - start + 0) (take n le)) (buffer.0 + 0 + k - start)) fits_all
-      ∙ ap (slice_index (over ram (buffer.0 - start + 0) (take buffer.1 le))) at
-      ∙ over_read ram (take buffer.1 le) (buffer.0 - start + 0) k less (omega (arith, size, above, below))
+  stands k above below less = grind (arith, places)
 
   beside : (at : ℕ) → (1 ≤ buffer.1 → start ≤ buffer.0) → start ≤ at → at - start < length ram
       → (at < buffer.0) ⊎ (buffer.0 + min 4 buffer.1 ≤ at)
       → slice_index written (at - start) ≡ slice_index ram (at - start)
-  beside at lies low within (inl below) =
-      over_beside ram (fitting buffer 0 le) (buffer.0 - start + 0) (at - start) within (inl (omega (arith, below, low)))
-  beside at lies low within (inr past) =
-      over_beside ram (fitting buffer 0 le) (buffer.0 - start + 0) (at - start) within
-      (inr (by_size (cases_lt 0 buffer.1)))
-    where
-      size : length (fitting buffer 0 le) ≡ min (buffer.1 - 0) (length le)
-      size = length-take (buffer.1 - 0) le
-
-      by_size : (0 < buffer.1) ⊎ (buffer.1 ≤ 0) → buffer.0 - start + 0 + length (fitting buffer 0 le) ≤ at - start
-      by_size (inl some) = let above : start ≤ buffer.0 = lies some in omega (arith, size, above, past, low, four)
-      by_size (inr none) = omega (arith, size, none, past)
+  beside at lies low within out = grind (arith, places)
 
 -- the clock, where each byte of the process is as it is once it was shown
 pub clock_shown : (now : ℕ) (r s : Record)
@@ -127,12 +99,8 @@ in_place low high at from below = grind (arith, nat_tests)
 flag_byte : (at byte : ℕ) (own : Own) → own.layout.start ≤ at → at < own.layout.brk
     → at - own.layout.start < length own.ram → own_byte (with_flag at byte own) at ≡ byte
 flag_byte at byte own from below within =
-    by_place (lies_in_ram own.layout at 1) (in_place own.layout.start own.layout.brk at from below)
-  where
-    by_place : (b : Bool) → b ≡ true
-        → own_byte (cond b (record own { ram = slice_set own.ram (at - own.layout.start) byte }) own) at ≡ byte
-    by_place true is = get_or-set_same own.ram (at - own.layout.start) byte 0 within
-    by_place false is = absurd (false≢true is)
+    rw (in_place own.layout.start own.layout.brk at from below)
+    (get_or-set_same own.ram (at - own.layout.start) byte 0 within)
 
 module _ (r s : Record) (call : CallMade)
     (comes : call.class ≡ 0 → call.rule ≡ None → HasCome yields r s call) where
@@ -141,10 +109,7 @@ module _ (r s : Record) (call : CallMade)
       → s ≡ (yield_now (turn_counted r) (slice_index call.args 1) first).after
   unfolding yielding
   yielded_now has first is =
-      (comes has.yield.class has.yield.accepted).after
-      ∙ ap (λ (n : ℕ). (yielding (turn_counted r) n (slice_index call.args 1) (slice_index call.args 2)).after)
-      has.yield.number
-      ∙ ap (λ (o : Option Scheduled). (yield_now (turn_counted r) (slice_index call.args 1) o).after) is
+      (comes has.yield.class has.yield.accepted).after ∙ rw (has.yield.number, is)
 
   written_there : HasFlag r call → HasWholeOwn r → (byte : ℕ)
       → own_byte (with_flag (slice_index call.args 1) byte r.own) (slice_index call.args 1) ≡ byte
@@ -156,13 +121,8 @@ module _ (r s : Record) (call : CallMade)
   flag_tells : FlagTells r s call
   flag_tells = record {
     delivered = λ has whole u rest pending.
-        ap (λ (x : Record). own_byte x.own (slice_index call.args 1))
-        (yielded_now has (Some u) (ap (λ (p : List Scheduled). slice_get p 0) pending))
-        ∙ written_there has whole 1;
-    none = λ has whole pending.
-        ap (λ (x : Record). own_byte x.own (slice_index call.args 1))
-        (yielded_now has None (ap (λ (p : List Scheduled). slice_get p 0) pending))
-        ∙ written_there has whole 0;
+        rw (yielded_now has (Some u) (rw pending)) (written_there has whole 1);
+    none = λ has whole pending. rw (yielded_now has None (rw pending)) (written_there has whole 0);
   }
 
 pub flags_tell : CallsAreOfEcall → FlagsTell

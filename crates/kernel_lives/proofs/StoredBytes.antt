@@ -1,15 +1,12 @@
 -- That storage is memory: a turn leaves it, a served write is written over it, and all else leaves it. Each part of a
 -- turn has the record's storage as it was, so an event writes what it says (`writes_at`), and a history all of that,
 -- one after another, by induction. What a read gives is then read back from the buffer.
-use Rattle.std.proofs.Common.{◌≡◌, ◌≤◌, ◌<◌, ◌⊎◌, inl, inr, ℕ, ◌+◌, ◌-◌, Bool, true, false, cond, min, List, []}
-use Rattle.std.proofs.Common.{◌∷◌, ◌++◌, length, take, drop, map, Option, None, Some}
-use Rattle.std.proofs.Common.{unwrap_or, refl, sym, ap, subst, ◌∙◌, arith, slice_index, slice_range}
-use Rattle.std.specs.Prelude.{IfSome}
-use Rattle.std.specs.Option.{option_map}
-use Rattle.std.proofs.lemmas.List.{length-drop, length-take, places, take_all}
+use Rattle.std.proofs.Common.{◌≡◌, ◌≤◌, ◌<◌, inl, inr, ℕ, ◌+◌, ◌-◌, Bool, true, false, min, List, []}
+use Rattle.std.proofs.Common.{◌∷◌, ◌++◌, length, take, drop, None, Some}
+use Rattle.std.proofs.Common.{refl, sym, ap, ◌∙◌, arith, slice_index, slice_range}
+use Rattle.std.proofs.lemmas.List.{length-take, places, take_all}
 use Rattle.std.proofs.lemmas.List.FromFn.{length-map-range_with_len}
 use Rattle.std.proofs.lemmas.Bool.{cases_lt}
-use Rattle.std.specs.List.{range_with_len}
 use Rattle.tk_base.specs.Bytes.{over}
 use Rattle.tk_base.specs.declared.kinds.PairKind.TheVariants.{ReadOnly}
 use Rattle.tk_base.specs.declared.process.Verb.{Verb}
@@ -17,25 +14,23 @@ use Rattle.tk_base.specs.declared.process.Verb.TheVariants as verbs
 use Rattle.grant_values.specs.declared.storage.StorageKind.{StorageKind}
 use Rattle.grant_values.specs.declared.storage.StorageKind.TheVariants.{Read, Write}
 use Rattle.grant_values.specs.declared.storage.StorageRequest.{StorageRequest}
-use Rattle.rv32_model.specs.declared.turn_end.TurnEnd.TheVariants as ends
-use Rattle.fault_policy.specs.declared.Action.TheVariants.{Stop, Restart}
 use Rattle.syscall_abi.specs.declared.form.CallForm.{CallForm}
 use Rattle.process_model.specs.Changes.{own_byte}
-use Rattle.process_model.specs.Served.{fitting, bytes_at, ram_at}
+use Rattle.process_model.specs.Served.{fitting, bytes_at}
 use Rattle.process_model.specs.Own.{Own}
 use Rattle.process_model.specs.Handed.{held, lies_in_ram}
 use Rattle.process_record.specs.Parts.{after_fault}
 use Rattle.board_devices.specs.Storage.{overwritten}
 use Rattle.driver_model.specs.Bytes.{stored_buffer}
-use Rattle.driver_model.specs.Requests.{keeping_request, unanswered, waiting_in}
+use Rattle.driver_model.specs.Requests.{keeping_request, waiting_in}
 use Rattle.driver_model.specs.Steps.{own_after}
 use Rattle.driver_model.specs.Storage as storage
 use Rattle.driver_model.specs.Drivers.{CommandContext}
 use Rattle.kernel_model.specs.Record.{Record, flash_of, with_effect}
 use Rattle.kernel_model.specs.declared.settings.Settings.{Settings}
 use Rattle.kernel_model.specs.Calls.{restart, served}
-use Rattle.kernel_model.specs.Parts.{calls, with_process, written_over}
-use Rattle.kernel_model.specs.Turn.{Act, Event, Turn, Alarmed, Edge, Taken, WriteDone, Input, Word, NoWord, Stored}
+use Rattle.kernel_model.specs.Parts.{with_process, written_over}
+use Rattle.kernel_model.specs.Turn.{Act, Event, Turn, Stored}
 use Rattle.kernel_model.specs.Turn.{apply, operated, surroundings, turn_counted}
 use Rattle.kernel_model.specs.Turn.{turned}
 use Rattle.kernel_model.specs.Replay.{history, replay}
@@ -47,6 +42,8 @@ use Rattle.kernel_model.proofs.Turning.{of_denial, of_each_end}
 use Rattle.kernel_model.proofs.Yields.{kept_by_yield}
 use Rattle.kernel_lives.specs.StoredBytes.{ReadsGiveStorage, StorageIsMemory, all_written, write_by, writes_at}
 use Rattle.kernel_lives.specs.StoredBytes.{writes_in}
+use Rattle.std.proofs.lemmas.Bool.{cond_both}
+use Rattle.kernel_lives.proofs.Changes.{none_or_one}
 
 -- no restart changes it
 restarted : (r : Record) → (restart r).storage ≡ r.storage
@@ -88,23 +85,20 @@ turn_leaves_storage settings time r =
 
 -- a buffer gives no more bytes than it has
 buffer_size : (flash : ℕ → ℕ) (own : Own) (buffer : ℕ × ℕ) → length (bytes_at flash own buffer) ≤ buffer.1
-buffer_size flash own buffer = by_place (lies_in_ram own.layout buffer.0 buffer.1)
-  where
-    by_place : (b : Bool)
-        → length (cond b (ram_at own buffer) (map flash (range_with_len buffer.0 buffer.1))) ≤ buffer.1
-    by_place true =
-        let from = buffer.0 - own.layout.start in
-        let size = length-take (from + buffer.1 - from) (drop from own.ram) in omega (arith, size)
-    by_place false = let size = length-map-range_with_len flash buffer.0 buffer.1 in omega (arith, size)
+buffer_size flash own buffer =
+    let from = buffer.0 - own.layout.start in
+    cond_both (lies_in_ram own.layout buffer.0 buffer.1) _ _ (λ (xs : List ℕ). length xs ≤ buffer.1)
+    (λ e. omega (arith, length-take (from + buffer.1 - from) (drop from own.ram)))
+    (λ e. omega (arith, length-map-range_with_len flash buffer.0 buffer.1))
 
 take_fewer : {X : Type 0} (k n : ℕ) (xs : List X) → length xs ≤ n → take (min k n) xs ≡ take k xs
-take_fewer k n xs few = by_order (cases_lt n k)
-  where
-    by_order : (n < k) ⊎ (k ≤ n) → take (min k n) xs ≡ take k xs
-    by_order (inl less) =
-        let is : min k n ≡ n = omega (arith, less) in
-        ap (λ (i : ℕ). take i xs) is ∙ take_all n xs few ∙ sym (take_all k xs (omega (arith, few, less)))
-    by_order (inr more) = let is : min k n ≡ k = omega (arith, more) in ap (λ (i : ℕ). take i xs) is
+take_fewer k n xs few =
+    elim (cases_lt n k) [
+      | inl less ↦
+          let is : min k n ≡ n = omega (arith, less) in
+          rw is (take_all n xs few ∙ sym (take_all k xs (omega (arith, few, less))))
+      | inr more ↦ let is : min k n ≡ k = omega (arith, more) in rw is
+    ]
 
 -- a request that is served writes what it asks for
 serves : (r : Record) (request : StorageRequest) (kind : StorageKind)
@@ -121,50 +115,31 @@ served_writes : (r : Record)
     → written_over r.storage (storage.answered false (flash_of r) r.storage r.own).moved
     ≡ all_written (writes_at (Stored true) r) r.storage
 unfolding storage.answered
-served_writes r = by_request (waiting_in storage.storages r.own)
-  where
-    by_request : (o : Option StorageRequest)
-        → written_over r.storage (unwrap_or (option_map (λ request.
-        storage.finished (storage.storage_served false (flash_of r) r.storage request r.own)) o)
-        (unanswered None r.own)).moved
-        ≡ all_written (unwrap_or (option_map (λ request. write_by r request request.kind) o) []) r.storage
-    by_request None = refl
-    by_request (Some request) = serves r request request.kind
+served_writes r =
+    elim (none_or_one (waiting_in storage.storages r.own)) [
+      | inl none ↦ rw none
+      | inr (request, is) ↦ rw is (serves r request request.kind)
+    ]
 
 failed_writes : (r : Record) → written_over r.storage (storage.answered true (flash_of r) r.storage r.own).moved
     ≡ r.storage
 unfolding storage.answered
-failed_writes r = by_request (waiting_in storage.storages r.own)
-  where
-    by_request : (o : Option StorageRequest)
-        → written_over r.storage (unwrap_or (option_map (λ request.
-        storage.finished (storage.storage_served true (flash_of r) r.storage request r.own)) o)
-        (unanswered None r.own)).moved ≡ r.storage
-    by_request None = refl
-    by_request (Some request) = refl
+failed_writes r =
+    elim (none_or_one (waiting_in storage.storages r.own)) [ inl none ↦ rw none | inr (request, is) ↦ rw is ]
 
 pub acted : (verb : Verb) (r : Record) → (operated verb r).storage ≡ r.storage
-acted verbs.List r = refl
-acted verbs.Stop r = refl
-acted verbs.Start r = refl
-acted verbs.Terminate r = refl
 acted verbs.Restart r = restarted r
+acted verb r = refl
 
 -- each thing that happens to a process writes what it says over its storage
 pub one_writes : (settings : Settings) (event : Event) (r : Record)
     → (apply settings event r).storage ≡ all_written (writes_at event r) r.storage
 unfolding apply
 one_writes settings (Turn time) r = turn_leaves_storage settings time r
-one_writes settings (Alarmed now) r = refl
-one_writes settings (Edge button pressed) r = refl
-one_writes settings Taken r = refl
-one_writes settings WriteDone r = refl
-one_writes settings (Input bytes) r = refl
-one_writes settings (Word word) r = refl
-one_writes settings NoWord r = refl
 one_writes settings (Stored true) r = served_writes r
 one_writes settings (Stored false) r = failed_writes r
 one_writes settings (Act verb) r = acted verb r
+one_writes settings event r = refl
 
 written_then : (ws vs : List (ℕ × List ℕ)) (bytes : List ℕ)
     → all_written (ws ++ vs) bytes ≡ all_written vs (all_written ws bytes)
@@ -181,41 +156,14 @@ history_writes settings (event ∷ events) r =
 
 pub storage_is_memory : StorageIsMemory
 storage_is_memory w choices slot first is =
-    subst (λ (o : Option Record). IfSome o (λ now.
-    now.storage ≡ all_written (writes_in w.settings (history slot w choices) first) first.storage))
-    (sym (record_is_replay w choices slot ∙ ap (option_map (replay w.settings (history slot w choices))) is))
-    (history_writes w.settings (history slot w choices) first)
-
--- bytes that are written over others are read there, and so are bytes of an interval
-pub over_read : (ram copied : List ℕ) (from k : ℕ) → k < length copied → from + length copied ≤ length ram
-    → slice_index (over ram from copied) (from + k) ≡ slice_index copied k
-over_read ram copied from k less fits = grind (arith, places)
-
-range_read : (bytes : List ℕ) (from n k : ℕ) → k < n → from + n ≤ length bytes
-    → slice_index (slice_range bytes from (from + n)) k ≡ slice_index bytes (from + k)
-range_read bytes from n k less fits = grind (arith, places)
-
-range_size : (bytes : List ℕ) (from n : ℕ) → from + n ≤ length bytes → length (slice_range bytes from (from + n)) ≡ n
-range_size bytes from n fits =
-    let front = length-take (from + n - from) (drop from bytes) in
-    let rest = length-drop from bytes in
-    omega (arith, front, rest, fits)
+    rw (record_is_replay w choices slot, is) (history_writes w.settings (history slot w choices) first)
 
 -- where so many bytes of an interval are put at a buffer's start, its byte k is that of the interval
 put_read : (ram bytes : List ℕ) (buffer : ℕ × ℕ) (start offset count k : ℕ) → start ≤ buffer.0
     → buffer.0 + buffer.1 ≤ start + length ram → count ≤ buffer.1 → k < count → offset + count ≤ length bytes
     → slice_index (over ram (buffer.0 - start + 0) (fitting buffer 0 (slice_range bytes offset (offset + count))))
     (buffer.0 + k - start) ≡ slice_index bytes (offset + k)
-put_read ram bytes buffer start offset count k above below few less fits =
-    let copied = slice_range bytes offset (offset + count) in
-    let from = buffer.0 - start + 0 in
-    let size = range_size bytes offset count fits in
-    let at : buffer.0 + k - start ≡ from + k = omega (arith, above) in
-    ap (λ (xs : List ℕ). slice_index (over ram from xs) (buffer.0 + k - start))
-    (take_all (buffer.1 - 0) copied (omega (arith, size, few)))
-    ∙ ap (slice_index (over ram from copied)) at
-    ∙ over_read ram copied from k (omega (arith, size, less)) (omega (arith, size, few, above, below))
-    ∙ range_read bytes offset count k less fits
+put_read ram bytes buffer start offset count k above below few less fits = grind (arith, places)
 
 -- so it is with a read that is served
 module _ (flash : ℕ → ℕ) (bytes : List ℕ) (request : StorageRequest) (own : Own) (k : ℕ)
@@ -236,10 +184,7 @@ module _ (flash : ℕ → ℕ) (bytes : List ℕ) (request : StorageRequest) (ow
       own_byte (own_after (storage.answered false flash bytes own).step) ((stored_buffer own).0 + k)
       ≡ slice_index bytes (request.offset + k)
   unfolding storage.answered
-  answered read waits =
-      ap (λ (o : Option StorageRequest). own_byte (own_after (unwrap_or (option_map (λ request.
-      storage.finished (storage.storage_served false flash bytes request own)) o)
-      (unanswered None own)).step) ((stored_buffer own).0 + k)) waits ∙ moved request.kind read
+  answered read waits = rw waits (moved request.kind read)
 
 pub reads_give_storage : ReadsGiveStorage
 unfolding apply

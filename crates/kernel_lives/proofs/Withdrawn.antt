@@ -4,37 +4,26 @@
 -- with that life alone.
 use Rattle.std.proofs.Common.{◌≡◌, ◌≢◌, ◌⊎◌, inl, inr, ℕ, ◌+◌, ◌==◌, ◌&&◌, ◌||◌, not, Bool, true, false, cond, List}
 use Rattle.std.proofs.Common.{[], ◌∷◌, Option, None, Some, slice_get, slice_set, is_some, unwrap_or, refl, sym}
-use Rattle.std.proofs.Common.{ap, ap₂, subst, ◌∙◌, arith, eqb-true, eq-eqb}
+use Rattle.std.proofs.Common.{◌∙◌, arith, eq-eqb}
 use Rattle.std.specs.Prelude.{IsSomeAnd}
 use Rattle.std.specs.List.{Any, list_any}
 use Rattle.std.specs.Option.{option_map}
 use Rattle.std.proofs.lemmas.Bool.{false≢true}
-use Rattle.std.proofs.lemmas.Option.{slice_get-map}
-use Rattle.board_devices.specs.Arriving.{differs}
-use Rattle.tk_base.specs.declared.process.Choice.{Choice}
-use Rattle.tk_base.specs.declared.process.Choice.TheVariants.{Run, Device, Pass}
 use Rattle.tk_base.specs.declared.process.Dev.{Dev}
 use Rattle.tk_base.specs.declared.process.Verb.TheVariants as verbs
 use Rattle.process_record.specs.declared.emit.CallMade.{CallMade}
 use Rattle.driver_model.specs.Answers.{LinesFollowAnswers}
 use Rattle.driver_model.specs.Commands.{QueueName, Reads, order_of}
-use Rattle.driver_model.specs.Console as console
 use Rattle.driver_model.specs.Lines.{RequestOf, has_waiting}
-use Rattle.driver_model.specs.Random as random
-use Rattle.kernel_model.specs.Laws.{edge_done, edge_heard, one_answered, quiet}
-use Rattle.kernel_model.specs.Named.{words_in}
-use Rattle.kernel_model.specs.Parts.{alarmed, drawn_event, edge_known}
-use Rattle.kernel_model.specs.Record.{Record, flash_of}
+use Rattle.kernel_model.specs.Laws.{edge_done, one_answered, quiet}
+use Rattle.kernel_model.specs.Record.{Record}
 use Rattle.kernel_model.specs.declared.settings.Settings.{Settings}
-use Rattle.kernel_model.specs.Turn.{Act, Event, Taken, TurnTrace, Turned, WriteDone, apply, is_turn}
+use Rattle.kernel_model.specs.Turn.{Act, Event, TurnTrace, Turned, apply, is_turn}
 use Rattle.kernel_model.specs.Turn.{surroundings, turned}
-use Rattle.kernel_model.specs.World.{DeviceAnswer, Label, Stepped, World, after, after_turn_of, answer_label}
-use Rattle.kernel_model.specs.World.{carried_out}
-use Rattle.kernel_model.specs.World.{device_step_of, done, labels, lane_in, operating, ran, random_step}
-use Rattle.kernel_model.specs.World.{receive_step, storing}
-use Rattle.kernel_model.specs.World.{transmitting, turn_label, unmade}
-use Rattle.kernel_model.proofs.Places.{of_stepped, set_own, slice_get-set_other, same_some}
-use Rattle.kernel_model.proofs.Told.{of_device, with_arrived, with_rest}
+use Rattle.kernel_model.specs.World.{DeviceAnswer, Stepped, World, after, after_turn_of}
+use Rattle.kernel_model.specs.World.{device_step_of, done, operating, ran}
+use Rattle.kernel_model.specs.World.{unmade}
+use Rattle.kernel_model.proofs.Places.{same_some}
 use Rattle.kernel_laws.specs.Arming.{Becomes, SetsBy}
 use Rattle.kernel_laws.specs.Queues.{queue_for}
 use Rattle.kernel_laws.specs.Withdrawing.{SetsRequest}
@@ -43,6 +32,14 @@ use Rattle.kernel_laws.proofs.Withdrawing.{leaves, request_becomes}
 use Rattle.kernel_lives.specs.Lists.{asks_at}
 use Rattle.kernel_lives.specs.Requests.{CancelsRead, EndsLife, IsWithdrawnBy, RequestsAreWithdrawn, answers_for}
 use Rattle.kernel_lives.specs.Requests.{asks_in}
+use Rattle.std.proofs.lemmas.Bool.{and_parts, not-true, true≢false}
+use Rattle.kernel_lives.proofs.Lists.{edge_asks}
+use Rattle.kernel_lives.proofs.Changes.{of_each_choice, put_at}
+use Rattle.kernel_model.proofs.Steps.{answer_no_turn, of_answers}
+use Rattle.kernel_model.proofs.Places.{same_there}
+use Rattle.std.proofs.Common.{List}
+use Rattle.kernel_model.specs.Turn.{Turn, untraced}
+use Rattle.std.proofs.lemmas.Bool.{cases_Bool}
 
 -- A request that waited is kept still, and waits no more: its process lives no more.
 module _ (queue : QueueName) where
@@ -52,14 +49,11 @@ module _ (queue : QueueName) where
 
   lives_no_more : (r s : Record) → has_waiting queue r.own ≡ true → has_waiting queue s.own ≡ false
       → asks queue s.own ≡ asks queue r.own → s.own.lives ≡ false
-  lives_no_more r s waits ends same = by_life s.own.lives refl
-    where
-      by_life : (b : Bool) → s.own.lives ≡ b → s.own.lives ≡ false
-      by_life false e = e
-      by_life true e =
-          absurd (false≢true (sym ends ∙ ap₂ (λ (b : Bool) (o : Option (RequestOf queue)). is_some (cond b o None)) e
-          same
-          ∙ kept_waits r.own.lives (asks queue r.own) waits))
+  lives_no_more r s waits ends same =
+      elim (cases_Bool s.own.lives) [
+        | inl e ↦ absurd (false≢true (sym ends ∙ rw (e, same) (kept_waits r.own.lives (asks queue r.own) waits)))
+        | inr e ↦ e
+      ]
 
   -- an answer of another queue's device, or an operator's act, ends one only with its process's life
   event_ends : (settings : Settings) (event : Event) (r : Record) → is_turn event ≡ false → queue_for event ≢ Some queue
@@ -81,34 +75,27 @@ module _ (queue : QueueName) where
       has_waiting queue r.own ≡ true → has_waiting queue t.after.own ≡ false → Withdraws t.told r t.after
   turn_ends settings time r waits ends = by_change (request_becomes queue settings time r)
     where
-      t : Turned
-      t = turned settings time r
-
       now : ℕ
       now = (surroundings settings time r).now
 
-      none_before : asks queue r.own ≡ None → ⊥
-      none_before none =
-          false≢true (sym (ap (λ (o : Option (RequestOf queue)). is_some o) none)
-          ∙ kept_waits r.own.lives (asks queue r.own) waits)
-
-      by_command : (call : CallMade) → SetsBy (SetsRequest queue) now (asks queue r.own) (asks queue t.after.own) call
-          → SetsRequest queue now (asks queue r.own) call.args (asks queue t.after.own)
-          → (queue ≡ Reads) × CancelsRead call
-      by_command call set (inl new) = absurd (none_before new.0)
-      by_command call set (inr gone) = (
-        gone.0,
-        record {
-          accepted = record { class = set.class; accepted = set.accepted; of_driver = gone.1.0.0 };
-          number = gone.1.0.1;
-        },
-      )
+      t : Turned
+      t = turned settings time r
 
       by_call : (o : Option CallMade)
           → IsSomeAnd o (SetsBy (SetsRequest queue) now (asks queue r.own) (asks queue t.after.own))
           → (queue ≡ Reads) × IsSomeAnd o CancelsRead
       by_call None none = absurd none
-      by_call (Some call) set = by_command call set set.sets
+      by_call (Some call) set =
+          elim set.sets [
+            | inl new ↦ absurd (false≢true (rw new.0 at (kept_waits r.own.lives (asks queue r.own) waits)))
+            | inr gone ↦ (
+              gone.0,
+              record {
+                accepted = record { class = set.class; accepted = set.accepted; of_driver = gone.1.0.0 };
+                number = gone.1.0.1;
+              },
+            )
+          ]
 
       by_change : Becomes (SetsRequest queue) None now t.told r t.after (asks queue r.own) (asks queue t.after.own)
           → Withdraws t.told r t.after
@@ -124,127 +111,68 @@ module _ (follow : LinesFollowAnswers) (w : World) (queue : QueueName) (slot : �
       (later : Record) → slice_get s.after.records slot ≡ Some later → has_waiting queue later.own ≡ false
       → list_any (answers_for queue slot) s.labels ≡ false → Any (IsWithdrawnBy queue slot r later) s.labels
 
-  kept : (s : Stepped) (now : Record) → slice_get s.after.records slot ≡ Some now → has_waiting queue now.own ≡ true
+  kept : (s : Stepped) → asks_at queue (slice_get s.after.records slot) ≡ asks_at queue (slice_get w.records slot)
       → Withdrawn s
-  kept s now there waits_on later is_later ends none =
-      absurd (false≢true (sym ends
-      ∙ ap (λ (x : Record). has_waiting queue x.own) (same_some later now (sym is_later ∙ there)) ∙ waits_on))
+  kept s same later is_later ends none = absurd (false≢true (sym ends ∙ (rw (is_later, is) at same) ∙ waits))
 
   -- where one record becomes another one, and one label tells it
-  changes : (v : World) (at : ℕ) (q next : Record) (label : Label) → label.slot ≡ at → slice_get w.records at ≡ Some q
-      → v.records ≡ slice_set w.records at next
-      → (has_waiting queue q.own ≡ true → has_waiting queue next.own ≡ false → queue_for label.event ≢ Some queue
-      → Withdraws queue label.trace q next)
-      → Withdrawn (record { after = v; labels = label ∷ [] })
-  changes v at q next label of_it there records why = by_slot (at == slot) refl
-    where
-      by_slot : (b : Bool) → (at == slot) ≡ b → Withdrawn (record { after = v; labels = label ∷ [] })
-      by_slot true e later is_later ends none =
-          let here : at ≡ slot = eqb-true at slot e in
-          let q_is : q ≡ r = same_some q r (sym there ∙ ap (slice_get w.records) here ∙ is) in
-          let next_is : next ≡ later =
-          same_some next later (sym (ap (λ (rs : List Record). slice_get rs slot) records
-          ∙ ap (slice_get (slice_set w.records at next)) (sym here) ∙ set_own w.records at next q there) ∙ is_later) in
-          let untold : queue_for label.event ≢ Some queue =
-          λ told. false≢true (sym none
-          ∙ ap₂ (λ (b : Bool) (o : Option QueueName).
-          (b && unwrap_or (option_map (λ name. order_of name == order_of queue) o) false) || false)
-          (eq-eqb label.slot slot (of_it ∙ here)) told
-          ∙ ap (λ (b : Bool). b || false) (eq-eqb (order_of queue) (order_of queue) refl)) in (
-            0,
-            label,
-            omega arith,
-            refl,
-            record {
-              of_it = of_it ∙ here;
-              why = subst (λ (x : Record). Withdraws queue label.trace x later) q_is
-                  (subst (λ (y : Record). Withdraws queue label.trace q y) next_is
-                  (why (ap (λ (x : Record). has_waiting queue x.own) q_is ∙ waits)
-                  (ap (λ (x : Record). has_waiting queue x.own) next_is ∙ ends) untold));
-            },
-          )
-      by_slot false e later is_later ends none =
-          kept (record { after = v; labels = label ∷ [] }) r
-          (ap (λ (rs : List Record). slice_get rs slot) records
-          ∙ slice_get-set_other w.records at slot next (λ same. false≢true (sym e ∙ eq-eqb at slot (sym same))) ∙ is)
-          waits later is_later ends none
+  changes : (v : World) (at : ℕ) (q next : Record) (event : Event) (trace : TurnTrace) (printed : List ℕ)
+      → slice_get w.records at ≡ Some q → v.records ≡ slice_set w.records at next
+      → (has_waiting queue q.own ≡ true → has_waiting queue next.own ≡ false → queue_for event ≢ Some queue
+      → Withdraws queue trace q next)
+      → Withdrawn (record {
+        after = v;
+        labels = record { slot = at; event = event; trace = trace; printed = printed } ∷ [];
+      })
+  changes v at q next event trace printed there records why later is_later ends none =
+      put_at (λ k b o. slice_get w.records k ≡ Some r → o ≡ Some later
+      → ((b && unwrap_or (option_map (λ name. order_of name == order_of queue) (queue_for event)) false) || false)
+      ≡ false → Any (IsWithdrawnBy queue k r later)
+      (record { slot = at; event = event; trace = trace; printed = printed } ∷ [])) w.records at q next there
+      (λ is_r is_next untold.
+      let q_is = same_there _ q r there is_r in
+      let next_is = same_some next later is_next in (
+        0,
+        record { slot = at; event = event; trace = trace; printed = printed },
+        omega arith,
+        refl,
+        record {
+          of_it = refl;
+          why = rw (← q_is, ← next_is) (why (rw q_is waits) (rw next_is ends)
+              (λ told. true≢false (rw (told, eq-eqb (order_of queue) (order_of queue) refl) at untold)));
+        },
+      ))
+      (λ k apart is_r is_next untold.
+      absurd (false≢true (sym ends ∙ rw (same_there _ later r is_next is_r) waits)))
+      slot is (rw records at is_later) none
 
   answered : (at : ℕ) (q : Record) (a : DeviceAnswer) → slice_get w.records at ≡ Some q
       → is_turn a.answer.event ≡ false → Withdrawn (one_answered w at q a)
   answered at q a there no_turn =
-      changes (one_answered w at q a).after at q (apply w.settings a.answer.event q) (answer_label at a.answer) refl
-      there
-      refl
+      changes (one_answered w at q a).after at q (apply w.settings a.answer.event q) a.answer.event untraced
+      a.answer.printed there refl
       (λ waited ends untold. inr (event_ends queue w.settings a.answer.event q no_turn untold waited ends))
 
-  edge_waits : (button : ℕ) (pressed : Bool) → has_waiting queue (edge_heard button pressed r).own ≡ true
-  edge_waits button pressed = by_test (differs r.pressed button pressed)
-    where
-      by_test : (b : Bool) → has_waiting queue (cond b (edge_known button pressed r) r).own ≡ true
-      by_test true = (follow.edges button pressed r.own).lines queue ∙ waits
-      by_test false = waits
-
-  sent_turn : (completed : Bool) → is_turn (cond completed WriteDone Taken) ≡ false
-  sent_turn true = refl
-  sent_turn false = refl
-
-  drawn_turn : (drawn : Option ℕ) → is_turn (drawn_event drawn) ≡ false
-  drawn_turn None = refl
-  drawn_turn (Some word) = refl
-
   of_deed : (device : Dev) → Withdrawn (done w (device_step_of w device))
-  of_deed device = of_device w Withdrawn (record {
-    none = kept (unmade w) r is waits;
-    arrives = λ bytes rest. kept (quiet w (with_arrived w.devices bytes rest)) r is waits;
-    edges = λ button pressed rest.
-        kept (edge_done w button pressed (with_rest w.devices rest)) (edge_heard button pressed r)
-        (slice_get-map (edge_heard button pressed) w.records slot ∙ ap (option_map (edge_heard button pressed)) is)
-        (edge_waits button pressed);
-    nobody = λ rest. kept (quiet w (with_rest w.devices rest)) r is waits;
-    acts = λ verb rest at q there. answered at q (operating verb (with_rest w.devices rest) at q) there refl;
-    alarms = λ at q first there. answered at q (alarmed w.settings w.clock.time w.devices) there refl;
-    sends = λ at q first there.
-        answered at q (transmitting (lane_in w) w.clock.time w.devices at q) there
-        (sent_turn (console.sent (flash_of q) q.own).completed);
-    receives = λ at q first there. answered at q (receive_step (lane_in w) w.devices at q) there refl;
-    draws = λ at q first there.
-        answered at q (random_step (lane_in w) w.devices at q) there
-        (drawn_turn (random.answered (slice_get (words_in (lane_in w) w.devices) 0) q.own).moved);
-    stores = λ at q first there. answered at q (storing (lane_in w) w.devices at q) there refl;
-  }) device
+  of_deed =
+      of_answers w Withdrawn (kept (unmade w) refl) (λ devices. kept (quiet w devices) refl)
+      (λ button pressed devices. kept (edge_done w button pressed devices)
+      (edge_asks follow queue button pressed w.records slot))
+      (λ at q there a answers. answered at q a there (answer_no_turn a.answer.event answers))
+      (λ verb devices at q there. answered at q (operating verb devices at q) there refl)
 
-  of_ran : (at : ℕ) (o : Option Record) → slice_get w.records at ≡ o → Withdrawn (ran w at o)
-  of_ran at None there = kept (ran w at None) r is waits
-  of_ran at (Some q) there =
+  of_ran : (at : ℕ) (q : Record) → slice_get w.records at ≡ Some q → Withdrawn (ran w at (Some q))
+  of_ran at q there =
       let t = turned w.settings w.clock.time q in
-      changes (after_turn_of w at t) at q t.after (turn_label at w.clock.time t.told) refl there refl
+      changes (after_turn_of w at t) at q t.after (Turn w.clock.time) t.told [] there refl
       (λ waited ends untold. turn_ends queue w.settings w.clock.time q waited ends)
-
-  of_choice : (choice : Choice) → Withdrawn (carried_out w choice)
-  unfolding carried_out
-  of_choice (Run at) = of_ran at (slice_get w.records at) refl
-  of_choice (Device device) = of_deed device
-  of_choice (Pass ticks) = kept (carried_out w (Pass ticks)) r is waits
 
 pub requests_are_withdrawn : LinesFollowAnswers → RequestsAreWithdrawn
 requests_are_withdrawn follow w choice queue slot r s is there withdraws =
-    of_stepped (Withdrawn follow w queue slot r is waits) w choice
-    (kept follow w queue slot r is waits (unmade w) r is waits)
-    (λ ready. of_choice follow w queue slot r is waits choice) s there ends tests.2
-  where
-    parts : (a b c : Bool) → (a && (not b && not c)) ≡ true → (a ≡ true) × (b ≡ false) × (c ≡ false)
-    parts true false false e = (refl, refl, refl)
-    parts true false true e = absurd (false≢true e)
-    parts true true c e = absurd (false≢true e)
-    parts false b c e = absurd (false≢true e)
-
-    tests : (asks_in queue slot w ≡ true) × (asks_in queue slot (after w choice) ≡ false)
-        × (list_any (answers_for queue slot) (labels w choice) ≡ false)
-    tests = parts (asks_in queue slot w) (asks_in queue slot (after w choice))
-        (list_any (answers_for queue slot) (labels w choice)) withdraws
-
-    waits : has_waiting queue r.own ≡ true
-    waits = sym (ap (asks_at queue) is) ∙ tests.0
-
-    ends : has_waiting queue s.own ≡ false
-    ends = sym (ap (asks_at queue) there) ∙ tests.1
+    let asked = and_parts (asks_in queue slot w) _ withdraws in
+    let rest = and_parts (not (asks_in queue slot (after w choice))) _ asked.1 in
+    let waits = rw is at asked.0 in
+    of_each_choice (Withdrawn follow w queue slot r is waits) w (kept follow w queue slot r is waits (unmade w) refl)
+    (of_ran follow w queue slot r is waits) (of_deed follow w queue slot r is waits)
+    (λ clock. kept follow w queue slot r is waits (record (unmade w) { after = record w { clock = clock } }) refl)
+    choice s there (rw there at (not-true _ rest.0)) (not-true _ rest.1)

@@ -1,7 +1,7 @@
 -- Worked cases, computed from the definitions: what laws of this crate have, and a step of a wrong kernel that each
 -- refuses.
 use Rattle.std.proofs.Common.{◌≡◌, ℕ, true, cond, List, [], ◌∷◌, ◌++◌, Some, refl}
-use Rattle.std.proofs.Common.{ap, ap₂, ◌∙◌, arith}
+use Rattle.std.proofs.Common.{ap, ◌∙◌, arith}
 use Rattle.tk_base.specs.declared.access.TheConstants.{FLASH_START, RAM_START}
 use Rattle.tk_base.specs.declared.kinds.PairKind.TheVariants.{ReadWrite, Upcall}
 use Rattle.tk_base.specs.declared.upcall.Upcall.{Upcall as Scheduled}
@@ -78,6 +78,11 @@ gives_two = input_given worked_settings holds (5 ∷ 6 ∷ 7 ∷ []) (Some (reco
 none_gives_three : (r s : Record) → InputIsGiven (5 ∷ 6 ∷ 7 ∷ []) (record { length = 2 }) r s → ⊥
 none_gives_three r s given = let asked = given.asked in omega (arith, asked)
 
+-- the arguments of the one upcall that waits
+first_args : List Scheduled → List ℕ
+first_args [] = []
+first_args (u ∷ rest) = u.args
+
 -- An alarm that fires at 7, and expired at 5; a kernel that tells the two in the other order.
 abbrev told_with : List ℕ → Record
 told_with args = record holds {
@@ -98,25 +103,13 @@ tells_so = record {
 
 none_tells_otherwise :
     AlarmIsGiven 7 (record { reference = 0; delta = 5 }) holds (told_with (5 ∷ 7 ∷ 0 ∷ [])) → ⊥
-unfolding counts_of drivers shape_of
-none_tells_otherwise given = by_args (ap (λ (x : Inbox). first x.pending) given.tells)
-  where
-    first : List Scheduled → List ℕ
-    first [] = []
-    first (u ∷ rest) = u.args
-
-    by_args : ◌≡◌ {A = List ℕ} (5 ∷ 7 ∷ 0 ∷ []) (7 ∷ 5 ∷ 0 ∷ []) → ⊥
-    by_args e = cc
+unfolding counts_of drivers shape_of first_args
+none_tells_otherwise given = cc (ap (λ (x : Inbox). first_args x.pending) given.tells)
 
 -- A queue in which two wait still; a kernel that has them change places.
 none_change_places : (queue : QueueName) (w v : World) → asks_in queue 1 v ≡ true → asks_in queue 2 v ≡ true
     → FollowsRequests queue w v (1 ∷ 2 ∷ []) (2 ∷ 1 ∷ []) → ⊥
-none_change_places queue w v one two follows =
-    by_first (follows.is ∙ ap₂ (λ (b c : _). cond b (1 ∷ cond c (2 ∷ []) []) (cond c (2 ∷ []) []) ++ follows.come) one
-    two)
-  where
-    by_first : ◌≡◌ {A = List ℕ} (2 ∷ 1 ∷ []) (1 ∷ 2 ∷ follows.come) → ⊥
-    by_first e = cc
+none_change_places queue w v one two follows = cc (rw (one, two) at follows.is)
 
 -- A write that completes; a kernel that prints one byte more of it then.
 none_prints_more : (r s : Record) → CompletesTruly 4 4 (65 ∷ []) r s → ⊥
@@ -164,11 +157,6 @@ gives_word = word_given worked_settings asks_four 0x04030201 (record { count = 4
 none_draws_more : (word : ℕ) (r s : Record) → WordIsGiven word (record { count = 4; written = 4 }) r s → ⊥
 none_draws_more word r s given = let short = given.short in omega (arith, short)
 
--- the arguments of the one upcall that waits
-first_args : List Scheduled → List ℕ
-first_args [] = []
-first_args (u ∷ rest) = u.args
-
 -- No word is left; a kernel that tells that all went well.
 none_without_word : NoWordIsGiven (record { count = 4; written = 0 }) asks_four (told_by 0x40001 0 (0 ∷ 0 ∷ 0 ∷ []))
     → ⊥
@@ -184,10 +172,7 @@ none_without_word given = by_outcome given.tells.0 given.tells.1 (ap (λ (x : In
 -- A write of which four bytes were taken; a kernel that tells five.
 none_tells_five : WriteIsDone (record { length = 8; taken = 4 }) asks_four (told_by 0x1 1 (5 ∷ 0 ∷ 0 ∷ [])) → ⊥
 unfolding counts_of drivers shape_of first_args
-none_tells_five done = by_args (ap (λ (x : Inbox). first_args x.pending) done.tells)
-  where
-    by_args : ◌≡◌ {A = List ℕ} (5 ∷ 0 ∷ 0 ∷ []) (4 ∷ 0 ∷ 0 ∷ []) → ⊥
-    by_args e = cc
+none_tells_five done = cc (ap (λ (x : Inbox). first_args x.pending) done.tells)
 
 tells_four : (r : Record) → WriteIsDone (record { length = 8; taken = 4 }) r
     (record_with_step r (console.write_completing r.own (record { length = 8; taken = 4 })))
@@ -197,10 +182,7 @@ tells_four r = record { tells = refl; done = put_none Writes r.own }
 none_tells_well : StorageIsDone false (record { kind = Read; offset = 0; length = 2 }) asks_four
     (told_by 0x50001 0 (0 ∷ 0 ∷ 0 ∷ [])) → ⊥
 unfolding counts_of drivers shape_of first_args
-none_tells_well done = by_args (ap (λ (x : Inbox). first_args x.pending) done.tells)
-  where
-    by_args : ◌≡◌ {A = List ℕ} (0 ∷ 0 ∷ 0 ∷ []) (0 ∷ 1 ∷ 0 ∷ []) → ⊥
-    by_args e = cc
+none_tells_well done = cc (ap (λ (x : Inbox). first_args x.pending) done.tells)
 
 tells_fault : StorageIsDone false (record { kind = Read; offset = 0; length = 2 }) asks_four
     (told_by 0x50001 0 (0 ∷ 1 ∷ 0 ∷ []))

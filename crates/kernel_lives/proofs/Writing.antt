@@ -2,12 +2,12 @@
 -- After a turn it is the one before, or that of the command that the turn tells (`requests_are_of_commands`); and an
 -- answer of another device leaves it.
 use Rattle.std.proofs.Common.{◌≡◌, ℕ, Bool, true, false, cond, inl, inr, ◌≢◌}
-use Rattle.std.proofs.Common.{Option, None, Some, IfSome, is_some, refl, sym, ap, subst, ◌∙◌, unwrap_or}
-use Rattle.std.specs.Option.{option_and_then, option_map}
+use Rattle.std.proofs.Common.{Option, None, Some, IfSome, is_some, refl, sym, ap, ◌∙◌}
+use Rattle.std.specs.Option.{option_and_then}
 use Rattle.std.proofs.lemmas.Bool.{false≢true}
 use Rattle.tk_base.specs.declared.process.Verb.{Verb}
 use Rattle.grant_values.specs.declared.console.WaitingWrite.{WaitingWrite}
-use Rattle.grant_values.specs.Values.{KeptValue, NoValue, ConsoleValue}
+use Rattle.grant_values.specs.Values.{KeptValue}
 use Rattle.process_model.specs.Own.{Own}
 use Rattle.process_model.specs.Served.{kept}
 use Rattle.driver_model.specs.Commands.{Writes}
@@ -18,7 +18,7 @@ use Rattle.driver_model.specs.Laws.{StaysInPlace}
 use Rattle.driver_model.specs.Requests.{request_in, waiting_in, with_request}
 use Rattle.kernel_model.specs.Record.{Record}
 use Rattle.kernel_model.specs.declared.settings.Settings.{Settings}
-use Rattle.kernel_model.specs.Turn.{Act, Alarmed, Edge, Event, Input, NoWord, Stored, Taken, Turn, Word, WriteDone}
+use Rattle.kernel_model.specs.Turn.{Event, Taken, WriteDone}
 use Rattle.kernel_model.specs.Turn.{apply, operated, turned}
 use Rattle.kernel_model.proofs.Steps.{IsAnswer, of_answer, of_operated}
 use Rattle.kernel_model.proofs.Values.{kept_put}
@@ -29,6 +29,7 @@ use Rattle.kernel_laws.specs.Asking.{IsOfCommand}
 use Rattle.kernel_laws.specs.Queues.{queue_for}
 use Rattle.process_record.specs.declared.emit.CallMade.{CallMade}
 use Rattle.kernel_model.proofs.Places.{same_some}
+use Rattle.kernel_lives.proofs.Changes.{none_or_one}
 
 -- the write in a value that is kept, and the one that a process keeps
 abbrev write_told : Option KeptValue → Option WaitingWrite
@@ -41,13 +42,11 @@ write_of own = request_in console_writes own
 pub put_told : (request : Option WaitingWrite) (own : Own) → is_some (kept console.console own) ≡ true
     → write_of (with_request console_writes request own) ≡ request
 put_told request own there =
-    ap write_told (kept_put console.console _ own) ∙ by_kept (kept console.console own) there
-  where
-    by_kept : (o : Option KeptValue) → is_some o ≡ true
-        → write_told (option_map (λ (old : KeptValue).
-        ConsoleValue (record (console_in (unwrap_or o NoValue)) { write = request })) o) ≡ request
-    by_kept None there = absurd (false≢true there)
-    by_kept (Some value) there = refl
+    ap write_told (kept_put console.console _ own)
+    ∙ elim (none_or_one (kept console.console own)) [
+      | inl e ↦ absurd (false≢true (rw e at there))
+      | inr (value, e) ↦ rw e
+    ]
 
 -- A write that waits goes on as it is, or waits no more; where none waits, one may begin of which no byte was taken.
 abbrev pub GoesOn : Option WaitingWrite → Option WaitingWrite → Type 0
@@ -55,9 +54,8 @@ GoesOn None later = IfSome later (λ write. write.taken ≡ 0)
 GoesOn (Some write) later = IfSome later (λ after. after ≡ write)
 
 pub goes_same : (before later : Option WaitingWrite) → later ≡ before → GoesOn before later
-goes_same None later is = subst (λ (o : Option WaitingWrite). IfSome o (λ write. write.taken ≡ 0)) (sym is) tt
-goes_same (Some write) later is =
-    subst (λ (o : Option WaitingWrite). IfSome o (λ after. after ≡ write)) (sym is) refl
+goes_same None later is = rw is tt
+goes_same (Some write) later is = rw is
 
 goes_none : (before : Option WaitingWrite) → GoesOn before None
 goes_none None = tt
@@ -71,12 +69,11 @@ turn_goes keep settings time r =
   where
     by_command : (before later : Option WaitingWrite) (call : Option CallMade)
         → IfSome later (IsOfCommand Writes before call) → GoesOn before later
-    by_command None None call of_call = tt
-    by_command None (Some write) call (inl same) = absurd (cc)
+    by_command before None call of_call = goes_none before
     by_command None (Some write) None (inr new) = absurd new.1
     by_command None (Some write) (Some made) (inr new) = ap (λ (w : WaitingWrite). w.taken) new.1.asks.1
-    by_command (Some write) None call of_call = tt
     by_command (Some write) (Some after) call (inl same) = sym (same_some write after same)
+    by_command None (Some write) call (inl same) = absurd (cc)
     by_command (Some write) (Some after) call (inr new) = absurd (cc)
 
 -- nor does an operator's act begin a write, or change one
@@ -96,16 +93,9 @@ is_of_uart WriteDone = true
 is_of_uart other = false
 
 not_of_writes : (event : Event) → is_of_uart event ≡ false → queue_for event ≢ Some Writes
-not_of_writes (Turn time) other = λ e. cc
-not_of_writes (Alarmed now) other = λ e. cc
-not_of_writes (Edge button pressed) other = λ e. cc
-not_of_writes Taken other = absurd (false≢true (sym other))
-not_of_writes WriteDone other = absurd (false≢true (sym other))
-not_of_writes (Input bytes) other = λ e. cc
-not_of_writes (Word word) other = λ e. cc
-not_of_writes NoWord other = λ e. cc
-not_of_writes (Stored moved) other = λ e. cc
-not_of_writes (Act verb) other = λ e. cc
+not_of_writes Taken other = absurd (cc)
+not_of_writes WriteDone other = absurd (cc)
+not_of_writes event other = λ e. cc
 
 pub answer_goes : DriversKeep → (settings : Settings) (event : Event) (r : Record) → IsAnswer event
     → is_of_uart event ≡ false

@@ -2,8 +2,8 @@
 -- of the process and the end of its instruction: a turn lists its instruction's accesses, or none, and a denial is the
 -- instruction's or that of a call of an unknown class. So the laws of instructions become laws of labels
 -- (`step_labels`).
-use Rattle.std.proofs.Common.{◌≡◌, inl, inr, subst, sym, ap, ◌∙◌, arith, ℕ, zero, suc, ◌<◌, ◌==◌, List, [], find}
-use Rattle.std.proofs.Common.{Option, None, Some, refl}
+use Rattle.std.proofs.Common.{◌≡◌, inl, inr, ap, arith, ℕ, suc, ◌<◌, ◌==◌, List, [], find}
+use Rattle.std.proofs.Common.{None, Some, refl}
 use Rattle.std.specs.Prelude.{All, IfSome}
 use Rattle.std.specs.Option.{option_map}
 use Rattle.std.proofs.lemmas.List.Elements.{All-nil}
@@ -12,22 +12,21 @@ use Rattle.tk_base.specs.declared.access.Denial.{Denial}
 use Rattle.tk_base.specs.declared.access.Rule.TheVariants.{UnknownClass}
 use Rattle.tk_base.specs.Regs.{Registers}
 use Rattle.tk_base.specs.declared.process.Choice.{Choice}
-use Rattle.upcall_queue.specs.declared.inbox.Delivery.{Delivery}
 use Rattle.upcall_queue.specs.Pending.{due}
 use Rattle.rv32_model.specs.declared.turn_end.TurnEnd.{TurnEnd}
 use Rattle.rv32_model.specs.declared.turn_end.TurnEnd.TheVariants as ends
 use Rattle.rv32_model.specs.declared.instr.Instr.TheVariants.{Ecall}
 use Rattle.rv32_model.specs.Laws.{AccessesArePermitted, CallsAreOfEcall, DataIsAligned, DenialsAreDue, IsInstrAt}
-use Rattle.rv32_model.specs.UserTurn.{MemoryAccess, UserTurn, denied_at}
+use Rattle.rv32_model.specs.UserTurn.{MemoryAccess, denied_at}
 use Rattle.syscall_abi.specs.declared.form.CallForm.{CallForm}
 use Rattle.syscall_abi.specs.Call.{call_of, class, class_table}
 use Rattle.process_model.specs.Permission.{denied}
 use Rattle.process_record.specs.declared.process.State.{State}
-use Rattle.process_record.specs.declared.process.State.TheVariants.{Running, Yielded, Faulted, Terminated}
+use Rattle.process_record.specs.declared.process.State.TheVariants.{Running, Yielded}
 use Rattle.kernel_model.specs.Record.{Record, byte_at, instruction, with_effect}
 use Rattle.kernel_model.specs.declared.settings.Settings.{Settings}
 use Rattle.kernel_model.specs.Turn.{TurnTrace, turn_counted, at_turn_end, turn_in, turned, untraced}
-use Rattle.kernel_model.specs.Parts.{calls, delivery}
+use Rattle.kernel_model.specs.Parts.{delivery}
 use Rattle.kernel_model.specs.World.{World, labels}
 use Rattle.kernel_model.specs.Accesses.{EachAccessIsPermitted, EachDenialIsDue, DenialIsDue, IsPermitted, OfTurn}
 use Rattle.kernel_model.specs.Accesses.{StepsAreGuarded}
@@ -35,6 +34,7 @@ use Rattle.kernel_model.specs.Replay.{after_all}
 use Rattle.kernel_model.proofs.Labels.{of_labels}
 use Rattle.kernel_model.proofs.Places.{of_turned}
 use Rattle.kernel_model.proofs.Turning.{of_each_end}
+use Rattle.kernel_model.proofs.Places.{cases_Option}
 
 -- a turn lists the accesses of its instruction, or none
 module _ (P : MemoryAccess → Type 0) where
@@ -43,14 +43,11 @@ module _ (P : MemoryAccess → Type 0) where
   turn_lists settings time r each =
       of_each_end settings time r (λ t. All P t.told.accesses) (record {
         nothing = λ none. All-nil P;
-        went = lists;
+        went = λ t is. rw is each;
         faults = λ t denial is runs. All-nil P;
-        makes = λ t form is calls runs made. lists t is;
+        makes = λ t form is calls runs made. rw is each;
         delivers = λ next is yielded. All-nil P;
       })
-    where
-      lists : (t : UserTurn) → t ≡ instruction r → All P t.accesses
-      lists t is = subst (λ (u : UserTurn). All P u.accesses) (sym is) each
 
 -- those of an instruction are permitted
 instruction_permitted : AccessesArePermitted → DataIsAligned → (r : Record)
@@ -60,25 +57,13 @@ instruction_permitted permitted aligned r k t within = record {
   aligned = aligned (denied r.own.layout) (byte_at r) r.process.regs k t within;
 }
 
-turn_permitted : AccessesArePermitted → DataIsAligned → (settings : Settings) (time : ℕ) (r : Record)
-    → All (IsPermitted r.own) (turned settings time r).told.accesses
-turn_permitted permitted aligned settings time r =
-    turn_lists (IsPermitted r.own) settings time r (instruction_permitted permitted aligned r)
-
 -- a class for which there is no call is above 7
 above_all : (regs : Registers) (n : ℕ)
     → option_map (λ (row : ℕ × CallForm). row.1) (find (λ (row : ℕ × CallForm). row.0 == n) (class_table regs))
     ≡ None → 7 < n
 unfolding class_table
-above_all regs zero e = absurd (cc)
-above_all regs (suc zero) e = absurd (cc)
-above_all regs (suc (suc zero)) e = absurd (cc)
-above_all regs (suc (suc (suc zero))) e = absurd (cc)
-above_all regs (suc (suc (suc (suc zero)))) e = absurd (cc)
-above_all regs (suc (suc (suc (suc (suc zero))))) e = absurd (cc)
-above_all regs (suc (suc (suc (suc (suc (suc zero)))))) e = absurd (cc)
-above_all regs (suc (suc (suc (suc (suc (suc (suc zero))))))) e = absurd (cc)
 above_all regs (suc (suc (suc (suc (suc (suc (suc (suc n)))))))) e = omega arith
+above_all regs n e = absurd (cc)
 
 unknown_class : (regs : Registers) → call_of regs ≡ None → 7 < class regs
 unfolding call_of
@@ -86,17 +71,6 @@ unknown_class regs e = above_all regs (class regs) e
 
 -- a denial is one of the instruction's, or that of a call of an unknown class
 module _ (law : DenialsAreDue) (of_ecall : CallsAreOfEcall) (settings : Settings) (time : ℕ) where
-  call_due : (r s : Record) (accesses : List MemoryAccess) (call : Option CallForm) → call_of s.process.regs ≡ call
-      → s.process.regs ≡ r.process.regs
-      → IsInstrAt (denied r.own.layout) (byte_at r) r.process.regs.pc (Some Ecall)
-      → IfSome (calls settings time s accesses call).told.denial (DenialIsDue r)
-  call_due r s accesses None is same ecall = inr (record {
-    instruction = ecall;
-    class = unknown_class r.process.regs (ap call_of (sym same) ∙ is);
-    denial = ap (λ (regs : Registers). denied_at Fetch regs.pc UnknownClass) same;
-  })
-  call_due r s accesses (Some call) is same ecall = tt
-
   end_due : (r s : Record) (accesses : List MemoryAccess) (end : TurnEnd)
       → ((d : Denial) → end ≡ ends.Trap d → DenialIsDue r d)
       → (end ≡ ends.Call
@@ -104,13 +78,17 @@ module _ (law : DenialsAreDue) (of_ecall : CallsAreOfEcall) (settings : Settings
       × (s.process.regs ≡ r.process.regs))
       → IfSome (at_turn_end settings time s accesses end).told.denial (DenialIsDue r)
   end_due r s accesses ends.Went due ecall = tt
-  end_due r s accesses ends.Call due ecall = let is = ecall refl in
-      call_due r s accesses (call_of s.process.regs) refl is.1 is.0
+  end_due r s accesses ends.Call due ecall =
+      elim (cases_Option (call_of s.process.regs)) [
+        | inl none ↦ let is = ecall refl in
+            rw none (inr (record {
+              instruction = is.0;
+              class = unknown_class r.process.regs (rw is.1 at none);
+              denial = ap (λ (regs : Registers). denied_at Fetch regs.pc UnknownClass) is.1;
+            }))
+        | inr call ↦ rw call.1 tt
+      ]
   end_due r s accesses (ends.Trap denial) due ecall = due denial refl
-
-  delivery_due : (r : Record) (next : Option Delivery) → IfSome (delivery r next).told.denial (DenialIsDue r)
-  delivery_due r None = tt
-  delivery_due r (Some next) = tt
 
   state_due : (state : State) (r : Record) → IfSome (turn_in settings time state r).told.denial (DenialIsDue r)
   state_due Running r =
@@ -118,9 +96,10 @@ module _ (law : DenialsAreDue) (of_ecall : CallsAreOfEcall) (settings : Settings
       end_due r (with_effect (turn_counted r) t) t.accesses t.end
       (λ d trapped. inl (law (denied r.own.layout) (byte_at r) r.process.regs d trapped))
       (λ calls. let is = of_ecall (denied r.own.layout) (byte_at r) r.process.regs calls in (is.0, is.1))
-  state_due Yielded r = delivery_due r (due r.own.inbox)
-  state_due Faulted r = tt
-  state_due (Terminated code) r = tt
+  state_due Yielded r =
+      elim (due r.own.inbox) as (λ next. IfSome (delivery r next).told.denial (DenialIsDue r))
+      [ None ↦ tt | Some next ↦ tt ]
+  state_due state r = tt
 
   turn_due : (r : Record) → IfSome (turned settings time r).told.denial (DenialIsDue r)
   turn_due r =
@@ -138,7 +117,8 @@ pub each_access_is_permitted : AccessesArePermitted → DataIsAligned → EachAc
 each_access_is_permitted permitted aligned w choices choice =
     let v = after_all w choices in
     step_labels (λ r told. All (IsPermitted r.own) told.accesses) v
-    (λ r. All-nil (IsPermitted r.own)) (turn_permitted permitted aligned v.settings v.clock.time) choice
+    (λ r. All-nil (IsPermitted r.own))
+    (λ r. turn_lists (IsPermitted r.own) v.settings v.clock.time r (instruction_permitted permitted aligned r)) choice
 
 pub each_denial_is_due : DenialsAreDue → CallsAreOfEcall → EachDenialIsDue
 each_denial_is_due law of_ecall w choices choice =

@@ -1,14 +1,12 @@
 -- What an answer of a device leaves of what its process keeps for the drivers of all other devices: all of it; and the
 -- process lives as before. Event by event, each answer is a step of one driver, which puts a value in that driver's
 -- grant alone (`kept_beside`), writes bytes, or schedules.
-use Rattle.std.proofs.Common.{◌≡◌, ℕ, ◌-◌, ◌==◌, Bool, true, false, cond, nat_le, List, [], ◌∷◌, Option, None, Some}
+use Rattle.std.proofs.Common.{◌≡◌, ℕ, ◌-◌, ◌==◌, Bool, true, false, nat_le, List, Option, None, Some}
 use Rattle.std.proofs.Common.{refl, ap}
 use Rattle.std.proofs.Common.{◌∙◌, not, unwrap_or}
 use Rattle.std.specs.Option.{option_map}
-use Rattle.tk_base.specs.Bits.{bit_of}
 use Rattle.grant_values.specs.declared.alarm.Armed.{Armed}
 use Rattle.grant_values.specs.declared.random.RandomRequest.{RandomRequest}
-use Rattle.grant_values.specs.declared.storage.StorageKind.{StorageKind}
 use Rattle.grant_values.specs.declared.storage.StorageKind.TheVariants.{Read, Write}
 use Rattle.grant_values.specs.declared.storage.StorageRequest.{StorageRequest}
 use Rattle.process_model.specs.Own.{Own}
@@ -21,7 +19,7 @@ use Rattle.driver_model.specs.Console.{console_reads, console_writes}
 use Rattle.driver_model.specs.Random as random
 use Rattle.driver_model.specs.Random.{randoms}
 use Rattle.driver_model.specs.Requests.{RequestKind, keeping_request, unanswered, waiting_in}
-use Rattle.driver_model.specs.Steps.{DriverStep, own_after, scheduling, silently}
+use Rattle.driver_model.specs.Steps.{DriverStep, own_after, silently}
 use Rattle.driver_model.specs.Storage as storage
 use Rattle.driver_model.specs.Storage.{storages}
 use Rattle.kernel_model.specs.Record.{Record, flash_of}
@@ -30,15 +28,13 @@ use Rattle.kernel_model.specs.Turn.{Act, Alarmed, Edge, Event, Input, NoWord, St
 use Rattle.kernel_model.specs.Turn.{apply}
 use Rattle.kernel_model.proofs.Steps.{IsAnswer}
 use Rattle.kernel_model.proofs.Values.{kept_beside}
+use Rattle.std.proofs.lemmas.Bool.{cond_both}
 
 -- what a driver schedules leaves all but the inbox
 pub scheduled_rest : (step : DriverStep) → own_after step ≡ record step.own { inbox = (own_after step).inbox }
-scheduled_rest step = by_schedules step.schedules
-  where
-    by_schedules : (schedules : Option _) → let o = own_after (record { own = step.own; schedules = schedules }) in
-        o ≡ record step.own { inbox = o.inbox }
-    by_schedules None = refl
-    by_schedules (Some upcall) = refl
+scheduled_rest step =
+    elim (step.schedules) as (λ s. let o = own_after (record { own = step.own; schedules = s }) in
+    o ≡ record step.own { inbox = o.inbox }) [ None ↦ refl | Some upcall ↦ refl ]
 
 pub scheduled_keeps : (other : ℕ) (step : DriverStep) → kept other (own_after step) ≡ kept other step.own
 scheduled_keeps other step = ap (kept other) (scheduled_rest step)
@@ -61,30 +57,22 @@ module _ (other : ℕ) (own : Own) where
         scheduled_lives s ∙ same.1,
       )
 
-  of_alarm : (now : ℕ) → (alarm.alarm_driver == other) ≡ false → Stays (own_after (alarm.answered now own))
-  unfolding alarm.answered
-  of_alarm now apart = by_due (alarm.due_alarm now own)
-    where
-      by_due : (due : Option Armed)
-          → Stays (own_after (unwrap_or (option_map (λ (armed : Armed). alarm.fired now armed own) due) (silently own)))
-      by_due None = (refl, refl)
-      by_due (Some armed) = (kept_beside alarm.alarm_driver other _ (alarm.showing now own) apart, refl)
-
-  of_edge : (button : ℕ) (pressed : Bool) → Stays (own_after (buttons.edged button pressed own))
-  unfolding buttons.edged
-  of_edge button pressed = by_told (buttons.is_told button own)
-    where
-      by_told : (b : Bool)
-          → Stays (own_after (cond b (scheduling buttons.buttons 0 (button ∷ bit_of pressed ∷ 0 ∷ []) own)
-          (silently own)))
-      by_told true = (refl, refl)
-      by_told false = (refl, refl)
-
   if_waits : {R : Type 0} (serve : R → DriverStep) (waiting : Option R)
       → ((request : R) → Stays (own_after (serve request)))
       → Stays (own_after (unwrap_or (option_map serve waiting) (silently own)))
   if_waits serve None each = (refl, refl)
   if_waits serve (Some request) each = each request
+
+  of_alarm : (now : ℕ) → (alarm.alarm_driver == other) ≡ false → Stays (own_after (alarm.answered now own))
+  unfolding alarm.answered
+  of_alarm now apart =
+      if_waits (λ (armed : Armed). alarm.fired now armed own) (alarm.due_alarm now own)
+      (λ armed. (kept_beside alarm.alarm_driver other _ (alarm.showing now own) apart, refl))
+
+  of_edge : (button : ℕ) (pressed : Bool) → Stays (own_after (buttons.edged button pressed own))
+  unfolding buttons.edged
+  of_edge button pressed =
+      cond_both (buttons.is_told button own) _ _ (λ s. Stays (own_after s)) (λ e. (refl, refl)) (λ e. (refl, refl))
 
   of_taken : (console.console == other) ≡ false → Stays (own_after (console.taken own))
   of_taken apart =
@@ -102,52 +90,46 @@ module _ (other : ℕ) (own : Own) where
       (λ read.
       (kept_beside console.console other _ (with_written ReadWrite console.console 1 0 bytes own) apart, refl))
 
-  if_either : (b : Bool) (p q : random.Progress) → Stays p.step.own → Stays q.step.own → Stays (cond b p q).step.own
-  if_either true p q h k = h
-  if_either false p q h k = k
-
   of_drawing : (left : ℕ) (request : RandomRequest) (word : Option ℕ)
       → Stays (random.drawing left request own word).step.own
   of_drawing left request None = (refl, refl)
-  of_drawing left request (Some word) = if_either (nat_le left 4) _ _ (refl, refl) (refl, refl)
+  of_drawing left request (Some word) =
+      cond_both (nat_le left 4) _ _ (λ (q : random.Progress). Stays q.step.own) (λ e. (refl, refl)) (λ e. (refl, refl))
 
   of_word : (word : Option ℕ) → (random.random == other) ≡ false → Stays (own_after (random.answered word own).step)
   unfolding random.answered
-  of_word word apart = by_request (waiting_in randoms own)
-    where
-      by_request : (waiting : Option RandomRequest)
-          → Stays (own_after (unwrap_or (option_map
-          (λ (request : RandomRequest). random.advanced (random.progress word request own)) waiting)
-          (unanswered None own)).step)
-      by_request None = (refl, refl)
-      by_request (Some request) =
-          let p = random.progress word request own in
-          keeping randoms p.rest p.step apart (if_either (nat_le (random.wanted request own) request.written) _ _
-          (refl, refl) (of_drawing (random.wanted request own - request.written) request word))
-
-  of_kind : (flash : ℕ → ℕ) (bytes : List ℕ) (request : StorageRequest) (kind : StorageKind)
-      → Stays (storage.moving kind flash bytes request own).step.own
-  of_kind flash bytes request Read = (refl, refl)
-  of_kind flash bytes request Write = (refl, refl)
+  of_word word apart =
+      elim (waiting_in randoms own) as (λ waiting. Stays (own_after (unwrap_or (option_map
+      (λ (request : RandomRequest). random.advanced (random.progress word request own)) waiting)
+      (unanswered None own)).step)) [
+        | None ↦ (refl, refl)
+        | Some request ↦
+            let p = random.progress word request own in
+            keeping randoms p.rest p.step apart
+            (cond_both (nat_le (random.wanted request own) request.written) _ _
+            (λ (q : random.Progress). Stays q.step.own)
+            (λ e. (refl, refl)) (λ e. of_drawing (random.wanted request own - request.written) request word))
+      ]
 
   of_service : (fault : Bool) (flash : ℕ → ℕ) (bytes : List ℕ) (request : StorageRequest)
       → Stays (storage.storage_served fault flash bytes request own).step.own
   of_service true flash bytes request = (refl, refl)
-  of_service false flash bytes request = of_kind flash bytes request request.kind
+  of_service false flash bytes request =
+      elim (request.kind) as (λ kind. Stays (storage.moving kind flash bytes request own).step.own)
+      [ Read ↦ (refl, refl) | Write ↦ (refl, refl) ]
 
   of_stored : (fault : Bool) (flash : ℕ → ℕ) (bytes : List ℕ) → (storage.storage == other) ≡ false
       → Stays (own_after (storage.answered fault flash bytes own).step)
   unfolding storage.answered
-  of_stored fault flash bytes apart = by_request (waiting_in storages own)
-    where
-      by_request : (waiting : Option StorageRequest)
-          → Stays (own_after (unwrap_or (option_map (λ (request : StorageRequest).
-          storage.finished (storage.storage_served fault flash bytes request own)) waiting)
-          (unanswered None own)).step)
-      by_request None = (refl, refl)
-      by_request (Some request) =
-          keeping storages None (storage.storage_served fault flash bytes request own).step apart
-          (of_service fault flash bytes request)
+  of_stored fault flash bytes apart =
+      elim (waiting_in storages own) as (λ waiting. Stays (own_after (unwrap_or (option_map
+      (λ (request : StorageRequest). storage.finished (storage.storage_served fault flash bytes request own)) waiting)
+      (unanswered None own)).step)) [
+        | None ↦ (refl, refl)
+        | Some request ↦
+            keeping storages None (storage.storage_served fault flash bytes request own).step apart
+            (of_service fault flash bytes request)
+      ]
 
 -- the driver whose device tells a process something
 abbrev pub driver_answering : Event → ℕ

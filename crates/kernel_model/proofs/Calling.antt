@@ -1,5 +1,5 @@
 -- All that a call may come to, with what it leaves of its process: the walk for laws of what a process gets.
-use Rattle.std.proofs.Common.{◌≡◌, ℕ, ◌==◌, Bool, true, false, cond, Option, None, Some, Result, Ok, Err, refl}
+use Rattle.std.proofs.Common.{◌≡◌, ℕ, ◌==◌, Bool, true, None, Some, Result, Ok, Err, refl}
 use Rattle.tk_base.specs.declared.call.CallRule.{CallRule}
 use Rattle.tk_base.specs.declared.call.CallRule.TheVariants.{NoDriver, NoOperation, Permission}
 use Rattle.driver_model.specs.Commands.{Commanded}
@@ -14,10 +14,13 @@ use Rattle.process_record.specs.declared.outcome.Outcome.TheVariants.{Ended, Aga
 use Rattle.process_record.specs.Process.{after_call, after_end}
 use Rattle.kernel_model.specs.Record.{Record, record_with_step}
 use Rattle.kernel_model.specs.Calls.{Served, by_form, ended, exit, failure_of, refused_with, replied, restart}
-use Rattle.kernel_model.specs.Calls.{driver_answered, refused, served, swap_by, swap_refusal, taken_by, yielding}
+use Rattle.kernel_model.specs.Calls.{driver_answered, refused, served, swap_refusal, yielding}
 use Rattle.kernel_model.specs.Parts.{commanded, object_permits, own_swapped, with_break_at}
 use Rattle.kernel_model.specs.Turn.{rule_shown}
 use Rattle.kernel_model.proofs.Memops.{by_test, memop_permits}
+use Rattle.std.proofs.Common.{inl, inr}
+use Rattle.std.proofs.lemmas.Bool.{cond_both}
+use Rattle.kernel_model.proofs.Places.{cases_Option}
 
 -- what holds of each of them, by the form of the call
 pub record OfEachCall (P : Served → Type 0) (around : CommandContext) (r : Record) (form : CallForm) : Type 0 where
@@ -35,16 +38,6 @@ pub record OfEachCall (P : Served → Type 0) (around : CommandContext) (r : Rec
   pub again : (kind code : ℕ) → form ≡ forms.Exit kind code → P (ended (restart r) Again)
 
 module _ (P : Served → Type 0) (around : CommandContext) (r : Record) where
-  by_swap : (swap : Swap) (o : Option CallRule) → swap_refusal swap r.own ≡ o
-      → OfEachCall P around r (forms.Swap swap) → P (swap_by r swap o)
-  by_swap swap None is each = each.swapped swap _ is
-  by_swap swap (Some rule) is each = each.refused rule
-
-  by_taken : (driver number a2 a3 : ℕ) (o : Option CommandHandler) → handler_of driver ≡ o
-      → OfEachCall P around r (forms.Command driver number a2 a3) → P (taken_by around number a2 a3 r o)
-  by_taken driver number a2 a3 None is each = each.refused NoDriver
-  by_taken driver number a2 a3 (Some taker) is each = each.commands driver number a2 a3 taker refl is
-
   by_exit : (kind code : ℕ) → OfEachCall P around r (forms.Exit kind code) → P (exit r kind code)
   unfolding exit
   by_exit kind code each =
@@ -54,8 +47,12 @@ module _ (P : Served → Type 0) (around : CommandContext) (r : Record) where
   pub of_form : (form : CallForm) → OfEachCall P around r form → P (by_form around r form)
   unfolding by_form
   of_form (forms.Yield number a1 a2) each = each.yields number a1 a2 refl
-  of_form (forms.Swap swap) each = by_swap swap (swap_refusal swap r.own) refl each
-  of_form (forms.Command driver number a2 a3) each = by_taken driver number a2 a3 (handler_of driver) refl each
+  of_form (forms.Swap swap) each =
+      elim (cases_Option (swap_refusal swap r.own))
+      [ inl none ↦ rw none (each.swapped swap _ none) | inr is ↦ rw is.1 (each.refused is.0) ]
+  of_form (forms.Command driver number a2 a3) each =
+      elim (cases_Option (handler_of driver))
+      [ inl none ↦ rw none (each.refused NoDriver) | inr is ↦ rw is.1 (each.commands driver number a2 a3 _ refl is.1) ]
   of_form (forms.Memop operation argument) each =
       memop_permits P r operation argument each.refused each.same each.moved
   of_form (forms.Exit kind code) each = by_exit kind code each
@@ -84,10 +81,6 @@ pub of_permitted : (P : Served → Type 0) (strict : Bool) (around : CommandCont
     → P (by_form around r form)
     → let s = served strict around r form in rule_shown s.outcome ≡ None → P s
 unfolding served
-of_permitted P strict around r form holds = by_permit (object_permits strict r.object form)
-  where
-    by_permit : (b : Bool)
-        → let s = cond b (by_form around r form) (refused_with r Permission (failure_of form Permission)) in
-        rule_shown s.outcome ≡ None → P s
-    by_permit true none = holds
-    by_permit false none = absurd (cc)
+of_permitted P strict around r form holds =
+    cond_both (object_permits strict r.object form) _ _ (λ (s : Served). rule_shown s.outcome ≡ None → P s)
+    (λ may none. holds) (λ may_not none. absurd (cc))

@@ -1,6 +1,6 @@
 -- The call that registers make, by its class (`of_registers`); and what they have that make a call of a form
 -- (`made_as`).
-use Rattle.std.proofs.Common.{◌≡◌, ℕ, ◌==◌, Bool, true, false, cond, [], ◌∷◌, Option, None, Some, refl, sym, subst}
+use Rattle.std.proofs.Common.{◌≡◌, ℕ, ◌==◌, cond, [], ◌∷◌, Option, None, Some, refl, sym, subst}
 use Rattle.std.proofs.Common.{eqb-true}
 use Rattle.std.specs.Option.{option_map}
 use Rattle.tk_base.specs.Regs.{Registers}
@@ -12,6 +12,7 @@ use Rattle.syscall_abi.specs.declared.form.Swap.{Swap}
 use Rattle.syscall_abi.specs.Call.{a0, a1, a2, a3, call_of, class, class_table}
 use Rattle.kernel_model.specs.Histories.{class_of}
 use Rattle.kernel_model.specs.Turn.{arguments}
+use Rattle.std.proofs.lemmas.Bool.{cond_both}
 
 -- the calls that registers make
 abbrev pub yield_in : Registers → CallForm
@@ -35,12 +36,9 @@ module _ (P : Option CallForm → Type 0) (regs : Registers) where
   row : (n : ℕ) (call : CallForm) (rest : Option (ℕ × CallForm)) → (class regs ≡ n → P (Some call))
       → P (option_map (λ (r : ℕ × CallForm). r.1) rest)
       → P (option_map (λ (r : ℕ × CallForm). r.1) (cond (n == class regs) (Some (n, call)) rest))
-  row n call rest here later = by_class (n == class regs) refl
-    where
-      by_class : (b : Bool) → (n == class regs) ≡ b
-          → P (option_map (λ (r : ℕ × CallForm). r.1) (cond b (Some (n, call)) rest))
-      by_class true e = here (sym (eqb-true n (class regs) e))
-      by_class false e = later
+  row n call rest here later =
+      cond_both (n == class regs) _ rest (λ o. P (option_map (λ (r : ℕ × CallForm). r.1) o))
+      (λ e. here (sym (eqb-true n (class regs) e))) (λ e. later)
 
   pub of_registers : (class regs ≡ 0 → P (Some (yield_in regs)))
       → ((kind : PairKind) → class regs ≡ class_of kind → P (Some (forms.Swap (swap_in kind regs))))

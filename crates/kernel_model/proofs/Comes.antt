@@ -17,7 +17,7 @@ use Rattle.process_record.specs.declared.outcome.Outcome.TheVariants.{ToDriver}
 use Rattle.kernel_model.specs.Record.{Record, record_with_step}
 use Rattle.kernel_model.specs.Turn.{rule_shown}
 use Rattle.kernel_model.specs.Calls.{Served, failure_of}
-use Rattle.kernel_model.specs.Parts.{commanded, with_break_at}
+use Rattle.kernel_model.specs.Parts.{commanded}
 use Rattle.kernel_model.specs.Calls.{refused, refused_with, replied, restart}
 use Rattle.kernel_model.specs.Calls.{served}
 use Rattle.kernel_model.specs.Laws.{CanStartAgain, DriversPromise, KeepsLines}
@@ -26,6 +26,7 @@ use Rattle.kernel_model.proofs.Lines.{keeps_same}
 use Rattle.kernel_model.proofs.Calling.{of_commanded, of_served}
 use Rattle.kernel_model.proofs.Restarts.{restart_by}
 use Rattle.kernel_model.proofs.Yields.{kept_by_yield}
+use Rattle.std.proofs.Common.{rules}
 
 -- a call that was served: it broke no rule, at most one upcall was dropped, no driver has it still to answer, and its
 -- process keeps a request exactly where it waits
@@ -48,33 +49,24 @@ no_more dropped = record { not_less = omega arith; not_more = omega arith }
 abbrev pub plain : CallRule → Reply
 plain rule = Failure (error_of rule)
 
--- what was served, and asks nothing of the board, of a process of which drivers keep the same
-served_so : (around : CommandContext) (r : Record) (s : Served) → rule_shown s.outcome ≡ None
-    → SameKept r.own s.after.own → s.outcome ≢ ToDriver → s.acts ≡ [] → IsServed around r s
-served_so around r s none same done acts = record {
-  no_rule = none;
-  dropped = subst (IsAtMostOneMore r.own.inbox.dropped) (sym same.dropped) (no_more r.own.inbox.dropped);
-  room = λ few. same.dropped;
-  done = done;
-  lines = λ lives can.
-      subst (KeepsLines around.storage r.own s.after.own) (sym acts) (keeps_same around.storage r.own s.after.own same);
-}
-
--- and what was served, and takes a process out of all lists
+-- what was served, and takes a process out of all lists
 served_gone : (around : CommandContext) (r : Record) (s : Served) → rule_shown s.outcome ≡ None
     → s.after.own.inbox.dropped ≡ r.own.inbox.dropped → s.outcome ≢ ToDriver
     → (CanStartAgain r → KeepsLines around.storage r.own s.after.own s.acts) → IsServed around r s
 served_gone around r s none same done lines = record {
   no_rule = none;
-  dropped = subst (IsAtMostOneMore r.own.inbox.dropped) (sym same) (no_more r.own.inbox.dropped);
+  dropped = rw same (no_more r.own.inbox.dropped);
   room = λ few. same;
   done = done;
   lines = λ lives can. lines can;
 }
 
-reply_served : (around : CommandContext) (r s : Record) (reply : Reply) → SameKept r.own s.own
-    → IsServed around r (replied s reply)
-reply_served around r s reply same = served_so around r (replied s reply) refl same (λ e. cc) refl
+-- and what was served, and asks nothing of the board, of a process of which drivers keep the same
+served_so : (around : CommandContext) (r : Record) (s : Served) → rule_shown s.outcome ≡ None
+    → SameKept r.own s.after.own → s.outcome ≢ ToDriver → s.acts ≡ [] → IsServed around r s
+served_so around r s none same done acts =
+    served_gone around r s none same.dropped done
+    (λ can. rw acts (keeps_same around.storage r.own s.after.own same))
 
 pub restart_keeps : (r : Record) → (restart r).own.inbox.dropped ≡ r.own.inbox.dropped
 restart_keeps r = restart_by (λ s. s.own.inbox.dropped ≡ r.own.inbox.dropped) r refl (λ h m is main. refl)
@@ -106,18 +98,11 @@ module _ (P : Served → Type 0) (promise : DriversPromise) (strict : Bool) (aro
   of_call =
       of_served P around r strict call (record {
         refused = both.refused;
-        same = λ reply. both.served _ (reply_served around r r reply (all_same r.own));
-        moved = λ new reply may.
-            both.served _ (reply_served around r (with_break_at r new) reply
-            (record { grants = refl; lives = refl; life = refl; dropped = refl }));
+        same = λ reply. both.served _ (served_so around r _ refl (all_same r.own) (λ e. cc) refl);
+        moved = λ new reply may. both.served _ (served_so around r _ refl (search rules) (λ e. cc) refl);
         swapped = λ swap reply may.
-            both.served _ (record {
-              no_rule = refl;
-              dropped = no_more r.own.inbox.dropped;
-              room = λ few. refl;
-              done = λ e. cc;
-              lines = λ lives can. keeps_handed promise.alone around.storage swap r.own;
-            });
+            both.served _ (served_gone around r _ refl refl (λ e. cc)
+            (λ can. keeps_handed promise.alone around.storage swap r.own));
         yields = λ number one two same. let k = kept_by_yield r number one two in
             both.served _ (served_so around r _ k.silent.rule k.same k.silent.done k.acts);
         commands = by_command;

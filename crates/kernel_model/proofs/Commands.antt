@@ -1,8 +1,8 @@
 -- What a command to any driver leaves of its process, before it schedules something: the same, the clock shown, or
 -- another value that the driver keeps, which is entered or not. By the rows of each driver's table; a law gives a case
 -- for each of these (`OfEachKeeping`), and `of_command` is the walk over all commands.
-use Rattle.std.proofs.Common.{◌≡◌, ℕ, ◌+◌, ◌==◌, nat_le, nat_lt, Bool, true, false, cond, List, [], ◌∷◌, find, Option}
-use Rattle.std.proofs.Common.{None, Some, refl, ap, sym, subst, unwrap_or, ◌∙◌, eqb-true}
+use Rattle.std.proofs.Common.{◌≡◌, ℕ, ◌+◌, ◌==◌, nat_le, nat_lt, Bool, false, cond, List, [], ◌∷◌, Option}
+use Rattle.std.proofs.Common.{None, Some, refl, sym, subst, unwrap_or, ◌∙◌, eqb-true}
 use Rattle.std.specs.Option.{option_map}
 use Rattle.tk_base.specs.declared.call.CallRule.TheVariants.{NoCommand}
 use Rattle.grant_values.specs.declared.alarm.Armed.{Armed}
@@ -26,6 +26,9 @@ use Rattle.driver_model.specs.Requests.{RequestKind, asking, request_in, with_re
 use Rattle.driver_model.specs.Parts.{asking_beside}
 use Rattle.driver_model.specs.Storage as storage
 use Rattle.kernel_model.proofs.Values.{entering_beside, kept_beside}
+use Rattle.std.proofs.lemmas.Bool.{cond_both}
+use Rattle.kernel_model.proofs.Runs.{found_passes}
+use Rattle.std.proofs.Common.{rules}
 
 -- the command of a number, row by row of a table
 module _ (number : ℕ) (own : Own) (P : Commanded → Type 0) where
@@ -34,16 +37,12 @@ module _ (number : ℕ) (own : Own) (P : Commanded → Type 0) where
 
   pub row : (n : ℕ) (c : Commanded) (rest : Option (ℕ × Commanded)) → (number ≡ n → P c) → P (chosen rest)
       → P (chosen (cond (n == number) (Some (n, c)) rest))
-  row n c rest here later = if_equal (n == number) refl
-    where
-      if_equal : (b : Bool) → (n == number) ≡ b → P (chosen (cond b (Some (n, c)) rest))
-      if_equal true e = here (sym (eqb-true n number e))
-      if_equal false e = later
+  row n c rest here later =
+      cond_both (n == number) _ rest (λ o. P (chosen o)) (λ e. here (sym (eqb-true n number e))) (λ e. later)
 
 -- and one that goes by a test
 pub if_either : (P : Commanded → Type 0) (b : Bool) (c d : Commanded) → P c → P d → P (cond b c d)
-if_either P true c d h k = h
-if_either P false c d h k = k
+if_either P b c d h k = cond_both b c d P (λ e. h) (λ e. k)
 
 -- what holds of a process as it was, and of each of these, by the driver that leaves it
 pub record OfEachKeeping (P : ℕ → Own → Own → Type 0) : Type 0 where
@@ -66,28 +65,24 @@ module _ (P : ℕ → Own → Own → Type 0) (each : OfEachKeeping P) (driver :
   found : (rows : List (ℕ × Commanded)) (number : ℕ) → Each rows → Leaves (by_number (λ o. rows) number own)
   unfolding Each
   found [] number holds = each.same driver own
-  found (row ∷ rows) number holds = by_row (row.0 == number) holds.0 (found rows number holds.1)
-    where
-      by_row : (b : Bool) → Leaves row.1 → Leaves (by_number (λ o. rows) number own)
-          → Leaves (unwrap_or (option_map (λ (r : ℕ × Commanded). r.1)
-          (cond b (Some row) (find (λ (r : ℕ × Commanded). r.0 == number) rows))) (refusing NoCommand own))
-      by_row true here later = here
-      by_row false here later = later
+  found (row ∷ rows) number holds =
+      cond_both (row.0 == number) (Some row) _
+      (λ o. Leaves (unwrap_or (option_map (λ (r : ℕ × Commanded). r.1) o) (refusing NoCommand own))) (λ e. holds.0)
+      (λ e. found rows number holds.1)
 
   if_so : (b : Bool) (c d : Commanded) → Leaves c → Leaves d → Leaves (cond b c d)
-  if_so true c d h k = h
-  if_so false c d h k = k
+  if_so = if_either Leaves
 
   if_asked : {R : Type 0} (kind : RequestKind R) (request : R) → kind.driver ≡ driver → Leaves (asking kind request own)
-  if_asked {R} kind request is = by_waiting (request_in kind own)
-    where
-      by_waiting : (waiting : Option R) → Leaves (asking_beside kind waiting request own)
-      by_waiting None =
-          if_so (has_place kind.driver own) _ _
-          (subst (λ (d : ℕ). P d own (with_request kind (Some request) (own_entering kind.driver own))) is
-          (each.enters kind.driver (kind.with_request (Some request)
-          (unwrap_or (kept kind.driver (own_entering kind.driver own)) NoValue)) own)) (each.same driver own)
-      by_waiting (Some other) = each.same driver own
+  if_asked {R} kind request is =
+      elim (request_in kind own) as (λ o. Leaves (asking_beside kind o request own)) [
+        | None ↦
+            if_so (has_place kind.driver own) _ _
+            (subst (λ (d : ℕ). P d own (with_request kind (Some request) (own_entering kind.driver own))) is
+            (each.enters kind.driver (kind.with_request (Some request)
+            (unwrap_or (kept kind.driver (own_entering kind.driver own)) NoValue)) own)) (each.same driver own)
+        | Some other ↦ each.same driver own
+      ]
 
 module _ (P : ℕ → Own → Own → Type 0) (each : OfEachKeeping P) (around : CommandContext) (number a2 a3 : ℕ) (own : Own)
   where
@@ -184,21 +179,6 @@ module _ (P : ℕ → Own → Own → Type 0) (each : OfEachKeeping P) (around :
     of_driver Random = of_random
     of_driver Storage = of_storage
 
--- a driver that is found has that number
-is_number : (driver : ℕ) (d : Driver) (ds : List Driver) → find (λ x. number_of_driver x == driver) ds ≡ Some d
-    → number_of_driver d ≡ driver
-is_number driver d [] e = absurd (cc)
-is_number driver d (x ∷ ds) e = by_first (number_of_driver x == driver) refl e (is_number driver d ds)
-  where
-    by_first : (b : Bool) → (number_of_driver x == driver) ≡ b
-        → cond b (Some x) (find (λ x. number_of_driver x == driver) ds) ≡ Some d
-        → (find (λ x. number_of_driver x == driver) ds ≡ Some d → number_of_driver d ≡ driver)
-        → number_of_driver d ≡ driver
-    by_first true is e later =
-        let same : x ≡ d = cc in
-        ap number_of_driver (sym same) ∙ eqb-true (number_of_driver x) driver is
-    by_first false is e later = later e
-
 -- what holds of the handlers of drivers with that number holds of whatever takes its commands
 pub handled : (P : CommandHandler → Type 0) (driver : ℕ) (taker : CommandHandler) → handler_of driver ≡ Some taker
     → ((d : Driver) → number_of_driver d ≡ driver → P (handler_by d)) → P taker
@@ -208,7 +188,7 @@ handled P driver taker is each = by_driver (driver_of driver) refl is
     by_driver None there e = absurd (cc)
     by_driver (Some d) there e =
         let same : handler_by d ≡ taker = cc in
-        subst P same (each d (is_number driver d drivers there))
+        subst P same (each d (eqb-true _ driver (found_passes (λ x. number_of_driver x == driver) drivers d there)))
 
 -- of any command to any driver
 pub of_command : (P : ℕ → Own → Own → Type 0) → OfEachKeeping P → (driver : ℕ) (taker : CommandHandler)
@@ -223,12 +203,7 @@ of_command P each driver taker is around number a2 a3 own =
 pub command_leaves : (driver : ℕ) (taker : CommandHandler) → handler_of driver ≡ Some taker → (around : CommandContext)
     (number a2 a3 : ℕ) (own : Own) → (taker around number a2 a3 own).step.own.inbox ≡ own.inbox
 command_leaves driver taker is around number a2 a3 own =
-    of_command (λ d before after. after.inbox ≡ before.inbox) (record {
-      same = λ d o. refl;
-      shows = λ now o. refl;
-      keeps = λ d value o. refl;
-      enters = λ d value o. refl;
-    }) driver taker is around number a2 a3 own
+    of_command (λ d before after. after.inbox ≡ before.inbox) (search rules) driver taker is around number a2 a3 own
 
 -- and what it keeps for every other driver
 pub command_leaves_others : (driver : ℕ) (taker : CommandHandler) → handler_of driver ≡ Some taker
@@ -247,9 +222,4 @@ command_leaves_others driver taker is around number a2 a3 own other =
 pub command_lives : (driver : ℕ) (taker : CommandHandler) → handler_of driver ≡ Some taker → (around : CommandContext)
     (number a2 a3 : ℕ) (own : Own) → (taker around number a2 a3 own).step.own.lives ≡ own.lives
 command_lives driver taker is around number a2 a3 own =
-    of_command (λ d before after. after.lives ≡ before.lives) (record {
-      same = λ d o. refl;
-      shows = λ now o. refl;
-      keeps = λ d value o. refl;
-      enters = λ d value o. refl;
-    }) driver taker is around number a2 a3 own
+    of_command (λ d before after. after.lives ≡ before.lives) (search rules) driver taker is around number a2 a3 own

@@ -5,9 +5,8 @@ use Rattle.std.specs.Prelude.{IfSome}
 use Rattle.std.proofs.lemmas.Bool.{false≢true}
 use Rattle.tk_base.specs.declared.call.CallRule.TheVariants.{Permission}
 use Rattle.tk_base.specs.declared.kinds.PairKind.{PairKind}
-use Rattle.tk_base.specs.declared.kinds.PairKind.TheVariants.{Upcall, ReadOnly, ReadWrite, Readable}
+use Rattle.tk_base.specs.declared.kinds.PairKind.TheVariants.{Upcall}
 use Rattle.tk_base.specs.Regs.{Registers}
-use Rattle.tbf_headers.specs.Permissions.{allows, lists}
 use Rattle.syscall_abi.specs.declared.form.CallForm.{CallForm}
 use Rattle.syscall_abi.specs.declared.form.CallForm.TheVariants as forms
 use Rattle.syscall_abi.specs.Call.{a0, a1, a2, a3, call_of, class}
@@ -20,7 +19,7 @@ use Rattle.kernel_model.specs.Record.{Record, with_effect}
 use Rattle.kernel_model.specs.declared.settings.Settings.{Settings}
 use Rattle.kernel_model.specs.Calls.{by_form, failure_of, refused_with, served}
 use Rattle.kernel_model.specs.Histories.{class_of}
-use Rattle.kernel_model.specs.Parts.{calls, object_permits}
+use Rattle.kernel_model.specs.Parts.{object_permits}
 use Rattle.kernel_model.specs.Turn.{made, rule_shown, surroundings, turn_counted, turned}
 use Rattle.kernel_model.proofs.Accesses.{step_labels}
 use Rattle.kernel_model.proofs.Classes.{of_registers, swap_in}
@@ -39,24 +38,19 @@ module _ (strict : Bool) (list : Option (List ℕ)) (regs : Registers) (outcome 
   -- a swap is no command, so that its driver alone is looked for
   not_command : (kind : PairKind) (x y : Bool) → cond (class_of kind == 2) x y ≡ y
   not_command Upcall x y = refl
-  not_command ReadOnly x y = refl
-  not_command ReadWrite x y = refl
-  not_command Readable x y = refl
+  not_command kind x y = refl
 
   of_swap : (kind : PairKind) → class regs ≡ class_of kind → (list : Option (List ℕ))
       → permitted strict list (forms.Swap (swap_in kind regs)) ≡ true
       → is_allowed strict list (made regs outcome) ≡ true
   of_swap kind is None may = may
-  of_swap kind is (Some entries) may =
-      ap (λ (c : ℕ). cond (c == 2) (allows entries (a0 regs) (a1 regs)) (lists entries (a0 regs))) is
-      ∙ not_command kind (allows entries (a0 regs) (a1 regs)) (lists entries (a0 regs)) ∙ may
+  of_swap kind is (Some entries) may = rw (is, not_command kind) may
 
   of_command : (x y : ℕ) → class regs ≡ 2 → (list : Option (List ℕ))
       → permitted strict list (forms.Command (a0 regs) (a1 regs) x y) ≡ true
       → is_allowed strict list (made regs outcome) ≡ true
   of_command x y is None may = may
-  of_command x y is (Some entries) may =
-      ap (λ (c : ℕ). cond (c == 2) (allows entries (a0 regs) (a1 regs)) (lists entries (a0 regs))) is ∙ may
+  of_command x y is (Some entries) may = rw is may
 
   follows : Follows (call_of regs)
   follows =

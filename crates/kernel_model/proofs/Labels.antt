@@ -79,8 +79,7 @@ answer_labels P w answered device apart = by_deed (device_step_of w device) (onl
 -- nothing is in a list without elements
 pub none_in : {X : Type 0} (xs : List X) → (length xs == 0) ≡ true → xs ≡ []
 none_in [] e = refl
-none_in (x ∷ xs) e = let zero_is : length (x ∷ xs) ≡ 0 = eqb-true (length (x ∷ xs)) 0 e in absurd
-    (omega (arith, zero_is))
+none_in (x ∷ xs) e = absurd (omega (arith, eqb-true (length (x ∷ xs)) 0 e))
 
 -- what a step shows that it printed
 pub shown_by-printed : (ls : List Label) → (shown_by ls).printed.items ≡ printed ls

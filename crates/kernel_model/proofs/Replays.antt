@@ -1,11 +1,10 @@
 -- A record after any choices is the replay of what the labels tell of it, by induction on the choices. In one step a
 -- turn changes the record of its slot alone, and a device's step each record by what it tells that slot; labels of
 -- other slots count nothing.
-use Rattle.std.proofs.Common.{◌≡◌, ◌≢◌, ℕ, zero, suc, ◌==◌, Bool, true, false, cond, List, [], ◌∷◌, ◌++◌}
-use Rattle.std.proofs.Common.{slice_get, Option, None, Some, refl, sym, ap, subst, ◌∙◌, arith, eq-eqb}
+use Rattle.std.proofs.Common.{◌≡◌, ◌≢◌, ℕ, zero, suc, ◌==◌, cond, List, [], ◌∷◌, ◌++◌}
+use Rattle.std.proofs.Common.{slice_get, Option, None, Some, refl, sym, ap, ◌∙◌, eq-eqb}
 use Rattle.std.specs.List.{flat_map}
 use Rattle.std.specs.Option.{option_and_then, option_map}
-use Rattle.std.proofs.lemmas.Bool.Decides.{nat_tests}
 use Rattle.tk_base.specs.declared.process.Choice.{Choice}
 use Rattle.tk_base.specs.declared.process.Choice.TheVariants.{Run, Device, Pass}
 use Rattle.kernel_model.specs.Record.{Record}
@@ -21,6 +20,8 @@ use Rattle.kernel_model.specs.Parts.{happened}
 use Rattle.kernel_model.specs.Replay.{RoundFollowsChoices, SameHistorySameRecord}
 use Rattle.kernel_model.proofs.Places.{of_stepped, of_world, ran-other, ran-own}
 use Rattle.kernel_model.proofs.Told.{heard_at, told_at}
+use Rattle.std.proofs.lemmas.Bool.{cases_Bool, eqb-true, eqb-false}
+use Rattle.std.proofs.Common.{inl, inr}
 
 -- no step changes the settings
 pub kept_settings : (w : World) (choice : Choice) → (after w choice).settings ≡ w.settings
@@ -42,19 +43,13 @@ lands : (w : World) (records : List Record) (at slot : ℕ) (event : Event)
     → ((other : ℕ) → other ≢ at → slice_get records other ≡ slice_get w.records other)
     → slice_get records slot
     ≡ option_map (replay w.settings (cond (at == slot) (event ∷ []) [] ++ [])) (slice_get w.records slot)
-lands w records at slot event own others = by_slot (at == slot) refl
-  where
-    by_slot : (b : Bool) → at == slot ≡ b
-        → slice_get records slot
-        ≡ option_map (replay w.settings (cond b (event ∷ []) [] ++ [])) (slice_get w.records slot)
-    by_slot true e =
-        let same : at ≡ slot = grind (arith, nat_tests) in
-        subst (λ (s : ℕ). slice_get records s ≡ option_map (replay w.settings (event ∷ [])) (slice_get w.records s))
-        same
-        (own ∙ replayed_once w.settings event (slice_get w.records at))
-    by_slot false e =
-        let apart : slot ≢ at = λ same. grind (arith, nat_tests) in
-        others slot apart ∙ mapped_none w.settings (slice_get w.records slot)
+lands w records at slot event own others =
+    elim (cases_Bool (at == slot)) [
+      | inl e ↦ rw (e, ← eqb-true at slot e, own) (replayed_once w.settings event (slice_get w.records at))
+      | inr e ↦
+          rw (e, others slot (λ same. eqb-false at slot e (sym same)))
+          (mapped_none w.settings (slice_get w.records slot))
+    ]
 
 -- what a step told, as what happened to a slot
 abbrev replayed : World → ℕ → Stepped → Type 0
@@ -74,21 +69,15 @@ ran_replayed w other slot (Some r) e =
 deed_replayed : (w : World) (slot : ℕ) (o : Option DeviceStep) → replayed w slot (done w o)
 deed_replayed w slot None = mapped_none w.settings (slice_get w.records slot)
 deed_replayed w slot (Some deed) =
-    told_at w.settings deed.told w.records slot ∙ by_record (slice_get w.records slot)
-    ∙ ap (λ (h : List Event). option_map (replay w.settings h) (slice_get w.records slot))
-    (sym (heard_at deed.told w.records slot))
+    rw (told_at w.settings deed.told w.records slot, heard_at deed.told w.records slot)
+    (elim (slice_get w.records slot) as (λ o. option_map (happens w.settings (deed.told slot)) o
+    ≡ option_map (replay w.settings (flat_map (happened slot) (labels_of slot
+    (option_and_then (λ (r : Record). deed.told slot) o)))) o) [ None ↦ refl | Some r ↦ by_answer (deed.told slot) r ])
   where
     by_answer : (o : Option Answer) (r : Record)
         → Some (happens w.settings o r) ≡ Some (replay w.settings (flat_map (happened slot) (labels_of slot o)) r)
     by_answer None r = refl
-    by_answer (Some a) r =
-        ap (λ (b : Bool). Some (replay w.settings (cond b (a.event ∷ []) [] ++ []) r)) (sym (eq-eqb slot slot refl))
-
-    by_record : (o : Option Record) → option_map (happens w.settings (deed.told slot)) o
-        ≡ option_map (replay w.settings (flat_map (happened slot) (labels_of slot
-        (option_and_then (λ (r : Record). deed.told slot) o)))) o
-    by_record None = refl
-    by_record (Some r) = by_answer (deed.told slot) r
+    by_answer (Some a) r = rw (eq-eqb slot slot refl)
 
 choice_replayed : (w : World) (choice : Choice) (slot : ℕ) → replayed w slot (carried_out w choice)
 unfolding carried_out
@@ -119,29 +108,17 @@ pub record_is_replay : RecordIsReplay
 record_is_replay w [] slot = mapped_none w.settings (slice_get w.records slot)
 record_is_replay w (choice ∷ choices) slot =
     let v = after w choice in
-    record_is_replay v choices slot
-    ∙ ap (λ (s : Settings). option_map (replay s (history slot v choices)) (slice_get v.records slot))
-    (kept_settings w choice)
-    ∙ ap (option_map (replay w.settings (history slot v choices))) (one_step w choice slot)
-    ∙ replayed_joined w.settings (events slot w choice) (history slot v choices) (slice_get w.records slot)
+    rw (record_is_replay v choices slot, kept_settings w choice, one_step w choice slot)
+    (replayed_joined w.settings (events slot w choice) (history slot v choices) (slice_get w.records slot))
 
 pub same_history_same_record : SameHistorySameRecord
 same_history_same_record v w choices others slot place settings records histories =
-    record_is_replay v choices slot
-    ∙ ap (λ (s : Settings). option_map (replay s (history slot v choices)) (slice_get v.records slot)) settings
-    ∙ ap (λ (h : List Event). option_map (replay w.settings h) (slice_get v.records slot)) histories
-    ∙ ap (option_map (replay w.settings (history place w others))) records
-    ∙ sym (record_is_replay w others place)
+    rw (record_is_replay v choices slot, histories, records, settings) (sym (record_is_replay w others place))
 
 pub round_follows_choices : RoundFollowsChoices
 unfolding round chosen
 round_follows_choices zero w = refl
-round_follows_choices (suc n) w = by_choice (next w) (λ choice. round_follows_choices n (after w choice))
-  where
-    by_choice : (o : Option Choice)
-        → ((choice : Choice)
-        → (round n (after w choice)).world ≡ after_all (after w choice) (chosen n (after w choice)))
-        → (on_choice (stays w) (λ choice. runs_on (round n) (stepped w choice)) o).world
-        ≡ after_all w (on_choice [] (λ choice. choice ∷ chosen n (after w choice)) o)
-    by_choice None later = refl
-    by_choice (Some choice) later = later choice
+round_follows_choices (suc n) w =
+    elim (next w) as (λ o. (on_choice (stays w) (λ choice. runs_on (round n) (stepped w choice)) o).world
+    ≡ after_all w (on_choice [] (λ choice. choice ∷ chosen n (after w choice)) o))
+    [ None ↦ refl | Some choice ↦ round_follows_choices n (after w choice) ]

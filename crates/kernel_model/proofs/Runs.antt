@@ -2,8 +2,8 @@
 -- names only one whose flag is set, and a pass since it leads to a time ahead. The last holds where no device step is
 -- ready, as each time at which one becomes so lies ahead then.
 use Rattle.std.proofs.Common.{◌≡◌, ℕ, zero, suc, ◌+◌, ◌-◌, ◌<◌, Bool, true, false, cond, ◌&&◌, nat_le, nat_lt, List, []}
-use Rattle.std.proofs.Common.{length, ◌∷◌, ◌*◌, ◌/◌, if◌then◌else◌, slice_set, map, find, slice_get, slice_index_or}
-use Rattle.std.proofs.Common.{Option, None, Some, is_some, IfSome, IsTrue, ◌==◌, refl, sym, ap, subst, ◌∙◌, arith}
+use Rattle.std.proofs.Common.{length, ◌∷◌, ◌*◌, ◌/◌, slice_set, map, find, slice_get, slice_index_or}
+use Rattle.std.proofs.Common.{Option, None, Some, IfSome, IsTrue, refl, sym, ap, ◌∙◌, arith}
 use Rattle.std.proofs.Common.{eqb-true}
 use Rattle.std.specs.Option.{option_map, option_or}
 use Rattle.std.proofs.lemmas.Bool.{false≢true}
@@ -14,13 +14,13 @@ use Rattle.tk_base.specs.declared.limits.TheConstants.{STEP_LIMIT}
 use Rattle.tk_base.specs.declared.process.Choice.{Choice}
 use Rattle.tk_base.specs.declared.process.Choice.TheVariants.{Run, Device, Pass}
 use Rattle.tk_base.specs.declared.process.Dev.{Dev}
-use Rattle.tk_base.specs.declared.process.Dev.TheVariants.{Event, Alarm, Uart, Receive, Random, Store}
+use Rattle.tk_base.specs.declared.process.Dev.TheVariants.{Event, Alarm, Uart}
 use Rattle.partition_turns.specs.Windows.{window_end}
 use Rattle.turn_scheduler.specs.RoundRobin.{choice, device_order, next_slot}
 use Rattle.turn_scheduler.specs.Parts.{place_is_ready as is_ready_at}
 use Rattle.turn_scheduler.specs.RoundRobin.{device_place, ready_device, slots_after}
 use Rattle.process_model.specs.Own.{Own}
-use Rattle.driver_model.specs.Alarm.{due_for, left_for, nearer}
+use Rattle.driver_model.specs.Alarm.{left_for, nearer}
 use Rattle.driver_model.specs.Laws.{IsDueWhereNoneAreLeft}
 use Rattle.script_text.specs.Settings.{ScriptEvent as Arrival}
 use Rattle.board_devices.specs.Arriving.{is_time, first_arrival_time as arrival_time}
@@ -36,28 +36,28 @@ use Rattle.kernel_model.specs.Named.{waits_in}
 use Rattle.kernel_model.specs.Parts.{work_of}
 use Rattle.kernel_model.specs.Run.{is_left, may_go, next, next_time, passes_to, ready_devices, ready_slots}
 use Rattle.kernel_model.specs.World.{sending_time}
+use Rattle.std.proofs.lemmas.Bool.{cases_Bool, and_parts, cond_both, leb-false, lt-ltb}
+use Rattle.std.proofs.Common.{inl, inr, eq-eqb}
+use Rattle.kernel_model.proofs.Places.{same_some}
 
 pub found_passes : {X : Type 0} (p : X → Bool) (xs : List X) (x : X) → find p xs ≡ Some x → p x ≡ true
 found_passes p [] x e = cc
-found_passes p (y ∷ ys) x e = by_test (p y) refl e (found_passes p ys x)
-  where
-    by_test : (b : Bool) → p y ≡ b → cond b (Some y) (find p ys) ≡ Some x → (find p ys ≡ Some x → p x ≡ true)
-        → p x ≡ true
-    by_test true f g later = let same : y ≡ x = cc in ap p (sym same) ∙ f
-    by_test false f g later = later g
+found_passes p (y ∷ ys) x e =
+    elim (cases_Bool (p y)) [
+      | inl f ↦ rw (← same_some y x (rw f at e)) f
+      | inr f ↦ found_passes p ys x (rw f at e)
+    ]
 
 -- the slot that is next is ready
 pub next_slot_ready : (ready : List Bool) (present : Option ℕ) (used slice s : ℕ)
     → next_slot ready present used slice ≡ Some s → is_ready_at ready s ≡ true
 unfolding next_slot
 next_slot_ready ready None used slice s e = found_passes (is_ready_at ready) (slots_after None) s e
-next_slot_ready ready (Some p) used slice s e = by_ready (is_ready_at ready p) (nat_lt used slice) refl e
-  where
-    by_ready : (r u : Bool) → is_ready_at ready p ≡ r
-        → cond (r && u) (Some p) (find (is_ready_at ready) (slots_after (Some p))) ≡ Some s → is_ready_at ready s ≡ true
-    by_ready true true f g = let same : p ≡ s = cc in ap (is_ready_at ready) (sym same) ∙ f
-    by_ready true false f g = found_passes (is_ready_at ready) (slots_after (Some p)) s g
-    by_ready false u f g = found_passes (is_ready_at ready) (slots_after (Some p)) s g
+next_slot_ready ready (Some p) used slice s e =
+    elim (cases_Bool (is_ready_at ready p && nat_lt used slice)) [
+      | inl f ↦ rw (← same_some p s (rw f at e)) (and_parts (is_ready_at ready p) (nat_lt used slice) f).0
+      | inr f ↦ found_passes (is_ready_at ready) (slots_after (Some p)) s (rw f at e)
+    ]
 
 pub ready_runs : (records : List Record) (s : ℕ) → slice_index_or (map may_turn records) s false ≡ true
     → can_run (slice_get records s) ≡ true
@@ -71,37 +71,24 @@ none_flagged [] s e = false≢true e
 none_flagged (f ∷ fs) zero e = false≢true e
 none_flagged (f ∷ fs) (suc s) e = none_flagged fs s e
 
-one_flagged : (flags : List Bool) (only s : ℕ)
-    → slice_index_or (slice_set (map (λ (flag : Bool). false) flags) only (slice_index_or flags only
-    false)) s false ≡ true
-    → slice_index_or flags s false ≡ true
-one_flagged [] only s e = e
-one_flagged (f ∷ fs) zero zero e = e
-one_flagged (f ∷ fs) zero (suc s) e = absurd (none_flagged fs s e)
-one_flagged (f ∷ fs) (suc only) zero e = absurd (false≢true e)
-one_flagged (f ∷ fs) (suc only) (suc s) e = one_flagged fs only s e
+one_flagged : (flags : List Bool) (only s : ℕ) (x : Bool)
+    → slice_index_or (slice_set (map (λ (flag : Bool). false) flags) only x) s false ≡ true → (s ≡ only) × (x ≡ true)
+one_flagged [] only s x e = absurd (false≢true e)
+one_flagged (f ∷ fs) zero zero x e = (refl, e)
+one_flagged (f ∷ fs) zero (suc s) x e = absurd (none_flagged fs s e)
+one_flagged (f ∷ fs) (suc only) zero x e = absurd (false≢true e)
+one_flagged (f ∷ fs) (suc only) (suc s) x e = let same = one_flagged fs only s x e in (ap suc same.0, same.1)
 
 pub going_is_ready : (only : Option ℕ) (flags : List Bool) (s : ℕ) → slice_index_or (may_go only flags) s false ≡ true
     → slice_index_or flags s false ≡ true
 going_is_ready None flags s e = e
-going_is_ready (Some only) flags s e = one_flagged flags only s e
-
-same_next : (s t : ℕ) → s ≡ t → (suc s == suc t) ≡ true
-same_next s t same = grind (arith, nat_tests)
-
-one_is_let : (flags : List Bool) (only s : ℕ) (x : Bool)
-    → slice_index_or (slice_set (map (λ (flag : Bool). false) flags) only x) s false ≡ true → (s == only) ≡ true
-one_is_let [] only s x e = absurd (false≢true e)
-one_is_let (f ∷ fs) zero zero x e = refl
-one_is_let (f ∷ fs) zero (suc s) x e = absurd (none_flagged fs s e)
-one_is_let (f ∷ fs) (suc only) zero x e = absurd (false≢true e)
-one_is_let (f ∷ fs) (suc only) (suc s) x e = same_next s only (eqb-true s only (one_is_let fs only s x e))
+going_is_ready (Some only) flags s e = let same = one_flagged flags only s _ e in rw same.0 same.1
 
 -- a slot that may go is let
 pub going_is_let : (only : Option ℕ) (flags : List Bool) (s : ℕ) → slice_index_or (may_go only flags) s false ≡ true
     → is_let only s ≡ true
 going_is_let None flags s e = refl
-going_is_let (Some only) flags s e = one_is_let flags only s (slice_index_or flags only false) e
+going_is_let (Some only) flags s e = eq-eqb s only (one_flagged flags only s (slice_index_or flags only false) e).0
 
 one_goes : (flags : List Bool) (slot : ℕ) → slice_index_or flags slot false ≡ true
     → slice_index_or (slice_set (map (λ (flag : Bool). false) flags) slot (slice_index_or flags slot false)) slot false
@@ -114,18 +101,13 @@ one_goes (f ∷ fs) (suc slot) e = one_goes fs slot e
 pub ready_goes : (only : Option ℕ) (flags : List Bool) (slot : ℕ) → is_let only slot ≡ true
     → slice_index_or flags slot false ≡ true → slice_index_or (may_go only flags) slot false ≡ true
 ready_goes None flags slot let_go e = e
-ready_goes (Some only) flags slot let_go e =
-    subst (λ (o : ℕ). slice_index_or (slice_set (map (λ (flag : Bool). false) flags) o (slice_index_or flags o false))
-    slot false ≡ true) (eqb-true slot only let_go) (one_goes flags slot e)
+ready_goes (Some only) flags slot let_go e = rw (← eqb-true slot only let_go) (one_goes flags slot e)
 
 pub going_length : (only : Option ℕ) (flags : List Bool) → length (may_go only flags) ≡ length flags
 going_length None flags = refl
 going_length (Some only) flags =
     length-set (map (λ (flag : Bool). false) flags) only (slice_index_or flags only false)
     ∙ length-map flags (λ (flag : Bool). false)
-
-no_choice : {P : Type 0} (c : Choice) → ◌≡◌ {A = Option Choice} None (Some c) → P
-no_choice c e = cc
 
 -- a choice that may be made is ready below the limit of steps
 below_limit : (w : World) (b : Bool) → b ≡ true → w.clock.steps < STEP_LIMIT
@@ -134,11 +116,7 @@ below_limit w b e h = grind (arith, nat_tests)
 
 pub ready_at : (w : World) (device : Dev) → is_ready_at (ready_devices w) (device_place device) ≡ can_act w device
 ready_at w Event = refl
-ready_at w Alarm = refl
-ready_at w Uart = refl
-ready_at w Receive = refl
-ready_at w Random = refl
-ready_at w Store = refl
+ready_at w device = refl
 
 device_ready : (w : World) (device : Dev) → ready_device (ready_devices w) ≡ Some device → can_act w device ≡ true
 unfolding ready_device
@@ -186,25 +164,17 @@ alarm_ahead : (w : World) → IsDueWhereNoneAreLeft → can_act w Alarm ≡ fals
     → Ahead w.clock.time (alarm_time (only_in w) w.clock.time (now_in w) (owns_in w))
 alarm_ahead w law none = by_left (left_for (only_in w) (now_in w) (owns_in w)) refl
   where
-    not_both : (b : Bool) → IsTrue b → b ≡ false → ⊥
-    not_both true h e = cc
-    not_both false h e = cc
-
     by_left : (left : Option ℕ) → left_for (only_in w) (now_in w) (owns_in w) ≡ left
         → Ahead w.clock.time (option_map (λ ticks. w.clock.time + ticks) left)
     by_left None e = tt
-    by_left (Some zero) e =
-        absurd (not_both (is_some (due_for (only_in w) (now_in w) (owns_in w)))
-        ((law (only_in w) (now_in w) (owns_in w)).0 e) none)
+    by_left (Some zero) e = absurd (false≢true (rw none at (law (only_in w) (now_in w) (owns_in w)).0 e))
     by_left (Some (suc ticks)) e = omega arith
 
 sending_ahead : (only : Option ℕ) (time : ℕ) (d : Devices)
     → (waits_in only Writes d && nat_le (line_in (lane_by only) d).free time) ≡ false → Ahead time (sending_time only d)
-sending_ahead only time d e = by_waiting (waits_in only Writes d) (line_in (lane_by only) d).free e
-  where
-    by_waiting : (b : Bool) (free : ℕ) → (b && nat_le free time) ≡ false → Ahead time (cond b (Some free) None)
-    by_waiting true free f = grind (arith, nat_tests)
-    by_waiting false free f = tt
+sending_ahead only time d e =
+    cond_both (waits_in only Writes d) _ None (Ahead time)
+    (λ waits. leb-false (line_in (lane_by only) d).free time (rw waits at e)) (λ none. tt)
 
 -- the nearest time at which a device step becomes ready lies ahead, where none is
 work_ahead : (w : World) → IsDueWhereNoneAreLeft → ready_device (ready_devices w) ≡ None
@@ -231,31 +201,23 @@ pub lies_ahead : (w : World) → IsDueWhereNoneAreLeft → ready_device (ready_d
     → IfSome (next_time w) (λ at. w.clock.time < at)
 lies_ahead w law none = by_pace w.pace.window
   where
-    ahead : Ahead w.clock.time (work_of w).next
-    ahead = work_ahead w law none
-
-    by_left : (n : ℕ) (b : Bool)
-        → Ahead w.clock.time (if b then nearer (work_of w).next (Some (window_end w.clock.time (suc n))) else None)
-    by_left n true =
-        nearer_ahead w.clock.time (work_of w).next (Some (window_end w.clock.time (suc n))) ahead
-        (end_ahead w.clock.time n)
-    by_left n false = tt
-
     by_pace : (window : ℕ) → Ahead w.clock.time (passes_to w window)
-    by_pace zero = ahead
-    by_pace (suc n) = by_left n (is_left w)
+    by_pace zero = work_ahead w law none
+    by_pace (suc n) =
+        cond_both (is_left w) _ None (Ahead w.clock.time)
+        (λ left. nearer_ahead w.clock.time (work_of w).next (Some (window_end w.clock.time (suc n)))
+        (work_ahead w law none) (end_ahead w.clock.time n)) (λ none_left. tt)
 
 module _ (w : World) (c : Choice) (law : IsDueWhereNoneAreLeft) (h : w.clock.steps < STEP_LIMIT) where
+  so : (d : Choice) → IsTrue (is_ready w d) → Some d ≡ Some c → IsTrue (is_ready w c)
+  so d ready e = rw (same_some d c e) at ready
+
   by_time : (at : Option ℕ) → Ahead w.clock.time at → option_map (λ n. Pass (n - w.clock.time)) at ≡ Some c
       → IsTrue (is_ready w c)
   unfolding may_be_made
-  by_time None ahead f = no_choice c f
+  by_time None ahead f = absurd (cc)
   by_time (Some at) ahead f =
-      let same : Pass (at - w.clock.time) ≡ c = cc in
-      subst (λ (x : Choice). IsTrue (is_ready w x)) same (below_limit w (nat_lt 0 (at - w.clock.time)) above h)
-    where
-      above : nat_lt 0 (at - w.clock.time) ≡ true
-      above = grind (arith, nat_tests)
+      so (Pass (at - w.clock.time)) (below_limit w _ (lt-ltb 0 (at - w.clock.time) (omega (arith, ahead))) h) f
 
   by_slot : ready_device (ready_devices w) ≡ None → (o : Option ℕ)
       → next_slot (ready_slots w) w.present.slot w.present.used w.pace.slice ≡ o
@@ -264,11 +226,9 @@ module _ (w : World) (c : Choice) (law : IsDueWhereNoneAreLeft) (h : w.clock.ste
   unfolding may_be_made
   by_slot none None e f = by_time (next_time w) (lies_ahead w law none) f
   by_slot none (Some s) e f =
-      let same : Run s ≡ c = cc in
-      subst (λ (x : Choice). IsTrue (is_ready w x)) same
-      (below_limit w (can_run (slice_get w.records s))
+      so (Run s) (below_limit w (can_run (slice_get w.records s))
       (ready_runs w.records s (going_is_ready (only_in w) (map may_turn w.records) s
-      (next_slot_ready (ready_slots w) w.present.slot w.present.used w.pace.slice s e))) h)
+      (next_slot_ready (ready_slots w) w.present.slot w.present.used w.pace.slice s e))) h) f
 
   by_device : (o : Option Dev) → ready_device (ready_devices w) ≡ o
       → option_or (option_map Device o) (option_or
@@ -276,9 +236,7 @@ module _ (w : World) (c : Choice) (law : IsDueWhereNoneAreLeft) (h : w.clock.ste
       (option_map (λ at. Pass (at - w.clock.time)) (next_time w))) ≡ Some c → IsTrue (is_ready w c)
   unfolding may_be_made
   by_device None e f = by_slot e (next_slot (ready_slots w) w.present.slot w.present.used w.pace.slice) refl f
-  by_device (Some device) e f =
-      let same : Device device ≡ c = cc in
-      subst (λ (x : Choice). IsTrue (is_ready w x)) same (below_limit w (can_act w device) (device_ready w device e) h)
+  by_device (Some device) e f = so (Device device) (below_limit w (can_act w device) (device_ready w device e) h) f
 
 -- the next choice is ready, below the limit of steps
 pub next_ready : (w : World) (c : Choice) → IsDueWhereNoneAreLeft → next w ≡ Some c → w.clock.steps < STEP_LIMIT

@@ -1,11 +1,9 @@
 -- What a step does to the process in a slot: nothing, its turn, or what a device tells it. `of_answers` is the walk
 -- over all that devices answer, `of_operated` over an operator's verbs, and `of_step` over the whole step: it reads off
 -- the labels what was told of the slot, since labels of other slots count nothing.
-use Rattle.std.proofs.Common.{◌≡◌, ◌≢◌, ℕ, ◌==◌, ◌&&◌, ◌||◌, Bool, true, false, cond, List, [], ◌∷◌, ◌++◌, slice_get}
-use Rattle.std.proofs.Common.{Option, None, Some, IfSome, refl, sym, ap, subst, ◌∙◌, eqb-true, eq-eqb}
+use Rattle.std.proofs.Common.{◌≡◌, ◌≢◌, ℕ, ◌==◌, ◌||◌, Bool, true, false, cond, List, [], ◌∷◌, ◌++◌, slice_get}
+use Rattle.std.proofs.Common.{Option, None, Some, IfSome, refl, sym, ap, eqb-true, eq-eqb}
 use Rattle.std.specs.List.{flat_map, list_any}
-use Rattle.std.specs.Option.{option_and_then, option_map}
-use Rattle.std.proofs.lemmas.Bool.{false≢true}
 use Rattle.tk_base.specs.declared.process.Choice.{Choice}
 use Rattle.tk_base.specs.declared.process.Choice.TheVariants.{Run, Device, Pass}
 use Rattle.tk_base.specs.declared.process.Dev.{Dev}
@@ -21,15 +19,15 @@ use Rattle.driver_model.specs.Services.{OfEachService}
 use Rattle.kernel_model.specs.declared.settings.Settings.{Settings}
 use Rattle.kernel_model.specs.Record.{Record}
 use Rattle.kernel_model.specs.Turn.{Act, Event, Turn, Alarmed, Edge, Taken, WriteDone, Input, Word, NoWord, Stored}
-use Rattle.kernel_model.specs.Turn.{TurnTrace, Turned, apply, is_act, is_turn, operated, turned, untraced}
+use Rattle.kernel_model.specs.Turn.{TurnTrace, apply, is_act, is_turn, operated, turned}
 use Rattle.kernel_model.specs.Calls.{restart}
-use Rattle.kernel_model.specs.World.{Answer, DeviceAnswer, DeviceStep, Devices, Label, Stepped, World, after}
+use Rattle.kernel_model.specs.World.{Answer, DeviceAnswer, DeviceStep, Devices, Stepped, World, after}
 use Rattle.kernel_model.specs.Parts.{alarmed}
 use Rattle.kernel_model.specs.World.{answering, arrived, carried_out, device_step_of, done}
 use Rattle.kernel_model.specs.Parts.{drawn_event}
 use Rattle.kernel_model.specs.World.{labels, lane_in, labels_told, ran, random_step, receive_step}
 use Rattle.kernel_model.specs.Parts.{served_by}
-use Rattle.kernel_model.specs.Parts.{happens, labels_of}
+use Rattle.kernel_model.specs.Parts.{labels_of}
 use Rattle.kernel_model.specs.World.{operating, serving, storing}
 use Rattle.kernel_model.specs.World.{transmitting, unmade}
 use Rattle.kernel_model.specs.Histories.{is_end, is_ended_in, turns_in}
@@ -39,6 +37,11 @@ use Rattle.kernel_model.proofs.Places.{free_where_may, may_where_ready, of_stepp
 use Rattle.kernel_model.specs.Laws.{edge_done, one_answered, quiet}
 use Rattle.kernel_model.proofs.Told.{edge_answer, heard_at, labels_at, of_coming, of_device, told_at, told_there}
 use Rattle.kernel_model.proofs.Told.{with_arrived, with_rest}
+use Rattle.std.proofs.lemmas.Bool.{cases_Bool, or_parts, ne_eqb, eqb-false, and_right}
+use Rattle.std.proofs.Common.{inl, inr}
+use Rattle.std.proofs.lemmas.Option.{cond_some, IfSome_then}
+use Rattle.kernel_model.proofs.Places.{cases_Option}
+use Rattle.std.proofs.lemmas.Bool.{cond_both}
 
 -- an event that a device tells: no turn, and no operator's act
 abbrev pub IsAnswer : Event → Type 0
@@ -48,40 +51,16 @@ IsAnswer event = (is_turn event || is_act event) ≡ false
 pub of_told : (P : Event → Type 0) → ((event : Event) → IsAnswer event → P event) → ((verb : Verb) → P (Act verb))
     → (event : Event) → is_turn event ≡ false → P event
 of_told P answers acts (Turn time) is = absurd (cc)
-of_told P answers acts (Alarmed now) is = answers (Alarmed now) refl
-of_told P answers acts (Edge button pressed) is = answers (Edge button pressed) refl
-of_told P answers acts Taken is = answers Taken refl
-of_told P answers acts WriteDone is = answers WriteDone refl
-of_told P answers acts (Input bytes) is = answers (Input bytes) refl
-of_told P answers acts (Word word) is = answers (Word word) refl
-of_told P answers acts NoWord is = answers NoWord refl
-of_told P answers acts (Stored moved) is = answers (Stored moved) refl
 of_told P answers acts (Act verb) is = acts verb
+of_told P answers acts event is = answers event refl
 
 -- an answer is no turn, and ends no life
 pub answer_no_turn : (event : Event) → IsAnswer event → is_turn event ≡ false
-answer_no_turn (Turn time) is = absurd (cc)
-answer_no_turn (Alarmed now) is = refl
-answer_no_turn (Edge button pressed) is = refl
-answer_no_turn Taken is = refl
-answer_no_turn WriteDone is = refl
-answer_no_turn (Input bytes) is = refl
-answer_no_turn (Word word) is = refl
-answer_no_turn NoWord is = refl
-answer_no_turn (Stored moved) is = refl
-answer_no_turn (Act verb) is = absurd (cc)
+answer_no_turn event is = (or_parts (is_turn event) (is_act event) is).0
 
 answer_no_end : (o : Option Record) (event : Event) → IsAnswer event → is_end o event ≡ false
-answer_no_end o (Turn time) is = absurd (cc)
-answer_no_end o (Alarmed now) is = refl
-answer_no_end o (Edge button pressed) is = refl
-answer_no_end o Taken is = refl
-answer_no_end o WriteDone is = refl
-answer_no_end o (Input bytes) is = refl
-answer_no_end o (Word word) is = refl
-answer_no_end o NoWord is = refl
-answer_no_end o (Stored moved) is = refl
 answer_no_end o (Act verb) is = absurd (cc)
+answer_no_end o event is = refl
 
 -- What holds of a process that is as it was, or held, or let go, and where a life of it ends of one that ended, or
 -- starts again, holds of one on which an operator acted.
@@ -90,25 +69,12 @@ pub of_operated : (P : Bool → Record → Type 0) (r : Record) → P false r
     → (is_alive r.process.state ≡ true → P true (record r { process = after_end r.process 0; own = own_ended r.own }))
     → P true (restart r) → (verb : Verb) → P (ends_by verb r.process) (operated verb r)
 of_operated P r same holds ends again verbs.List = same
-of_operated P r same holds ends again verbs.Stop = by_test (is_alive r.process.state)
-  where
-    by_test : (b : Bool) → P false (record r { process = cond b (with_held true r.process) r.process; own = r.own })
-    by_test true = holds true
-    by_test false = same
-of_operated P r same holds ends again verbs.Start = by_test r.process.held
-  where
-    by_test : (b : Bool) → P false (record r { process = cond b (with_held false r.process) r.process; own = r.own })
-    by_test true = holds false
-    by_test false = same
-of_operated P r same holds ends again verbs.Terminate = by_test (is_alive r.process.state) refl
-  where
-    by_test : (b : Bool) → is_alive r.process.state ≡ b
-        → P b (record r {
-          process = cond b (after_end r.process 0) r.process;
-          own = cond b (own_ended r.own) r.own;
-        })
-    by_test true e = ends e
-    by_test false e = same
+of_operated P r same holds ends again verbs.Stop =
+    elim (cases_Bool (is_alive r.process.state)) [ inl e ↦ rw e (holds true) | inr e ↦ rw e same ]
+of_operated P r same holds ends again verbs.Start =
+    cond_both r.process.held _ r.process (λ p. P false (record r { process = p })) (λ e. holds false) (λ e. same)
+of_operated P r same holds ends again verbs.Terminate =
+    elim (cases_Bool (is_alive r.process.state)) [ inl e ↦ rw e (ends e) | inr e ↦ rw e same ]
 of_operated P r same holds ends again verbs.Restart = again
 
 -- what holds of all that drivers do to a process holds of what is its own after such an event
@@ -131,15 +97,8 @@ pub answer_changes : (settings : Settings) (event : Event) (r : Record) → IsAn
     → let s = apply settings event r in s ≡ record r { own = s.own; storage = s.storage; pressed = s.pressed }
 unfolding apply
 answer_changes settings (Turn time) r is = absurd (cc)
-answer_changes settings (Alarmed now) r is = refl
-answer_changes settings (Edge button pressed) r is = refl
-answer_changes settings Taken r is = refl
-answer_changes settings WriteDone r is = refl
-answer_changes settings (Input bytes) r is = refl
-answer_changes settings (Word word) r is = refl
-answer_changes settings NoWord r is = refl
-answer_changes settings (Stored moved) r is = refl
 answer_changes settings (Act verb) r is = absurd (cc)
+answer_changes settings event r is = refl
 
 sent_is_answer : (completed : Bool) → IsAnswer (cond completed WriteDone Taken)
 sent_is_answer true = refl
@@ -176,54 +135,10 @@ of_answers w P none quietly edges each acts device =
 abbrev pub TellsNoTurn : (ℕ → Option Answer) → Type 0
 TellsNoTurn told = (slot : ℕ) (a : Answer) → told slot ≡ Some a → is_turn a.event ≡ false
 
--- nor is it what one process is told that is none
-one_no_turn : (slot : ℕ) (a : DeviceAnswer) → is_turn a.answer.event ≡ false → TellsNoTurn (answering slot a).told
-one_no_turn slot a is other b told = by_test (other == slot) told
-  where
-    by_test : (test : Bool) → cond test (Some a.answer) None ≡ Some b → is_turn b.event ≡ false
-    by_test true e =
-        let same : a.answer ≡ b = cc in
-        subst (λ (x : Answer). is_turn x.event ≡ false) same is
-    by_test false e = absurd (cc)
-
-serving_answers : (w : World) (answer : ℕ → Record → DeviceAnswer)
-    → ((slot : ℕ) (r : Record) → is_turn (answer slot r).answer.event ≡ false) → (served : Option ℕ)
-    → IfSome (serving w.records answer served) (λ deed. TellsNoTurn deed.told)
-serving_answers w answer each None = tt
-serving_answers w answer each (Some slot) = by_record (slice_get w.records slot)
-  where
-    by_record : (o : Option Record)
-        → IfSome (option_map (λ (r : Record). answering slot (answer slot r)) o) (λ deed. TellsNoTurn deed.told)
-    by_record None = tt
-    by_record (Some r) = one_no_turn slot (answer slot r) (each slot r)
-
-arrived_answers : (w : World) (arrivals : List Arrival)
-    → IfSome (arrived w.records w.devices arrivals) (λ deed. TellsNoTurn deed.told)
-arrived_answers w [] = tt
-arrived_answers w (arrival ∷ rest) =
-    of_coming (λ deed. TellsNoTurn deed.told) w (with_rest w.devices rest) (record {
-      bytes = λ bytes slot a told. absurd (cc);
-      edges = λ button pressed slot a told.
-          ap (λ (x : Answer). is_turn x.event) (edge_answer button pressed (slice_get w.records slot) a told);
-      nobody = λ slot a told. absurd (cc);
-      acts = λ verb slot r is. one_no_turn slot (operating verb (with_rest w.devices rest) slot r) refl;
-    }) arrival.kind
-
--- so it is with all that devices tell
-pub device_answers : (w : World) (device : Dev)
-    → IfSome (device_step_of w device) (λ deed. TellsNoTurn deed.told)
-device_answers w dev.Event = arrived_answers w w.devices.arrivals
-device_answers w dev.Alarm =
-    serving_answers w (λ slot r. alarmed w.settings w.clock.time w.devices) (λ slot r. refl) (served_by w dev.Alarm)
-device_answers w dev.Uart =
-    serving_answers w (transmitting (lane_in w) w.clock.time w.devices) (λ slot r. answer_no_turn _ (sent_is_answer
-    _)) (served_by w dev.Uart)
-device_answers w dev.Receive =
-    serving_answers w (receive_step (lane_in w) w.devices) (λ slot r. refl) (served_by w dev.Receive)
-device_answers w dev.Random =
-    serving_answers w (random_step (lane_in w) w.devices) (λ slot r. answer_no_turn _ (drawn_is_answer _)) (served_by w
-    dev.Random)
-device_answers w dev.Store = serving_answers w (storing (lane_in w) w.devices) (λ slot r. refl) (served_by w dev.Store)
+-- what one process is told is that alone
+one_told : (P : Event → Type 0) (slot : ℕ) (a : DeviceAnswer) → P a.answer.event → (other : ℕ) (b : Answer)
+    → (answering slot a).told other ≡ Some b → P b.event
+one_told P slot a is other b told = rw (cond_some (other == slot) a.answer b told).1 at is
 
 -- each device that lets nothing come in tells answers alone
 abbrev pub AnswersOnly : (ℕ → Option Answer) → Type 0
@@ -233,18 +148,9 @@ serving_only : (w : World) (answer : ℕ → Record → DeviceAnswer)
     → ((slot : ℕ) (r : Record) → IsAnswer (answer slot r).answer.event) → (served : Option ℕ)
     → IfSome (serving w.records answer served) (λ deed. AnswersOnly deed.told)
 serving_only w answer each None = tt
-serving_only w answer each (Some slot) = by_record (slice_get w.records slot)
-  where
-    by_record : (o : Option Record)
-        → IfSome (option_map (λ (r : Record). answering slot (answer slot r)) o) (λ deed. AnswersOnly deed.told)
-    by_record None = tt
-    by_record (Some r) = λ other a told. by_test a (other == slot) told
-      where
-        by_test : (a : Answer) (b : Bool) → cond b (Some (answer slot r).answer) None ≡ Some a → IsAnswer a.event
-        by_test a true e =
-            let same : (answer slot r).answer ≡ a = cc in
-            subst (λ (x : Answer). IsAnswer x.event) same (each slot r)
-        by_test a false e = absurd (cc)
+serving_only w answer each (Some slot) =
+    elim (cases_Option (slice_get w.records slot))
+    [ inl none ↦ rw none tt | inr is ↦ rw is.1 (one_told IsAnswer slot (answer slot is.0) (each slot is.0)) ]
 
 pub only_answers : (w : World) (device : Dev) → device ≢ dev.Event
     → IfSome (device_step_of w device) (λ deed. AnswersOnly deed.told)
@@ -258,6 +164,27 @@ only_answers w dev.Receive apart =
 only_answers w dev.Random apart =
     serving_only w (random_step (lane_in w) w.devices) (λ slot r. drawn_is_answer _) (served_by w dev.Random)
 only_answers w dev.Store apart = serving_only w (storing (lane_in w) w.devices) (λ slot r. refl) (served_by w dev.Store)
+
+-- so it is with all that devices tell: it is no turn
+pub device_answers : (w : World) (device : Dev)
+    → IfSome (device_step_of w device) (λ deed. TellsNoTurn deed.told)
+device_answers w dev.Event = arrived_answers w.devices.arrivals
+  where
+    arrived_answers : (arrivals : List Arrival)
+        → IfSome (arrived w.records w.devices arrivals) (λ deed. TellsNoTurn deed.told)
+    arrived_answers [] = tt
+    arrived_answers (arrival ∷ rest) =
+        of_coming (λ deed. TellsNoTurn deed.told) w (with_rest w.devices rest) (record {
+          bytes = λ bytes slot a told. absurd (cc);
+          edges = λ button pressed slot a told.
+              ap (λ (x : Answer). is_turn x.event) (edge_answer button pressed (slice_get w.records slot) a told);
+          nobody = λ slot a told. absurd (cc);
+          acts = λ verb slot r is.
+              one_told (λ event. is_turn event ≡ false) slot (operating verb (with_rest w.devices rest) slot r) refl;
+        }) arrival.kind
+device_answers w device =
+    IfSome_then (device_step_of w device) (only_answers w device (λ e. absurd (cc)))
+    (λ deed only slot a told. answer_no_turn a.event (only slot a told))
 
 -- what holds of each thing that a step may do to the process in a slot: of whether an operator's act ended a life of
 -- it, of what its turn tells, if it has one, and of its record afterwards
@@ -282,15 +209,7 @@ pub ended_told : (w : World) (slot : ℕ) (deed : DeviceStep) (r : Record) (a :
     → list_any (is_end (slice_get w.records slot)) (flat_map (happened slot) (done w (Some deed)).labels)
     ≡ is_end (Some r) a.event
 ended_told w slot deed r a is tells =
-    ap ended (heard_at deed.told w.records slot)
-    ∙ ap (λ (o : Option Record). ended (flat_map (happened slot)
-    (labels_of slot (option_and_then (λ (x : Record). deed.told slot) o)))) is
-    ∙ ap (λ (t : Option Answer). ended (flat_map (happened slot) (labels_of slot t))) tells
-    ∙ ap (λ (b : Bool). ended (cond b (a.event ∷ []) [] ++ [])) (eq-eqb slot slot refl)
-    ∙ ap (λ (o : Option Record). list_any (is_end o) (a.event ∷ [])) is ∙ or_false (is_end (Some r) a.event)
-  where
-    ended : List Event → Bool
-    ended es = list_any (is_end (slice_get w.records slot)) es
+    rw (heard_at deed.told w.records slot, is, tells, eq-eqb slot slot refl) (or_false (is_end (Some r) a.event))
 
 module _ (w : World) (slot : ℕ) (P : Bool → List TurnTrace → Option Record → Type 0) (each : OfEachStep w slot P) where
   -- whether one of the events of the slot's process ended a life of it
@@ -302,22 +221,16 @@ module _ (w : World) (slot : ℕ) (P : Bool → List TurnTrace → Option Record
       (flat_map (turns_in slot) (ran w other o).labels) (slice_get (ran w other o).after.records slot)
   unfolding apply
   of_ran other None is may = each.stays
-  of_ran other (Some r) is may = by_slot (other == slot) refl
-    where
-      t : Turned
-      t = turned w.settings w.clock.time r
-
-      by_slot : (b : Bool) → (other == slot) ≡ b
-          → P (ended_by (cond b (Turn w.clock.time ∷ []) [] ++ [])) (cond b (t.told ∷ []) [] ++ [])
-          (slice_get (ran w other (Some r)).after.records slot)
-      by_slot true e =
-          let same : other ≡ slot = eqb-true other slot e in
-          subst (P false (t.told ∷ [])) (sym (ap (slice_get (ran w other (Some r)).after.records) (sym same)
-          ∙ ran-own w other (Some r) is))
-          (each.turn r (ap (slice_get w.records) (sym same) ∙ is) (free_where_may r may))
-      by_slot false e =
-          subst (P false []) (sym (ran-other w other slot (Some r)
-          (λ same. false≢true (sym e ∙ eq-eqb other slot (sym same))))) each.stays
+  of_ran other (Some r) is may =
+      elim (cases_Bool (other == slot)) [
+        | inl e ↦
+            let t = turned w.settings w.clock.time r in
+            let same : slice_get w.records slot ≡ Some r = rw (← eqb-true other slot e) is in
+            let own : slice_get (ran w other (Some r)).after.records slot ≡ Some t.after =
+            rw (← eqb-true other slot e) (ran-own w other (Some r) is) in
+            rw (e, own) (each.turn r same (free_where_may r may))
+        | inr e ↦ rw (e, ran-other w other slot (Some r) (λ same. eqb-false other slot e (sym same))) each.stays
+      ]
 
   -- what a device's step tells of turns and of acts, and leaves of the process
   of_deed : (o : Option DeviceStep) → IfSome o (λ deed. TellsNoTurn deed.told)
@@ -326,67 +239,25 @@ module _ (w : World) (slot : ℕ) (P : Bool → List TurnTrace → Option Record
   unfolding apply
   of_deed None answers = each.stays
   of_deed (Some deed) answers =
-      subst (P (ended_by (flat_map (happened slot) ls)) (flat_map (turns_in slot) ls))
-      (sym (told_at w.settings deed.told w.records slot))
-      (subst (λ (es : List Event). P (ended_by es) (flat_map (turns_in slot) ls) then) (sym heard)
-      (subst (λ (tolds : List TurnTrace). P (ended_by (flat_map (happened slot) mine)) tolds then)
-      (sym (no_turns ∙ by_there (slice_get w.records slot)))
-      (by_record (slice_get w.records slot) refl (deed.told slot) refl)))
+      rw (told_at w.settings deed.told w.records slot, heard_at deed.told w.records slot, turns)
+      (elim (cases_Option (slice_get w.records slot)) [
+        | inl none ↦ rw none (rw none at each.stays)
+        | inr is ↦ let r = is.0 in elim (cases_Option (deed.told slot)) [
+          | inl none ↦ rw (is.1, none) (rw is.1 at each.stays)
+          | inr tells ↦ let a = tells.0 in
+              rw (is.1, tells.1, eq-eqb slot slot refl, answers slot a tells.1, or_false)
+              (of_told (λ event. P (is_end (Some r) event) [] (Some (apply w.settings event r)))
+              (λ event is_answer. rw (answer_no_end (Some r) event is_answer) (each.answer r is.1 event is_answer))
+              (λ verb. each.act r is.1 verb) a.event (answers slot a tells.1))
+        ]
+      ])
     where
-      ls : List Label
-      ls = labels_told deed.told 0 w.records
-
-      mine : List Label
-      mine = labels_of slot (told_there deed.told w.records slot slot)
-
-      then : Option Record
-      then = option_map (happens w.settings (deed.told slot)) (slice_get w.records slot)
-
-      no_turn : (o : Option Answer) → deed.told slot ≡ o → flat_map (turns_in slot) (labels_of slot o) ≡ []
-      no_turn None e = refl
-      no_turn (Some a) e =
-          ap (λ (turn : Bool). cond (turn && slot == slot) (untraced ∷ []) [] ++ []) (answers slot a e)
-
-      others : (label : Label) (tolds : List TurnTrace) → label.slot ≢ slot
-          → turns_in slot label ++ tolds ≡ tolds
-      others label tolds apart = by_slot (is_turn label.event) (label.slot == slot) refl
-        where
-          by_slot : (turn b : Bool) → (label.slot == slot) ≡ b → cond (turn && b) (label.trace ∷ []) [] ++ tolds ≡ tolds
-          by_slot turn true e = absurd (apart (eqb-true label.slot slot e))
-          by_slot true false e = refl
-          by_slot false false e = refl
-
-      no_turns : flat_map (turns_in slot) ls ≡ flat_map (turns_in slot) mine
-      no_turns =
+      turns : flat_map (turns_in slot) (labels_told deed.told 0 w.records)
+          ≡ flat_map (turns_in slot) (labels_of slot (told_there deed.told w.records slot slot))
+      turns =
           labels_at (flat_map (turns_in slot)) (λ label tolds. turns_in slot label ++ tolds) (λ label ls. refl) slot
-          others deed.told w.records
-
-      heard : flat_map (happened slot) ls ≡ flat_map (happened slot) mine
-      heard = heard_at deed.told w.records slot
-
-      by_there : (o : Option Record)
-          → flat_map (turns_in slot) (labels_of slot (option_and_then (λ (r : Record). deed.told slot) o)) ≡ []
-      by_there None = refl
-      by_there (Some r) = no_turn (deed.told slot) refl
-
-      by_event : (r : Record) → slice_get w.records slot ≡ Some r → (a : Answer) → is_turn a.event ≡ false
-          → P (is_end (Some r) a.event) [] (Some (apply w.settings a.event r))
-      by_event r is a no_turn =
-          of_told (λ event. P (is_end (Some r) event) [] (Some (apply w.settings event r)))
-          (λ event answers. subst (λ (b : Bool). P b [] (Some (apply w.settings event r)))
-          (sym (answer_no_end (Some r) event answers)) (each.answer r is event answers))
-          (λ verb. each.act r is verb) a.event no_turn
-
-      by_record : (o : Option Record) → slice_get w.records slot ≡ o → (told : Option Answer) → deed.told slot ≡ told
-          → P (ended_by (flat_map (happened slot) (labels_of slot (option_and_then (λ (r : Record). told) o)))) []
-          (option_map (happens w.settings told) o)
-      by_record None is told tells = subst (P false []) is each.stays
-      by_record (Some r) is None tells = subst (P false []) is each.stays
-      by_record (Some r) is (Some a) tells =
-          subst (λ (b : Bool). P b [] (Some (apply w.settings a.event r)))
-          (sym (ap (λ (b : Bool). ended_by (cond b (a.event ∷ []) [] ++ [])) (eq-eqb slot slot refl)
-          ∙ ap (λ (o : Option Record). list_any (is_end o) (a.event ∷ [])) is ∙ or_false (is_end (Some r) a.event)))
-          (by_event r is a (answers slot a tells))
+          (λ label tolds apart. rw (and_right (is_turn label.event) _ (ne_eqb label.slot slot apart))) deed.told
+          w.records
 
   abbrev Does : Stepped → Type 0
   Does s =

@@ -1,14 +1,13 @@
 -- What a device's step leaves and tells, slot by slot: nothing but its devices where it tells nobody anything, one
 -- record and its labels where it answers one process, and each record by itself where it tells of an edge of a button.
 -- By induction on the records; `of_device` is the walk over devices that this gives (`OfEachDevice`).
-use Rattle.std.proofs.Common.{◌≡◌, ◌≢◌, inl, inr, ◌≤◌, ℕ, zero, suc, ◌+◌, ◌==◌, Bool, true, false, cond, List, []}
+use Rattle.std.proofs.Common.{◌≡◌, ◌≢◌, inl, inr, ◌≤◌, ℕ, zero, suc, ◌+◌, Bool, true, false, List, []}
 use Rattle.std.proofs.Common.{◌∷◌, ◌++◌}
-use Rattle.std.proofs.Common.{length, map, slice_get, slice_set, Option, None, Some, refl, sym, ap, ap₂, subst, ◌∙◌}
-use Rattle.std.proofs.Common.{◌||◌, not, arith, eq-eqb, eqb-true}
+use Rattle.std.proofs.Common.{length, map, slice_get, slice_set, Option, None, Some, refl, sym, ap, ap₂, ◌∙◌}
+use Rattle.std.proofs.Common.{arith, eq-eqb}
 use Rattle.std.specs.Prelude.{All}
 use Rattle.std.specs.Option.{option_and_then, option_map}
-use Rattle.std.specs.Prelude.{flat_map, unwrap_or}
-use Rattle.std.proofs.lemmas.List.{append-nil}
+use Rattle.std.specs.Prelude.{flat_map}
 use Rattle.std.proofs.lemmas.List.Elements.{All-nil, All-cons, All-head, All-tail}
 use Rattle.tk_base.specs.declared.process.Verb.{Verb}
 use Rattle.tk_base.specs.declared.process.Dev.{Dev}
@@ -17,12 +16,10 @@ use Rattle.board_devices.specs.Arriving.{differs}
 use Rattle.board_devices.specs.SerialLine.{with_input}
 use Rattle.script_text.specs.Settings.{ScriptEvent as Arrival, EventKind}
 use Rattle.script_text.specs.Settings as script
-use Rattle.process_record.specs.declared.emit.Emit.{Emit}
 use Rattle.process_record.specs.Emit.{nothing}
 use Rattle.kernel_model.specs.Record.{Record}
 use Rattle.kernel_model.specs.declared.settings.Settings.{Settings}
-use Rattle.kernel_model.specs.Turn.{Edge, Event, apply, is_act, is_turn}
-use Rattle.kernel_model.specs.Parts.{edge_known}
+use Rattle.kernel_model.specs.Turn.{Edge, apply, is_act, is_turn}
 use Rattle.kernel_model.specs.Shown.{shown_by}
 use Rattle.kernel_model.specs.Laws.{ComesTo, DevicesAnswerOne, IsSilent, edge_done, edge_heard, edge_labels}
 use Rattle.kernel_model.specs.Laws.{one_answered, quiet}
@@ -35,6 +32,9 @@ use Rattle.kernel_model.specs.World.{labels_told, lane_in, random_step, receive_
 use Rattle.kernel_model.specs.Parts.{served_by}
 use Rattle.kernel_model.specs.World.{operating, telling_edge, telling_nobody, transmitting, unmade}
 use Rattle.kernel_model.specs.Parts.{slot_of_name}
+use Rattle.std.proofs.lemmas.Bool.{cases_Bool, ne_eqb}
+use Rattle.std.proofs.lemmas.Option.{cond_some}
+use Rattle.kernel_model.proofs.Places.{cases_Option, same_some}
 
 -- there are as many records
 pub told_length : (settings : Settings) (told : ℕ → Option Answer) (rs : List Record)
@@ -55,9 +55,7 @@ told_none : (settings : Settings) (told : ℕ → Option Answer) (rs : List Reco
     → records_told settings told rs ≡ rs
 told_none settings told [] none = refl
 told_none settings told (r ∷ rs) none =
-    ap₂ (λ (x : Record) (xs : List Record). x ∷ xs)
-    (ap (λ (o : Option Answer). happens settings o r) (none 0))
-    (told_none settings (λ slot. told (suc slot)) rs (λ slot. none (suc slot)))
+    rw (none 0, told_none settings (λ slot. told (suc slot)) rs (λ slot. none (suc slot)))
 
 -- the process in one slot is, and no other
 told_one : (settings : Settings) (told : ℕ → Option Answer) (slot : ℕ) (a : Answer) (rs : List Record) (r : Record)
@@ -65,17 +63,18 @@ told_one : (settings : Settings) (told : ℕ → Option Answer) (slot : ℕ) (a 
     → records_told settings told rs ≡ slice_set rs slot (apply settings a.event r)
 told_one settings told slot a [] r is none there = absurd (cc)
 told_one settings told zero a (x ∷ rs) r is none there =
-    ap₂ (λ (y : Record) (ys : List Record). y ∷ ys)
-    (ap (λ (o : Option Answer). happens settings o x) is ∙ ap (apply settings a.event) (the_one x r there))
-    (told_none settings (λ other. told (suc other)) rs (λ other. none (suc other) (λ same. omega (arith, same))))
-  where
-    the_one : (x y : Record) → Some x ≡ Some y → x ≡ y
-    the_one x y e = cc
+    rw (
+      is,
+      same_some x r there,
+      told_none settings (λ other. told (suc other)) rs
+          (λ other. none (suc other) (λ same. omega (arith, same))),
+    )
 told_one settings told (suc slot) a (x ∷ rs) r is none there =
-    ap₂ (λ (y : Record) (ys : List Record). y ∷ ys)
-    (ap (λ (o : Option Answer). happens settings o x) (none 0 (λ same. omega (arith, same))))
-    (told_one settings (λ other. told (suc other)) slot a rs r is
-    (λ other apart. none (suc other) (λ same. apart (omega (arith, same)))) there)
+    rw (
+      none 0 (λ same. omega (arith, same)),
+      told_one settings (λ other. told (suc other)) slot a rs r is
+          (λ other apart. none (suc other) (λ same. apart (omega (arith, same)))) there,
+    )
 
 -- from a slot on nobody is told anything
 labels_none : (told : ℕ → Option Answer) (slot : ℕ) (rs : List Record) → ((other : ℕ) → slot ≤ other
@@ -83,8 +82,7 @@ labels_none : (told : ℕ → Option Answer) (slot : ℕ) (rs : List Record) →
     → labels_told told slot rs ≡ []
 labels_none told slot [] none = refl
 labels_none told slot (r ∷ rs) none =
-    ap (λ (o : Option Answer). labels_of slot o ++ labels_told told (suc slot) rs) (none slot (omega arith))
-    ∙ labels_none told (suc slot) rs (λ other past. none other (omega (arith, past)))
+    rw (none slot (omega arith)) (labels_none told (suc slot) rs (λ other past. none other (omega (arith, past))))
 
 labels_one : (told : ℕ → Option Answer) (from slot at : ℕ) (a : Answer) (rs : List Record) (r : Record)
     → at ≡ from + slot → told at ≡ Some a → ((other : ℕ) → other ≢ at → told other ≡ None) → slice_get rs slot ≡ Some r
@@ -92,14 +90,10 @@ labels_one : (told : ℕ → Option Answer) (from slot at : ℕ) (a : Answer) (r
 labels_one told from slot at a [] r here is none there = absurd (cc)
 labels_one told from zero at a (x ∷ rs) r here is none there =
     let same : from ≡ at = omega (arith, here) in
-    ap (λ (o : Option Answer). labels_of from o ++ labels_told told (suc from) rs) (ap told same ∙ is)
-    ∙ ap (λ (ls : List Label). labels_of from (Some a) ++ ls)
-    (labels_none told (suc from) rs (λ other past. none other (λ at_other. omega (arith, at_other, past, same))))
-    ∙ append-nil (labels_of from (Some a)) ∙ ap (λ (n : ℕ). labels_of n (Some a)) same
+    rw (same, is, labels_none told (suc at) rs (λ other past. none other (λ e. omega (arith, e, past))))
 labels_one told from (suc slot) at a (x ∷ rs) r here is none there =
-    ap (λ (o : Option Answer). labels_of from o ++ labels_told told (suc from) rs)
-    (none from (λ same. omega (arith, same, here)))
-    ∙ labels_one told (suc from) slot at a rs r (omega (arith, here)) is none there
+    rw (none from (λ same. omega (arith, same, here)))
+    (labels_one told (suc from) slot at a rs r (omega (arith, here)) is none there)
 
 -- what holds of the label of each thing that is told to a process which is there holds of all labels
 pub told_labels : (P : Label → Type 0) (told : ℕ → Option Answer) (from : ℕ) (rs : List Record)
@@ -108,14 +102,12 @@ pub told_labels : (P : Label → Type 0) (told : ℕ → Option Answer) (from : 
     → All P (labels_told told from rs)
 told_labels P told from [] each = All-nil P
 told_labels P told from (r ∷ rs) each =
-    by_answer (told from) refl
-    (told_labels P told (suc from) rs (λ slot at q a here. each (suc slot) at q a (omega (arith, here))))
-  where
-    by_answer : (o : Option Answer) → told from ≡ o → All P (labels_told told (suc from) rs)
-        → All P (labels_of from o ++ labels_told told (suc from) rs)
-    by_answer None e later = later
-    by_answer (Some a) e later =
-        All-cons P (answer_label from a) (labels_told told (suc from) rs) (each 0 from r a (omega arith) refl e) later
+    let later : All P (labels_told told (suc from) rs) =
+    told_labels P told (suc from) rs (λ slot at q a here. each (suc slot) at q a (omega (arith, here))) in
+    elim (cases_Option (told from)) [
+      | inl none ↦ rw none later
+      | inr is ↦ rw is.1 (All-cons P _ _ (each 0 from r is.0 (omega arith) refl is.1) later)
+    ]
 
 -- what the process in a slot is told, if there is one
 abbrev pub told_there : (ℕ → Option Answer) → List Record → ℕ → ℕ → Option Answer
@@ -129,11 +121,9 @@ module _ {Y : Type 0} (read : List Label → Y) (add : Label → Y → Y)
   -- the labels of a slot before others
   read_of : (told : ℕ → Option Answer) (from : ℕ) (ls : List Label) → from ≢ at
       → read (labels_of from (told from) ++ ls) ≡ read ls
-  read_of told from ls apart = by_answer (told from)
-    where
-      by_answer : (o : Option Answer) → read (labels_of from o ++ ls) ≡ read ls
-      by_answer None = refl
-      by_answer (Some a) = adds (answer_label from a) ls ∙ others (answer_label from a) (read ls) apart
+  read_of told from ls apart =
+      elim (told from) as (λ o. read (labels_of from o ++ ls) ≡ read ls)
+      [ None ↦ refl | Some a ↦ adds (answer_label from a) ls ∙ others (answer_label from a) (read ls) apart ]
 
   -- of none of the labels from a later slot on
   read_past : (told : ℕ → Option Answer) (from : ℕ) (rs : List Record) → suc at ≤ from
@@ -148,15 +138,9 @@ module _ {Y : Type 0} (read : List Label → Y) (add : Label → Y → Y)
   read_from told from slot [] here = refl
   read_from told from zero (r ∷ rs) here =
       let same : from ≡ at = omega (arith, here) in
-      ap (λ (n : ℕ). read (labels_of n (told n) ++ labels_told told (suc from) rs)) same
-      ∙ by_answer (told at) (read_past told (suc from) rs (omega (arith, here)))
-    where
-      by_answer : (o : Option Answer) → read (labels_told told (suc from) rs) ≡ read []
-          → read (labels_of at o ++ labels_told told (suc from) rs) ≡ read (labels_of at o)
-      by_answer None later = later
-      by_answer (Some a) later =
-          adds (answer_label at a) (labels_told told (suc from) rs) ∙ ap (add (answer_label at a)) later
-          ∙ sym (adds (answer_label at a) [])
+      let past = read_past told (suc at) rs (omega arith) in
+      rw same (elim (told at) as (λ o. read (labels_of at o ++ labels_told told (suc at) rs) ≡ read (labels_of at o))
+      [ None ↦ past | Some a ↦ rw (adds, adds, past) ])
   read_from told from (suc slot) (r ∷ rs) here =
       read_of told from (labels_told told (suc from) rs) (λ same. omega (arith, here, same))
       ∙ read_from told (suc from) slot rs (omega (arith, here))
@@ -170,14 +154,8 @@ pub heard_at : (told : ℕ → Option Answer) (rs : List Record) (slot : ℕ)
     → flat_map (happened slot) (labels_told told 0 rs)
     ≡ flat_map (happened slot) (labels_of slot (told_there told rs slot slot))
 heard_at told rs slot =
-    labels_at (flat_map (happened slot)) (λ label h. happened slot label ++ h) (λ label ls. refl) slot others told rs
-  where
-    others : (label : Label) (h : List Event) → label.slot ≢ slot → happened slot label ++ h ≡ h
-    others label h apart = by_slot (label.slot == slot) refl
-      where
-        by_slot : (b : Bool) → (label.slot == slot) ≡ b → cond b (label.event ∷ []) [] ++ h ≡ h
-        by_slot true e = absurd (apart (eqb-true label.slot slot e))
-        by_slot false e = refl
+    labels_at (flat_map (happened slot)) (λ label h. happened slot label ++ h) (λ label ls. refl) slot
+    (λ label h apart. rw (ne_eqb label.slot slot apart)) told rs
 
 -- the devices once bytes came in
 abbrev pub with_arrived : Devices → List ℕ → List Arrival → Devices
@@ -203,21 +181,11 @@ done_quietly w devices =
 pub done_one : (w : World) (slot : ℕ) (a : DeviceAnswer) (r : Record) → slice_get w.records slot ≡ Some r
     → done w (Some (answering slot a)) ≡ one_answered w slot r a
 done_one w slot a r there =
+    let told = (answering slot a).told in
+    let is : told slot ≡ Some a.answer = rw (eq-eqb slot slot refl) in
+    let none : (other : ℕ) → other ≢ slot → told other ≡ None = λ other apart. rw (ne_eqb other slot apart) in
     ap₂ (with_told w a.devices) (told_one w.settings told slot a.answer w.records r is none there)
     (labels_one told 0 slot slot a.answer w.records r (omega arith) is none there)
-  where
-    told : ℕ → Option Answer
-    told = (answering slot a).told
-
-    is : told slot ≡ Some a.answer
-    is = ap (λ (b : Bool). cond b (Some a.answer) None) (eq-eqb slot slot refl)
-
-    none : (other : ℕ) → other ≢ slot → told other ≡ None
-    none other apart = by_test (other == slot) refl
-      where
-        by_test : (b : Bool) → (other == slot) ≡ b → cond b (Some a.answer) None ≡ None
-        by_test true e = absurd (apart (eqb-true other slot e))
-        by_test false e = refl
 
 -- each record of which the process is told of an edge
 told_edges : (settings : Settings) (button : ℕ) (pressed : Bool) (rs : List Record)
@@ -226,14 +194,8 @@ told_edges : (settings : Settings) (button : ℕ) (pressed : Bool) (rs : List Re
 unfolding apply
 told_edges settings button pressed [] = refl
 told_edges settings button pressed (r ∷ rs) =
-    ap₂ (λ (x : Record) (xs : List Record). x ∷ xs) (by_test (differs r.pressed button pressed))
-    (told_edges settings button pressed rs)
-  where
-    by_test : (b : Bool)
-        → happens settings (cond b (Some (record { event = Edge button pressed; printed = [] })) None) r
-        ≡ cond b (edge_known button pressed r) r
-    by_test true = refl
-    by_test false = refl
+    let later = told_edges settings button pressed rs in
+    elim (cases_Bool (differs r.pressed button pressed)) [ inl e ↦ rw (e, later) | inr e ↦ rw (e, later) ]
 
 pub done_edge : (w : World) (button : ℕ) (pressed : Bool) (devices : Devices)
     → done w (Some (telling_edge button pressed w.records devices)) ≡ edge_done w button pressed devices
@@ -246,12 +208,7 @@ pub edge_answer : (button : ℕ) (pressed : Bool) (o : Option Record) (a : Answe
     → option_and_then (edge_told button pressed) o ≡ Some a
     → a ≡ record { event = Edge button pressed; printed = [] }
 edge_answer button pressed None a e = absurd (cc)
-edge_answer button pressed (Some r) a e = by_test (differs r.pressed button pressed) e
-  where
-    by_test : (b : Bool) → cond b (Some (record { event = Edge button pressed; printed = [] })) None ≡ Some a
-        → a ≡ record { event = Edge button pressed; printed = [] }
-    by_test true e = cc
-    by_test false e = absurd (cc)
+edge_answer button pressed (Some r) a e = sym (cond_some (differs r.pressed button pressed) _ a e).1
 
 pub edge_silent : (w : World) (button : ℕ) (pressed : Bool) → All IsSilent (edge_labels button pressed w)
 edge_silent w button pressed =
@@ -270,15 +227,7 @@ unfolding shown_by
 silence [] each = refl
 silence (label ∷ ls) each =
     let silent = All-head IsSilent label ls each in
-    no_test (is_turn label.event) (is_act label.event) label.printed _ (shown_by ls) silent.no_turn silent.no_act
-    silent.prints
-    ∙ silence ls (All-tail IsSilent label ls each)
-  where
-    no_test : (turn act : Bool) (bytes : List ℕ) (x y : Emit) → turn ≡ false → act ≡ false → bytes ≡ []
-        → cond (turn || (act || not (length bytes == 0))) x y ≡ y
-    no_test turn act bytes x y no_turn no_act prints =
-        ap₂ (λ (t : Bool) (a : Bool). cond (t || (a || not (length bytes == 0))) x y) no_turn no_act
-        ∙ ap (λ (bs : List ℕ). cond (not (length bs == 0)) x y) prints
+    rw (silent.no_turn, silent.no_act, silent.prints) (silence ls (All-tail IsSilent label ls each))
 
 -- what holds of each thing that a device's step may come to
 pub record OfEachDevice (w : World) (P : Stepped → Type 0) : Type 0 where
@@ -311,57 +260,43 @@ pub record OfEachComing (P : DeviceStep → Type 0) (w : World) (d : Devices) : 
 
 pub of_coming : (P : DeviceStep → Type 0) (w : World) (d : Devices) → OfEachComing P w d → (kind : EventKind)
     → P (coming_in kind w.records d)
-of_coming P w d each kind = by_kind kind
+of_coming P w d each (script.Input bytes) = each.bytes bytes
+of_coming P w d each (script.Press button) = each.edges button true
+of_coming P w d each (script.Release button) = each.edges button false
+of_coming P w d each (script.Act verb name) = by_slot (slot_of_name name w.records)
   where
-    by_there : (verb : Verb) (slot : ℕ) (o : Option Record) → slice_get w.records slot ≡ o
-        → P (unwrap_or (option_map (λ (r : Record). answering slot (operating verb d slot r)) o) (telling_nobody d))
-    by_there verb slot None e = each.nobody
-    by_there verb slot (Some r) e = each.acts verb slot r e
-
-    by_slot : (verb : Verb) (o : Option ℕ) → P (acting_on verb w.records d o)
-    by_slot verb None = each.nobody
-    by_slot verb (Some slot) = by_there verb slot (slice_get w.records slot) refl
-
-    by_kind : (kind : EventKind) → P (coming_in kind w.records d)
-    by_kind (script.Input bytes) = each.bytes bytes
-    by_kind (script.Press button) = each.edges button true
-    by_kind (script.Release button) = each.edges button false
-    by_kind (script.Act verb name) = by_slot verb (slot_of_name name w.records)
+    by_slot : (o : Option ℕ) → P (acting_on verb w.records d o)
+    by_slot None = each.nobody
+    by_slot (Some slot) =
+        elim (cases_Option (slice_get w.records slot))
+        [ inl none ↦ rw none each.nobody | inr is ↦ rw is.1 (each.acts verb slot is.0 is.1) ]
 
 module _ (w : World) (P : Stepped → Type 0) (none : P (unmade w)) where
   of_serving : (answer : ℕ → Record → DeviceAnswer) (served : Option ℕ)
       → ((slot : ℕ) (r : Record) → served ≡ Some slot → slice_get w.records slot ≡ Some r
       → P (one_answered w slot r (answer slot r))) → P (done w (serving w.records answer served))
   of_serving answer None each = none
-  of_serving answer (Some slot) each = by_record (slice_get w.records slot) refl
-    where
-      by_record : (o : Option Record) → slice_get w.records slot ≡ o
-          → P (done w (option_map (λ (r : Record). answering slot (answer slot r)) o))
-      by_record None e = none
-      by_record (Some r) e = subst P (sym (done_one w slot (answer slot r) r e)) (each slot r refl e)
-
-  of_arrived : ((bytes : List ℕ) (rest : List Arrival) → P (quiet w (with_arrived w.devices bytes rest)))
-      → ((button : ℕ) (pressed : Bool) (rest : List Arrival)
-      → P (edge_done w button pressed (with_rest w.devices rest)))
-      → ((rest : List Arrival) → P (quiet w (with_rest w.devices rest)))
-      → ((verb : Verb) (rest : List Arrival) (slot : ℕ) (r : Record) → slice_get w.records slot ≡ Some r
-      → P (one_answered w slot r (operating verb (with_rest w.devices rest) slot r)))
-      → (arrivals : List Arrival) → P (done w (arrived w.records w.devices arrivals))
-  of_arrived arrives edges nobody acts [] = none
-  of_arrived arrives edges nobody acts (a ∷ rest) =
-      let left = with_rest w.devices rest in
-      of_coming (λ deed. P (done w (Some deed))) w left (record {
-        bytes = λ bytes. subst P (sym (done_quietly w (with_arrived w.devices bytes rest))) (arrives bytes rest);
-        edges = λ button pressed. subst P (sym (done_edge w button pressed left)) (edges button pressed rest);
-        nobody = subst P (sym (done_quietly w left)) (nobody rest);
-        acts = λ verb slot r is.
-            subst P (sym (done_one w slot (operating verb left slot r) r is)) (acts verb rest slot r is);
-      }) a.kind
+  of_serving answer (Some slot) each =
+      elim (cases_Option (slice_get w.records slot)) [
+        | inl none_there ↦ rw none_there none
+        | inr is ↦ let r = is.0 in rw (is.1, done_one w slot (answer slot r) r is.1) (each slot r refl is.1)
+      ]
 
 pub of_device : (w : World) (P : Stepped → Type 0) → OfEachDevice w P → (device : Dev)
     → P (done w (device_step_of w device))
-of_device w P each dev.Event =
-    of_arrived w P each.none each.arrives each.edges each.nobody each.acts w.devices.arrivals
+of_device w P each dev.Event = by_first w.devices.arrivals
+  where
+    by_first : (arrivals : List Arrival) → P (done w (arrived w.records w.devices arrivals))
+    by_first [] = each.none
+    by_first (a ∷ rest) =
+        let left = with_rest w.devices rest in
+        of_coming (λ deed. P (done w (Some deed))) w left (record {
+          bytes = λ bytes. rw (done_quietly w (with_arrived w.devices bytes rest)) (each.arrives bytes rest);
+          edges = λ button pressed. rw (done_edge w button pressed left) (each.edges button pressed rest);
+          nobody = rw (done_quietly w left) (each.nobody rest);
+          acts = λ verb slot r is.
+              rw (done_one w slot (operating verb left slot r) r is) (each.acts verb rest slot r is);
+        }) a.kind
 of_device w P each dev.Alarm =
     of_serving w P each.none (λ slot r. alarmed w.settings w.clock.time w.devices) (served_by w dev.Alarm)
     each.alarms

@@ -1,7 +1,7 @@
 -- What a yield comes to, by its number and by what is pending: the walk `of_yield`, with a case for each. And what no
 -- yield changes, whatever its number (`KeptByYield`): it writes at most a byte of its flag, waits or takes an upcall,
 -- and so all that drivers keep, the storage and the object are as they were, and it asks nothing of the board.
-use Rattle.std.proofs.Common.{◌≡◌, ◌≢◌, ℕ, ◌-◌, ◌==◌, Bool, true, false, cond, List, [], slice_get, slice_set}
+use Rattle.std.proofs.Common.{◌≡◌, ◌≢◌, ℕ, ◌==◌, false, List, [], slice_get}
 use Rattle.std.proofs.Common.{Option, None, Some, refl, sym, subst, eqb-true}
 use Rattle.tk_base.specs.declared.call.CallRule.{CallRule}
 use Rattle.tk_base.specs.declared.upcall.Upcall.{Upcall as Scheduled}
@@ -20,6 +20,10 @@ use Rattle.kernel_model.specs.Parts.{with_process}
 use Rattle.kernel_model.specs.Turn.{rule_shown}
 use Rattle.kernel_model.proofs.Lines.{SameKept, all_same}
 use Rattle.kernel_model.proofs.Memops.{by_case}
+use Rattle.std.proofs.Common.{inl, inr}
+use Rattle.std.proofs.lemmas.Bool.{cond_both}
+use Rattle.kernel_model.proofs.Places.{cases_Option}
+use Rattle.std.proofs.Common.{rules}
 
 -- what holds of each: one that does not wait finds none, or the first; one waits; one that asks for an upcall finds
 -- none, and waits for it, or finds one; and one of any other number goes on
@@ -37,31 +41,22 @@ pub record OfEachYield (P : Served → Type 0) (r : Record) (number one two : �
       → P (comes_to (with_process r (after_call r.process)) GoesOn)
 
 module _ (P : Served → Type 0) (r : Record) (number one two : ℕ) (each : OfEachYield P r number one two) where
-  by_first : (o : Option Scheduled) → slice_get r.own.inbox.pending 0 ≡ o → number ≡ 0 → P (yield_now r one o)
-  by_first None is zero = each.none zero is
-  by_first (Some upcall) is zero = each.first upcall zero is
-
-  by_found : (o : Option Scheduled) → slice_get r.own.inbox.pending (place_of one two r.own.inbox.pending) ≡ o
-      → number ≡ 2 → P (yield_for r one two o)
-  by_found None is asks = each.waits_for asks is
-  by_found (Some upcall) is asks = each.found upcall asks is
-
   pub of_yield : P (yielding r number one two)
   unfolding yielding
   of_yield =
-      by_case P (number == 0) _ _ (λ is. by_first _ refl (eqb-true number 0 is))
+      by_case P (number == 0) _ _ (λ zero. let is = eqb-true number 0 zero in
+      elim (cases_Option (slice_get r.own.inbox.pending 0))
+      [ inl none ↦ rw none (each.none is none) | inr some ↦ rw some.1 (each.first some.0 is some.1) ])
       (λ zero. by_case P (number == 1) _ _ (λ is. each.waits (eqb-true number 1 is))
-      (λ first. by_case P (number == 2) _ _ (λ is. by_found _ refl (eqb-true number 2 is))
+      (λ first. by_case P (number == 2) _ _ (λ asks. let is = eqb-true number 2 asks in
+      elim (cases_Option (slice_get r.own.inbox.pending (place_of one two r.own.inbox.pending)))
+      [ inl none ↦ rw none (each.waits_for is none) | inr some ↦ rw some.1 (each.found some.0 is some.1) ])
       (λ asks. each.goes_on zero asks)))
 
 -- a flag that is written changes bytes alone
 pub flag_rest : (at byte : ℕ) (own : Own) → with_flag at byte own ≡ record own { ram = (with_flag at byte own).ram }
-flag_rest at byte own = by_test (lies_in_ram own.layout at 1)
-  where
-    by_test : (b : Bool) → let o = cond b (record own { ram = slice_set own.ram (at - own.layout.start) byte }) own in
-        o ≡ record own { ram = o.ram }
-    by_test true = refl
-    by_test false = refl
+flag_rest at byte own =
+    cond_both (lies_in_ram own.layout at 1) _ own (λ o. o ≡ record own { ram = o.ram }) (λ e. refl) (λ e. refl)
 
 -- so what holds of any other bytes holds once it is written
 pub flag_so : (P : Own → Type 0) (at byte : ℕ) (own : Own) → ((ram : List ℕ) → P (record own { ram = ram }))
@@ -88,31 +83,20 @@ module _ (r : Record) (number one two : ℕ) where
   keeps process own outcome same silent =
       record { same = same; object = refl; storage = refl; pressed = refl; acts = refl; silent = silent }
 
-  goes : IsNoReply GoesOn
-  goes = record { rule = refl; reply = λ reply rule e. cc; done = λ e. cc }
-
-  waits : IsNoReply Waits
-  waits = record { rule = refl; reply = λ reply rule e. cc; done = λ e. cc }
-
-  gets : IsNoReply Delivered
-  gets = record { rule = refl; reply = λ reply rule e. cc; done = λ e. cc }
-
   flagged : (byte : ℕ) → SameKept r.own (with_flag one byte r.own)
   flagged byte =
-      flag_so (SameKept r.own) one byte r.own
-      (λ ram. record { grants = refl; lives = refl; life = refl; dropped = refl })
+      flag_so (SameKept r.own) one byte r.own (λ ram. search rules)
 
   pub kept_by_yield : KeptByYield r (yielding r number one two)
   kept_by_yield =
       of_yield (KeptByYield r) r number one two (record {
-        none = λ is none. keeps _ _ GoesOn (flagged 0) goes;
+        none = λ is none. keeps _ _ GoesOn (flagged 0) (search rules);
         first = λ upcall is some. let same = flagged 1 in
             keeps _ _ Delivered
-            (record { grants = same.grants; lives = same.lives; life = same.life; dropped = same.dropped }) gets;
-        waits = λ is. keeps _ r.own Waits (all_same r.own) waits;
-        waits_for = λ is none.
-            keeps _ _ Waits (record { grants = refl; lives = refl; life = refl; dropped = refl }) waits;
-        found = λ upcall is some.
-            keeps _ _ Delivered (record { grants = refl; lives = refl; life = refl; dropped = refl }) gets;
-        goes_on = λ zero asks. keeps _ r.own GoesOn (all_same r.own) goes;
+            (record { grants = same.grants; lives = same.lives; life = same.life; dropped = same.dropped })
+            (search rules);
+        waits = λ is. keeps _ r.own Waits (all_same r.own) (search rules);
+        waits_for = λ is none. keeps _ _ Waits (search rules) (search rules);
+        found = λ upcall is some. keeps _ _ Delivered (search rules) (search rules);
+        goes_on = λ zero asks. keeps _ r.own GoesOn (all_same r.own) (search rules);
       })

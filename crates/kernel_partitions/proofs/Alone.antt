@@ -1,9 +1,11 @@
 -- A slot by itself goes on tick by tick: what comes in; in its window the first device step that is ready for it, else
 -- its turn; otherwise a tick. Two worlds that are alike in the slot go on alike. And two ways from one world, one
 -- longer than the other, tell the same of what began before a time that the shorter one reached.
-use Rattle.std.proofs.Common.{◌≡◌, ◌≢◌, ◌≤◌, ◌<◌, ℕ, zero, suc, ◌+◌, ◌-◌, ◌==◌, ◌&&◌, if◌then◌else◌, ◌∷◌, ◌++◌, Bool}
-use Rattle.std.proofs.Common.{true, false, cond, nat_le, nat_lt, not, List, [], length, map, slice_get, slice_index_or}
-use Rattle.std.proofs.Common.{is_some, Option, None, Some, refl, sym, ap, ap₂, subst, ◌∙◌, arith, append_assoc}
+use Rattle.std.proofs.lemmas.Bool.{cases_lt}
+use Rattle.std.proofs.Common.{inl, inr}
+use Rattle.std.proofs.Common.{◌≡◌, ◌≢◌, ◌≤◌, ◌<◌, ℕ, zero, suc, ◌+◌, ◌-◌, ◌==◌, if◌then◌else◌, ◌∷◌, ◌++◌, Bool}
+use Rattle.std.proofs.Common.{true, false, cond, nat_lt, List, [], map, slice_get, slice_index_or}
+use Rattle.std.proofs.Common.{Option, None, Some, refl, sym, ap, ap₂, subst, ◌∙◌, arith, append_assoc}
 use Rattle.std.proofs.Common.{append-nil, eqb-true}
 use Rattle.std.specs.Prelude.{All}
 use Rattle.std.specs.Option.{option_map, option_or}
@@ -18,9 +20,6 @@ use Rattle.partition_turns.specs.Windows.{window_slot}
 use Rattle.script_text.specs.Settings.{ScriptEvent as Arrival, EventKind}
 use Rattle.script_text.specs.Settings as script
 use Rattle.board_devices.specs.Arriving.{act_of, is_time}
-use Rattle.board_devices.specs.SerialLine.{SerialLine}
-use Rattle.process_model.specs.Own.{Own}
-use Rattle.driver_model.specs.Alarm.{has_due}
 use Rattle.driver_model.specs.Commands.{Writes, Reads, Randoms, Stores}
 use Rattle.kernel_laws.specs.Windows.{lane_order}
 use Rattle.kernel_model.specs.Record.{Record}
@@ -188,9 +187,7 @@ module _ (slot : ℕ) where
   none_before time at [] from = refl
   none_before time at (label ∷ ls) from =
       let no : nat_lt at time ≡ false = grind (arith, nat_tests) in
-      ap (λ (b : Bool). cond b (record { at = at; label = label } ∷ before time (told_at_time at ls))
-      (before time (told_at_time at ls))) no
-      ∙ none_before time at ls from
+      rw no (none_before time at ls from)
 
   tells-none_before : (time : ℕ) (w : World) → time ≤ w.clock.time → before time (tells w) ≡ []
   unfolding tells
@@ -204,32 +201,28 @@ module _ (slot : ℕ) where
   told-none_before time zero w from = refl
   told-none_before time (suc n) w from =
       let from_there : time ≤ (goes w).clock.time = omega (arith, from, goes-later w) in
-      filter-append (λ (m : Moment). nat_lt m.at time) (tells w) (told n (goes w))
-      ∙ ap (λ (front : List Moment). front ++ before time (told n (goes w))) (tells-none_before time w from)
-      ∙ told-none_before time n (goes w) from_there
+      rw (filter-append (λ (m : Moment). nat_lt m.at time) (tells w) (told n (goes w)), tells-none_before time w from)
+      (told-none_before time n (goes w) from_there)
 
   -- once it has reached a time, what it does more adds nothing to what began before
   told-reached : (time a b : ℕ) (w : World) → time ≤ (went a w).clock.time
       → before time (told (a + b) w) ≡ before time (told a w)
   told-reached time a b w reached =
-      ap (before time) (told-plus a b w)
-      ∙ filter-append (λ (m : Moment). nat_lt m.at time) (told a w) (told b (went a w))
-      ∙ ap (λ (more : List Moment). before time (told a w) ++ more) (told-none_before time b (went a w) reached)
-      ∙ append-nil (before time (told a w))
+      rw (
+        told-plus a b w,
+        filter-append (λ (m : Moment). nat_lt m.at time) (told a w) (told b (went a w)),
+        told-none_before time b (went a w) reached,
+      ) (append-nil (before time (told a w)))
 
   pub same_before : (time a b : ℕ) (w : World) → time ≤ (went a w).clock.time → time ≤ (went b w).clock.time
       → before time (told a w) ≡ before time (told b w)
-  same_before time a b w first second = by_order (nat_le a b) refl
-    where
-      by_order : (shorter : Bool) → nat_le a b ≡ shorter → before time (told a w) ≡ before time (told b w)
-      by_order true is =
-          let le : a ≤ b = grind (arith, nat_tests) in
-          let more : a + (b - a) ≡ b = omega arith in
-          sym (told-reached time a (b - a) w first) ∙ ap (λ (n : ℕ). before time (told n w)) more
-      by_order false is =
-          let le : b ≤ a = grind (arith, nat_tests) in
-          let more : b + (a - b) ≡ a = omega arith in
-          ap (λ (n : ℕ). before time (told n w)) (sym more) ∙ told-reached time b (a - b) w second
+  same_before time a b w first second =
+      elim (cases_lt a b) [
+        | inl lt ↦ let more : a + (b - a) ≡ b = omega arith in
+            sym (told-reached time a (b - a) w first) ∙ rw more refl
+        | inr le ↦ let more : b + (a - b) ≡ a = omega arith in
+            rw (← more) (told-reached time b (a - b) w second)
+      ]
 
   -- ticks in which it has no step of its own
   abbrev pub IsIdle : World → ℕ → Type 0
@@ -255,40 +248,32 @@ module _ (slot : ℕ) where
       ap (λ (t : ℕ). record w { clock = record w.clock { time = t } }) same
   idled (suc n) w idles =
       let same : w.clock.time + 1 + n ≡ w.clock.time + suc n = omega arith in
-      ap (λ (o : Option Choice). went n (goes_by w o)) (first_idle n w idles)
-      ∙ idled n (later 1 w) (rest_idle n w idles)
-      ∙ ap (λ (t : ℕ). record w { clock = record w.clock { time = t } }) same
+      rw (first_idle n w idles) (idled n (later 1 w) (rest_idle n w idles)
+      ∙ ap (λ (t : ℕ). record w { clock = record w.clock { time = t } }) same)
 
   pub idled-told : (n : ℕ) (w : World) → IsIdle w n → told n w ≡ []
   unfolding goes tells
   idled-told zero w idles = refl
   idled-told (suc n) w idles =
-      ap (λ (o : Option Choice). tells_by w o ++ told n (goes_by w o)) (first_idle n w idles)
-      ∙ idled-told n (later 1 w) (rest_idle n w idles)
+      rw (first_idle n w idles) (idled-told n (later 1 w) (rest_idle n w idles))
 
   -- two worlds that are alike in the slot have the same own step
-  flags_alike : (v w : World) → AreAlikeIn slot v w → flags_for slot v ≡ flags_for slot w
-  flags_alike v w alike =
-      let lanes = alike.lanes in
-      let more = λ (b : Bool) (bs : List Bool). b ∷ bs in
-      ap₂ more (ap₂ (λ (now : ℕ) (o : Option Own). is_some (cond (has_due now o) (Some slot) None))
-      (same_now slot v w alike) (same_own slot v w alike))
-      (ap₂ more (ap₂ (λ (a b : Bool). a && b) (lanes.waits Writes)
-      (ap₂ (λ (line : SerialLine) (time : ℕ). nat_le line.free time) (same_line slot v w alike) alike.time))
-      (ap₂ more (ap₂ (λ (a b : Bool). a && b) (lanes.waits Reads)
-      (ap (λ (line : SerialLine). not (length line.ring == 0)) (same_line slot v w alike)))
-      (ap₂ more (lanes.waits Randoms) (ap₂ more (lanes.waits Stores) refl))))
-
   own_alike : (v w : World) → AreAlikeIn slot v w → own_step slot v ≡ own_step slot w
   own_alike v w alike =
-      ap₂ (λ (time n : ℕ). own_by slot (window_slot time n == slot) (comes_in v) (flags_for slot v)
-      (can_run (slice_get v.records slot))) alike.time alike.window
-      ∙ ap₂ (λ (time : ℕ) (arrivals : List Arrival).
-      own_by slot (in_own_window slot w) (is_time time arrivals) (flags_for slot v)
-      (can_run (slice_get v.records slot))) alike.time alike.lanes.arrivals
-      ∙ ap₂ (λ (flags : List Bool) (o : Option Record).
-      own_by slot (in_own_window slot w) (comes_in w) flags (can_run o))
-      (flags_alike v w alike) alike.record_is
+      let lanes = alike.lanes in
+      rw (
+        alike.record_is,
+        lanes.arrivals,
+        alike.window,
+        same_now slot v w alike,
+        same_own slot v w alike,
+        lanes.waits Writes,
+        lanes.waits Reads,
+        lanes.waits Randoms,
+        lanes.waits Stores,
+        same_line slot v w alike,
+        alike.time,
+      ) refl
 
   -- and go on alike
   pub record GoAlike (v w : World) (o : Option Choice) : Type 0 where
@@ -301,9 +286,6 @@ module _ (slot : ℕ) where
     worlds = steps.worlds;
     moments = ap₂ told_at_time alike.time steps.told;
   }
-
-  window_alike : (v w : World) → AreAlikeIn slot v w → in_own_window slot v ≡ in_own_window slot w
-  window_alike v w alike = ap₂ (λ (time n : ℕ). window_slot time n == slot) alike.time alike.window
 
   go_alike : (v w : World) → IsPartitioned v → AreAlikeIn slot v w → GoAlike v w (own_step slot v)
   unfolding carried_out
@@ -321,20 +303,18 @@ module _ (slot : ℕ) where
         };
         comes = steps_go v w alike (Device Event) (devices_alike slot v w alike Event good.no_acts);
         serves = λ here device serves.
-            steps_go v w alike (Device device) (subst (λ (o : Option DeviceStep). StepsAlike slot (done v o)
-            (done w (device_step_of w device))) (sym (own_deed v good.windows here device))
-            (subst (λ (o : Option DeviceStep). StepsAlike slot (done v (deed_by (Some slot) v device)) (done w o))
-            (sym (own_deed w (subst (λ (n : ℕ). 1 ≤ n) alike.window good.windows)
-            (sym (window_alike v w alike) ∙ here) device))
-            (devices_alike slot v w alike device good.no_acts)));
+            steps_go v w alike (Device device) (rw (
+              own_deed v good.windows here device,
+              own_deed w (rw alike.window at good.windows) (rw (alike.time, alike.window) at here) device,
+            )
+            (devices_alike slot v w alike device good.no_acts));
         turn = λ here can. steps_go v w alike (Run slot) (turn_alike slot v w alike);
       })
 
   pub goes_alike : (v w : World) → IsPartitioned v → AreAlikeIn slot v w → AreAlikeIn slot (goes v) (goes w)
   unfolding goes
   goes_alike v w good alike =
-      subst (λ (o : Option Choice). AreAlikeIn slot (goes v) (goes_by w o)) (own_alike v w alike)
-      (go_alike v w good alike).worlds
+      rw (← own_alike v w alike) (go_alike v w good alike).worlds
 
   pub tells_alike : (v w : World) → IsPartitioned v → AreAlikeIn slot v w → tells v ≡ tells w
   unfolding tells
@@ -344,10 +324,9 @@ module _ (slot : ℕ) where
   -- time partitions stay
   kept_by : (other time : ℕ) (w : World) (s : Stepped) → LeavesAlone other time w s → IsPartitioned w
       → IsPartitioned s.after
-  kept_by other time w s leaves good = record {
-    windows = subst (λ (n : ℕ). 1 ≤ n) leaves.worlds.window good.windows;
-    no_acts = subst (All IsNoAct) leaves.worlds.lanes.arrivals good.no_acts;
-  }
+  kept_by other time w s leaves good =
+      let same = leaves.worlds in
+      record { windows = rw same.window at good.windows; no_acts = rw same.lanes.arrivals at good.no_acts }
 
   another : slot ≢ suc slot
   another same = omega (arith, same)
@@ -372,8 +351,7 @@ module _ (slot : ℕ) where
         tick = record { windows = good.windows; no_acts = good.no_acts };
         comes = event_keeps w good.windows w.devices.arrivals refl good.no_acts;
         serves = λ here device serves.
-            subst (λ (o : Option DeviceStep). IsPartitioned (done w o).after)
-            (sym (own_deed w good.windows here device))
+            rw (own_deed w good.windows here device, goes_by)
             (kept_by (suc slot) w.clock.time w (done w (deed_by (Some slot) w device))
             (devices_leave (suc slot) slot another w device serves) good);
         turn = λ here can.

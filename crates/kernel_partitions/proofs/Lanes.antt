@@ -1,18 +1,18 @@
 -- What is done to the devices does the same to a slot's lane of any two that are alike in it; and what is done for
 -- another slot leaves the lane as it was. Of queues a lane has only whether the slot stands in one, which a change of a
 -- queue decides by its slot (`begins`, `ends`); acts and answers are such changes, one after another.
-use Rattle.std.proofs.Common.{◌≡◌, ◌≢◌, ℕ, zero, suc, ◌==◌, ◌∷◌, ◌++◌, Bool, true, false, not, cond, List, [], filter}
-use Rattle.std.proofs.Common.{slice_get, slice_index_or, slice_set, Option, Some, option_map, unwrap_or, refl, sym, ap}
+use Rattle.std.proofs.lemmas.Bool.{cases_Bool}
+use Rattle.std.proofs.Common.{inl, inr, ne_eqb, subst}
+use Rattle.std.proofs.Common.{◌≡◌, ◌≢◌, ℕ, zero, suc, ◌==◌, ◌∷◌, ◌++◌, Bool, true, false, cond, List, [], filter}
+use Rattle.std.proofs.Common.{slice_get, slice_index_or, slice_set, option_map, unwrap_or, refl, sym}
 use Rattle.std.proofs.Common.{◌∙◌, arith, eq-eqb, eqb-true}
 use Rattle.std.proofs.lemmas.Bool.{false≢true}
 use Rattle.std.proofs.lemmas.Bool.Decides.{nat_tests}
-use Rattle.driver_model.specs.Commands.{BoardRequest, Waits, Leaves, Lights, QueueName, Writes, Reads, Randoms, Stores}
+use Rattle.driver_model.specs.Commands.{BoardRequest, Waits, Leaves, Lights, QueueName, Writes}
 use Rattle.driver_model.specs.Commands.{is_same}
 use Rattle.kernel_model.specs.World.{Devices, acted, after_answer, queue_without, routed}
-use Rattle.kernel_model.specs.Named.{slots_in}
 use Rattle.kernel_model.specs.Parts.{is_waited_for}
 use Rattle.kernel_model.specs.World.{with_queue}
-use Rattle.kernel_model.specs.Named.{waits_in}
 use Rattle.kernel_model.proofs.Places.{queue_with}
 use Rattle.kernel_partitions.specs.Alike.{LanesAreAlike}
 
@@ -26,58 +26,47 @@ some_wait s slots = grind (arith, nat_tests)
 -- one begins to wait
 begins : (other slot : ℕ) (slots : List ℕ)
     → stands slot (slots ++ other ∷ []) ≡ cond (other == slot) true (stands slot slots)
-begins other slot [] = by_here (other == slot)
-  where
-    by_here : (b : Bool) → is_waited_for (cond b (other ∷ []) []) ≡ cond b true false
-    by_here true = some_wait other []
-    by_here false = refl
-begins other slot (s ∷ slots) = by_first (s == slot) (other == slot) (begins other slot slots)
-  where
-    by_first : (a b : Bool) → stands slot (slots ++ other ∷ []) ≡ cond b true (stands slot slots)
-        → is_waited_for (cond a (s ∷ filter (λ (s : ℕ). s == slot) (slots ++ other ∷ []))
-        (filter (λ (s : ℕ). s == slot) (slots ++ other ∷ [])))
-        ≡ cond b true (is_waited_for (cond a (s ∷ filter (λ (s : ℕ). s == slot) slots)
-        (filter (λ (s : ℕ). s == slot) slots)))
-    by_first true true rest = some_wait s (filter (λ (s : ℕ). s == slot) (slots ++ other ∷ []))
-    by_first true false rest =
-        some_wait s (filter (λ (s : ℕ). s == slot) (slots ++ other ∷ []))
-        ∙ sym (some_wait s (filter (λ (s : ℕ). s == slot) slots))
-    by_first false b rest = rest
+begins other slot [] =
+    elim (cases_Bool (other == slot)) [
+      | inl h ↦ rw h (some_wait other [])
+      | inr h ↦ rw h refl
+    ]
+begins other slot (s ∷ slots) =
+    elim (cases_Bool (s == slot)) [
+      | inl e ↦ rw (e, some_wait s (filter (λ (x : ℕ). x == slot) (slots ++ other ∷ [])), some_wait)
+          (elim (cases_Bool (other == slot)) [
+            | inl h ↦ rw h refl
+            | inr h ↦ rw h refl
+          ])
+      | inr e ↦ rw e (begins other slot slots)
+    ]
 
 -- one waits no more
 ends : (other slot : ℕ) (slots : List ℕ)
     → stands slot (queue_without other slots) ≡ cond (other == slot) false (stands slot slots)
-ends other slot [] = by_here (other == slot)
-  where
-    by_here : (b : Bool) → false ≡ cond b false false
-    by_here true = refl
-    by_here false = refl
-ends other slot (s ∷ slots) = by_first (s == other) refl (s == slot) refl (other == slot) refl (ends other slot slots)
-  where
-    kept : List ℕ
-    kept = queue_without other slots
-
-    by_first : (a : Bool) → (s == other) ≡ a → (b : Bool) → (s == slot) ≡ b → (c : Bool) → (other == slot) ≡ c
-        → stands slot kept ≡ cond c false (stands slot slots)
-        → stands slot (cond (not a) (s ∷ kept) kept)
-        ≡ cond c false (is_waited_for (cond b (s ∷ filter (λ (s : ℕ). s == slot) slots)
-        (filter (λ (s : ℕ). s == slot) slots)))
-    by_first true sq b sp true qp rest = rest
-    by_first true sq true sp false qp rest =
-        absurd (false≢true (sym qp ∙ eq-eqb other slot (sym (eqb-true s other sq) ∙ eqb-true s slot sp)))
-    by_first true sq false sp false qp rest = rest
-    by_first false sq true sp true qp rest =
-        absurd (false≢true (sym sq ∙ eq-eqb s other (eqb-true s slot sp ∙ sym (eqb-true other slot qp))))
-    by_first false sq true sp false qp rest =
-        ap (λ (b : Bool). is_waited_for (cond b (s ∷ filter (λ (s : ℕ). s == slot) kept)
-        (filter (λ (s : ℕ). s == slot) kept))) sp
-        ∙ some_wait s (filter (λ (s : ℕ). s == slot) kept) ∙ sym (some_wait s (filter (λ (s : ℕ). s == slot) slots))
-    by_first false sq false sp true qp rest =
-        ap (λ (b : Bool). is_waited_for (cond b (s ∷ filter (λ (s : ℕ). s == slot) kept)
-        (filter (λ (s : ℕ). s == slot) kept))) sp ∙ rest
-    by_first false sq false sp false qp rest =
-        ap (λ (b : Bool). is_waited_for (cond b (s ∷ filter (λ (s : ℕ). s == slot) kept)
-        (filter (λ (s : ℕ). s == slot) kept))) sp ∙ rest
+ends other slot [] =
+    elim (cases_Bool (other == slot)) [
+      | inl h ↦ rw h refl
+      | inr h ↦ rw h refl
+    ]
+ends other slot (s ∷ slots) =
+    let rest = ends other slot slots in
+    elim (cases_Bool (s == other)) [
+      | inl a ↦ rw (a, eqb-true s other a) (elim (cases_Bool (other == slot)) [
+        | inl h ↦ rw h (rw h at rest)
+        | inr h ↦ rw h (rw h at rest)
+      ])
+      | inr a ↦ rw a (elim (cases_Bool (s == slot)) [
+        | inl b ↦ rw (
+          b,
+          some_wait s (filter (λ (x : ℕ). x == slot) (queue_without other slots)),
+          some_wait,
+          ne_eqb other slot (λ h.
+              false≢true (sym a ∙ eq-eqb s other (eqb-true s slot b ∙ sym h))),
+        ) refl
+        | inr b ↦ rw b rest
+      ])
+    ]
 
 -- being alike goes on, and back
 pub lanes_same : (slot : ℕ) (d : Devices) → LanesAreAlike slot d d
@@ -114,95 +103,59 @@ lanes_then slot c d e one two = record {
 queue_alone : (name : QueueName) (change : List ℕ → List ℕ) (d : Devices)
     → with_queue name change d ≡ record d { waiting = (with_queue name change d).waiting }
 queue_alone Writes change d = refl
-queue_alone Reads change d = refl
-queue_alone Randoms change d = refl
-queue_alone Stores change d = refl
+queue_alone _ change d = refl
 
--- whether a slot stands in a queue once one has changed
-stands_with : (slot : ℕ) (queue name : QueueName) (change : List ℕ → List ℕ) (d : Devices)
-    → waits_in (Some slot) queue (with_queue name change d)
-    ≡ cond (is_same name queue) (stands slot (change (slots_in queue d.waiting)))
-    (stands slot (slots_in queue d.waiting))
-stands_with slot queue name change d =
-    ap (stands slot) (queue_with queue name change d) ∙ by_same (is_same name queue)
-  where
-    by_same : (b : Bool)
-        → stands slot (cond b (change (slots_in queue d.waiting)) (slots_in queue d.waiting))
-        ≡ cond b (stands slot (change (slots_in queue d.waiting))) (stands slot (slots_in queue d.waiting))
-    by_same true = refl
-    by_same false = refl
+-- two changes of a queue, by which a slot stands in it or not as it did before or did not
+queue_changes : (slot : ℕ) (name : QueueName) (f g : List ℕ → List ℕ) (d e : Devices)
+    → ((xs ys : List ℕ) → stands slot xs ≡ stands slot ys → stands slot (f xs) ≡ stands slot (g ys))
+    → LanesAreAlike slot d e → LanesAreAlike slot (with_queue name f d) (with_queue name g e)
+queue_changes slot name f g d e same alike =
+    let left = queue_alone name f d in
+    let right = queue_alone name g e in
+    record {
+      arrivals = rw (left, right) alike.arrivals;
+      faults = rw (left, right) alike.faults;
+      line = rw (left, right) alike.line;
+      words = rw (left, right) alike.words;
+      served = rw (left, right) alike.served;
+      waits = λ queue. rw (queue_with queue name f d, queue_with queue name g e)
+          (elim (cases_Bool (is_same name queue)) [
+            | inl here ↦ rw here (same _ _ (alike.waits queue))
+            | inr other ↦ rw other (alike.waits queue)
+          ]);
+    }
 
--- the same change of a queue, by which a slot stands in it or not as it did before or did not
+-- the same change
 pub queues_alike : (slot : ℕ) (name : QueueName) (change : List ℕ → List ℕ) (d e : Devices)
     → ((xs ys : List ℕ) → stands slot xs ≡ stands slot ys → stands slot (change xs) ≡ stands slot (change ys))
     → LanesAreAlike slot d e → LanesAreAlike slot (with_queue name change d) (with_queue name change e)
-queues_alike slot name change d e same alike =
-    let left = queue_alone name change d in
-    let right = queue_alone name change e in
-    record {
-      arrivals = ap (λ (x : Devices). x.arrivals) left ∙ alike.arrivals ∙ sym (ap (λ (x : Devices). x.arrivals) right);
-      faults = ap (λ (x : Devices). x.faults) left ∙ alike.faults ∙ sym (ap (λ (x : Devices). x.faults) right);
-      line = ap (λ (x : Devices). slice_get x.lines slot) left ∙ alike.line
-          ∙ sym (ap (λ (x : Devices). slice_get x.lines slot) right);
-      words = ap (λ (x : Devices). slice_get x.words slot) left ∙ alike.words
-          ∙ sym (ap (λ (x : Devices). slice_get x.words slot) right);
-      served = ap (λ (x : Devices). slice_get x.served slot) left ∙ alike.served
-          ∙ sym (ap (λ (x : Devices). slice_get x.served slot) right);
-      waits = λ queue. stands_with slot queue name change d ∙ by_same queue (is_same name queue)
-          ∙ sym (stands_with slot queue name change e);
-    }
-  where
-    by_same : (queue : QueueName) (b : Bool)
-        → cond b (stands slot (change (slots_in queue d.waiting))) (stands slot (slots_in queue d.waiting))
-        ≡ cond b (stands slot (change (slots_in queue e.waiting))) (stands slot (slots_in queue e.waiting))
-    by_same queue true = same (slots_in queue d.waiting) (slots_in queue e.waiting) (alike.waits queue)
-    by_same queue false = alike.waits queue
+queues_alike slot name change = queue_changes slot name change change
 
 -- a change of a queue that leaves whether a slot stands in it
+queue_stays : (name : QueueName) (d : Devices) → with_queue name (λ xs. xs) d ≡ d
+queue_stays Writes d = refl
+queue_stays _ d = refl
+
 queue_leaves : (slot : ℕ) (name : QueueName) (change : List ℕ → List ℕ) (d : Devices)
     → ((xs : List ℕ) → stands slot (change xs) ≡ stands slot xs) → LanesAreAlike slot (with_queue name change d) d
 queue_leaves slot name change d same =
-    let left = queue_alone name change d in
-    record {
-      arrivals = ap (λ (x : Devices). x.arrivals) left;
-      faults = ap (λ (x : Devices). x.faults) left;
-      line = ap (λ (x : Devices). slice_get x.lines slot) left;
-      words = ap (λ (x : Devices). slice_get x.words slot) left;
-      served = ap (λ (x : Devices). slice_get x.served slot) left;
-      waits = λ queue. stands_with slot queue name change d ∙ by_same queue (is_same name queue);
-    }
-  where
-    by_same : (queue : QueueName) (b : Bool)
-        → cond b (stands slot (change (slots_in queue d.waiting))) (stands slot (slots_in queue d.waiting))
-        ≡ stands slot (slots_in queue d.waiting)
-    by_same queue true = same (slots_in queue d.waiting)
-    by_same queue false = refl
+    subst (LanesAreAlike slot (with_queue name change d)) (queue_stays name d)
+    (queue_changes slot name change (λ xs. xs) d d (λ xs ys e. same xs ∙ e) (lanes_same slot d))
 
 -- what each change of a queue does to a slot's place in it
 begin_alike : (other slot : ℕ) (xs ys : List ℕ) → stands slot xs ≡ stands slot ys
     → stands slot (xs ++ other ∷ []) ≡ stands slot (ys ++ other ∷ [])
-begin_alike other slot xs ys same =
-    begins other slot xs ∙ ap (λ (b : Bool). cond (other == slot) true b) same ∙ sym (begins other slot ys)
+begin_alike other slot xs ys same = rw (begins other slot xs, begins other slot ys, same) refl
 
 end_alike : (other slot : ℕ) (xs ys : List ℕ) → stands slot xs ≡ stands slot ys
     → stands slot (queue_without other xs) ≡ stands slot (queue_without other ys)
-end_alike other slot xs ys same =
-    ends other slot xs ∙ ap (λ (b : Bool). cond (other == slot) false b) same ∙ sym (ends other slot ys)
-
-apart_test : (other slot : ℕ) → other ≢ slot → (other == slot) ≡ false
-apart_test other slot apart = by_test (other == slot) refl
-  where
-    by_test : (b : Bool) → (other == slot) ≡ b → (other == slot) ≡ false
-    by_test true e = absurd (apart (eqb-true other slot e))
-    by_test false e = e
+end_alike other slot xs ys same = rw (ends other slot xs, ends other slot ys, same) refl
 
 begin_leaves : (other slot : ℕ) → other ≢ slot → (xs : List ℕ) → stands slot (xs ++ other ∷ []) ≡ stands slot xs
-begin_leaves other slot apart xs =
-    begins other slot xs ∙ ap (λ (b : Bool). cond b true (stands slot xs)) (apart_test other slot apart)
+begin_leaves other slot apart xs = rw (begins other slot xs, ne_eqb other slot apart) refl
 
 end_leaves : (other slot : ℕ) → other ≢ slot → (xs : List ℕ) → stands slot (queue_without other xs) ≡ stands slot xs
-end_leaves other slot apart xs =
-    ends other slot xs ∙ ap (λ (b : Bool). cond b false (stands slot xs)) (apart_test other slot apart)
+end_leaves other slot apart xs = rw (ends other slot xs, ne_eqb other slot apart) refl
 
 -- what a turn asks of the board
 acts_alike : (other slot : ℕ) (act : BoardRequest) (d e : Devices) → LanesAreAlike slot d e
@@ -271,9 +224,7 @@ set_there (y ∷ ys) (suc i) x = set_there ys i x
 
 pub sets_alike : {X : Type 0} (xs ys : List X) (i : ℕ) (x y : X) → slice_get xs i ≡ slice_get ys i → x ≡ y
     → slice_get (slice_set xs i x) i ≡ slice_get (slice_set ys i y) i
-sets_alike {X = X} xs ys i x y there same =
-    set_there xs i x ∙ ap (λ (o : Option X). option_map (λ (old : X). x) o) there
-    ∙ ap (λ (z : X). option_map (λ (old : X). z) (slice_get ys i)) same ∙ sym (set_there ys i y)
+sets_alike xs ys i x y there same = rw (set_there xs i x, set_there ys i y, there, same) refl
 
 -- what a list says of a place, by what stands there
 pub index_by_get : {X : Type 0} (xs : List X) (i : ℕ) (d : X) → slice_index_or xs i d ≡ unwrap_or (slice_get xs i) d
@@ -283,5 +234,4 @@ index_by_get (x ∷ xs) (suc i) d = index_by_get xs i d
 
 pub indexes_alike : {X : Type 0} (xs ys : List X) (i : ℕ) (d : X) → slice_get xs i ≡ slice_get ys i
     → slice_index_or xs i d ≡ slice_index_or ys i d
-indexes_alike {X = X} xs ys i d same =
-    index_by_get xs i d ∙ ap (λ (o : Option X). unwrap_or o d) same ∙ sym (index_by_get ys i d)
+indexes_alike xs ys i d same = rw (index_by_get xs i d, index_by_get ys i d, same) refl

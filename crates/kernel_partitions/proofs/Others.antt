@@ -1,8 +1,9 @@
 -- What is done for another slot leaves a slot's own as it was, and tells nothing of it: a turn of it takes a tick, and
 -- a device that serves it alone, or nobody, takes none. The deed changes the other's record and lane (`Lanes`), and
 -- tells that slot alone.
-use Rattle.std.proofs.Common.{◌≡◌, ◌≢◌, ℕ, ◌+◌, ◌==◌, ◌∷◌, Bool, true, false, cond, List, [], slice_get, slice_set}
-use Rattle.std.proofs.Common.{Option, None, Some, refl, sym, ap, subst, ◌∙◌, eqb-true}
+use Rattle.std.proofs.Common.{ne_eqb}
+use Rattle.std.proofs.Common.{◌≡◌, ◌≢◌, ℕ, ◌+◌, Bool, true, false, cond, List, [], slice_get, slice_set}
+use Rattle.std.proofs.Common.{Option, None, Some, refl, sym}
 use Rattle.std.specs.Option.{option_and_then, option_map}
 use Rattle.tk_base.specs.declared.process.Dev.{Dev}
 use Rattle.tk_base.specs.declared.process.Dev.TheVariants as dev
@@ -15,13 +16,13 @@ use Rattle.board_devices.specs.Storage.{is_fault}
 use Rattle.kernel_model.specs.Record.{Record}
 use Rattle.kernel_model.specs.Turn.{turned}
 use Rattle.kernel_model.specs.Record.{flash_of}
-use Rattle.kernel_model.specs.World.{Answer, DeviceAnswer, Stepped, World, answering, done}
+use Rattle.kernel_model.specs.World.{DeviceAnswer, Stepped, World, answering, done}
 use Rattle.kernel_model.specs.Parts.{first_in}
 use Rattle.kernel_model.specs.Parts.{alarmed, happens}
 use Rattle.kernel_model.specs.World.{now_in, owns_in, ran, random_step, receive_step}
 use Rattle.kernel_model.specs.Parts.{line_in}
 use Rattle.kernel_model.specs.Parts.{labels_of, served_in}
-use Rattle.kernel_model.specs.World.{serving, storing, transmitting, turn_label, unmade}
+use Rattle.kernel_model.specs.World.{serving, storing, transmitting, unmade}
 use Rattle.kernel_model.specs.Named.{words_in}
 use Rattle.kernel_model.specs.Named.{waits_in}
 use Rattle.kernel_model.proofs.Places.{ran-other, slice_get-set_other}
@@ -46,11 +47,7 @@ module _ (slot other : ℕ) (apart : other ≢ slot) (w : World) where
 
   -- what is told to one slot is told to no other
   none_told : (a : DeviceAnswer) → (answering other a).told slot ≡ None
-  none_told a = by_test (slot == other) refl
-    where
-      by_test : (b : Bool) → (slot == other) ≡ b → cond b (Some a.answer) None ≡ None
-      by_test true e = absurd (apart (sym (eqb-true slot other e)))
-      by_test false e = refl
+  none_told a = rw (ne_eqb slot other (λ same. apart (sym same))) refl
 
   of_answer : (a : DeviceAnswer) → LanesAreAlike slot w.devices a.devices
       → LeavesAlone slot w.clock.time w (done w (Some (answering other a)))
@@ -59,18 +56,14 @@ module _ (slot other : ℕ) (apart : other ≢ slot) (w : World) where
       window = refl;
       settings = refl;
       time = refl;
-      record_is = sym (told_at w.settings (answering other a).told w.records slot
-          ∙ ap (λ (o : Option Answer). option_map (happens w.settings o) (slice_get w.records slot)) (none_told a)
-          ∙ by_record (slice_get w.records slot));
+      record_is = rw (told_at w.settings (answering other a).told w.records slot, none_told a)
+          (by_record (slice_get w.records slot));
       lanes = lanes;
     };
-    told = told_by slot (answering other a).told w.records
-        ∙ ap (λ (o : Option Answer).
-        told_of slot (labels_of slot (option_and_then (λ (x : Record). o) (slice_get w.records slot))))
-        (none_told a) ∙ none_of (slice_get w.records slot);
+    told = rw (told_by slot (answering other a).told w.records, none_told a) (none_of (slice_get w.records slot));
   }
     where
-      by_record : (o : Option Record) → option_map (happens w.settings None) o ≡ o
+      by_record : (o : Option Record) → o ≡ option_map (happens w.settings None) o
       by_record None = refl
       by_record (Some r) = refl
 
@@ -93,8 +86,7 @@ module _ (slot other : ℕ) (apart : other ≢ slot) (w : World) where
       → ((r : Record) → LanesAreAlike slot w.devices (f other r).devices)
       → LeavesAlone slot w.clock.time w (done w (serving w.records f (first_in (Some other) queue w.devices)))
   of_queue queue f lanes =
-      subst (λ (o : Option ℕ). LeavesAlone slot w.clock.time w (done w (serving w.records f o)))
-      (sym (first_is other queue w.devices)) (serves_other f lanes (waits_in (Some other) queue w.devices))
+      rw (first_is other queue w.devices) (serves_other f lanes (waits_in (Some other) queue w.devices))
 
   -- what is put into the other slot's lane
   other_place : {X : Type 0} (xs : List X) (x : X) → slice_get xs slot ≡ slice_get (slice_set xs other x) slot
@@ -180,10 +172,5 @@ module _ (slot other : ℕ) (apart : other ≢ slot) (w : World) where
           record_is = sym (ran-other w other slot (Some r) (λ same. apart (sym same)));
           lanes = lanes_back slot _ _ left;
         };
-        told = by_test (other == slot) refl;
+        told = rw (ne_eqb other slot apart) refl;
       }
-    where
-      by_test : (b : Bool) → (other == slot) ≡ b
-          → cond b (turn_label other w.clock.time (turned w.settings w.clock.time r).told ∷ []) [] ≡ []
-      by_test true e = absurd (apart (eqb-true other slot e))
-      by_test false e = refl

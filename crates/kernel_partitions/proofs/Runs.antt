@@ -21,10 +21,9 @@ use Rattle.kernel_laws.specs.Windows.{NextIsOfTheWindow, lanes_in}
 use Rattle.kernel_laws.proofs.Arrivals.{arrives_in_order}
 use Rattle.kernel_laws.proofs.Turns.{step_same}
 use Rattle.kernel_model.specs.Edges.{arrival_in}
-use Rattle.kernel_model.specs.World.{DeviceStep, Pace, Stepped, World, after, carried_out, device_step_of}
+use Rattle.kernel_model.specs.World.{Stepped, World, after, carried_out, device_step_of}
 use Rattle.kernel_model.specs.Named.{can_run}
 use Rattle.kernel_model.specs.World.{done, labels, stepped}
-use Rattle.kernel_model.specs.Parts.{passed}
 use Rattle.kernel_model.specs.Run.{next, round, runs_on, stays}
 use Rattle.kernel_model.specs.Parts.{on_choice}
 use Rattle.kernel_model.specs.Replay.{chosen}
@@ -33,12 +32,12 @@ use Rattle.kernel_partitions.specs.Alike.{AreAlikeIn, IsNoAct, IsPartitioned}
 use Rattle.kernel_partitions.specs.Moments.{Moment, before, timed_history}
 use Rattle.kernel_partitions.specs.Parts.{told_at_time, told_of}
 use Rattle.kernel_partitions.specs.Partitions.{ASlotSeesItselfAlone}
-use Rattle.kernel_partitions.proofs.Alone.{comes_in, first_of, first_serves, flags_for, goes, goes_by, idled}
-use Rattle.kernel_partitions.proofs.Alone.{idled-told, in_own_window, only_is, own_step, same_before, tells, tells_by}
+use Rattle.kernel_partitions.proofs.Alone.{comes_in, first_of, first_serves, flags_for, goes, idled}
+use Rattle.kernel_partitions.proofs.Alone.{idled-told, only_is, own_step, same_before, tells, tells_by}
 use Rattle.kernel_partitions.proofs.Alone.{told, told-plus, told_alike, went, went-plus, went_alike, went_keeps}
 use Rattle.kernel_partitions.proofs.Lanes.{lanes_then}
 use Rattle.kernel_partitions.proofs.Others.{LeavesAlone, devices_leave, itself, turn_leaves}
-use Rattle.kernel_partitions.proofs.Steps.{deed_by, deed_is}
+use Rattle.kernel_partitions.proofs.Steps.{deed_is}
 use Rattle.kernel_partitions.proofs.Windows.{next_by, pass_end, passes_idle, slot_now}
 
 -- worlds that are alike one after another, and the other way round
@@ -63,8 +62,7 @@ module _ (slot : ℕ) (u : World) where
   unfolding goes tells
   of_one c is = record {
     count = 1;
-    leads = subst (λ (o : Option Choice). AreAlikeIn slot (goes_by slot u o) (carried_out u c).after) (sym is)
-        (itself slot (carried_out u c).after);
+    leads = rw is (itself slot (carried_out u c).after);
     same = append-nil (tells_by slot u (own_step slot u)) ∙ ap (tells_by slot u) is;
   }
 
@@ -73,7 +71,7 @@ module _ (slot : ℕ) (u : World) where
   unfolding goes tells
   of_tick s is leaves = record {
     count = 1;
-    leads = subst (λ (o : Option Choice). AreAlikeIn slot (goes_by slot u o) s.after) (sym is) leaves.worlds;
+    leads = rw is leaves.worlds;
     same = append-nil (tells_by slot u (own_step slot u)) ∙ ap (tells_by slot u) is
         ∙ sym (ap (told_at_time u.clock.time) leaves.told);
   }
@@ -88,27 +86,16 @@ module _ (slot : ℕ) (u : World) where
     abbrev here : ℕ
     here = slot_now u
 
-    abbrev own_is : Bool → Bool → Option Dev → Bool → Option Choice
-    own_is window event device turn =
-        if event then Some (Device Event)
-        else (if window then option_or (option_map Device device) (if turn then Some (Run slot) else None) else None)
-
     device_alone : (device : Dev) → comes_in u ≡ false → first_of false (flags_for here u) ≡ Some device
         → (same : Bool) → (here == slot) ≡ same → IsAlone slot u (carried_out u (Device device))
     unfolding carried_out
     device_alone device event found true is =
         let mine : first_of false (flags_for slot u) ≡ Some device =
         ap (λ (s : ℕ). first_of false (flags_for s u)) (sym (eqb-true here slot is)) ∙ found in
-        of_one (Device device)
-        (ap₂ (λ (window came : Bool). own_is window came (first_of false (flags_for slot u))
-        (can_run (slice_get u.records slot))) is event
-        ∙ ap (λ (o : Option Dev). option_or (option_map Device o)
-        (if can_run (slice_get u.records slot) then Some (Run slot) else None)) mine)
+        of_one (Device device) (rw (is, event, mine) refl)
     device_alone device event found false is =
         of_none (done u (device_step_of u device))
-        (subst (λ (o : Option DeviceStep). LeavesAlone slot u.clock.time u (done u o))
-        (sym (deed_is u device ∙ ap (λ (only : Option ℕ). deed_by only u device)
-        (only_is u.clock.time u.pace.window some)))
+        (rw (deed_is u device, only_is u.clock.time u.pace.window some)
         (devices_leave slot here (λ same. false≢true (sym is ∙ eq-eqb here slot same)) u device
         (first_serves (flags_for here u) device found)))
 
@@ -118,17 +105,10 @@ module _ (slot : ℕ) (u : World) where
     unfolding carried_out
     turn_alone event none ready true is =
         let same = eqb-true here slot is in
-        subst (λ (s : ℕ). IsAlone slot u (carried_out u (Run s))) (sym same)
-        (of_one (Run slot)
-        (ap₂ (λ (window came : Bool). own_is window came (first_of false (flags_for slot u))
-        (can_run (slice_get u.records slot))) is event
-        ∙ ap₂ (λ (o : Option Dev) (b : Bool). option_or (option_map Device o) (if b then Some (Run slot) else None))
-        (ap (λ (s : ℕ). first_of false (flags_for s u)) (sym same) ∙ none)
-        (ap (λ (s : ℕ). can_run (slice_get u.records s)) (sym same) ∙ ready)))
+        rw same (of_one (Run slot) (rw (is, event, rw same at none, rw same at ready) refl))
     turn_alone event none ready false is =
         of_tick (carried_out u (Run here))
-        (ap₂ (λ (window came : Bool). own_is window came (first_of false (flags_for slot u))
-        (can_run (slice_get u.records slot))) is event)
+        (rw (is, event) refl)
         (turn_leaves slot here (λ same. false≢true (sym is ∙ eq-eqb here slot same)) u (slice_get u.records here) refl
         (λ gone. false≢true (sym (ap can_run gone) ∙ ready)))
 
@@ -140,7 +120,7 @@ module _ (slot : ℕ) (u : World) where
         let idles = passes_idle quiet turns u some slot none ready in
         record {
           count = ticks;
-          leads = subst (λ (v : World). AreAlikeIn slot v (passed u ticks)) (sym (idled slot ticks u idles)) (record {
+          leads = rw (idled slot ticks u idles) (record {
             window = refl;
             settings = refl;
             time = refl;
@@ -150,8 +130,8 @@ module _ (slot : ℕ) (u : World) where
           same = idled-told slot ticks u idles;
         }
 
-    the_one : (c d : Choice) → Some d ≡ Some c → d ≡ c
-    the_one c d is = cc
+    the_one : (c d : Choice) → Some d ≡ Some c → IsAlone slot u (carried_out u d) → IsAlone slot u (carried_out u c)
+    the_one c d is alone = let same : d ≡ c = cc in subst (λ (x : Choice). IsAlone slot u (carried_out u x)) same alone
 
     by_facts : (c : Choice) (event : Bool) → comes_in u ≡ event → (device : Option Dev)
         → first_of false (flags_for here u) ≡ device → (turn : Bool) → can_run (slice_get u.records here) ≡ turn
@@ -160,18 +140,13 @@ module _ (slot : ℕ) (u : World) where
         (if turn then Some (Run here) else (if left then Some (Pass (pass_end u - u.clock.time)) else None)) ≡ Some c
         → IsAlone slot u (carried_out u c)
     by_facts c true came device found turn ready left is =
-        subst (λ (d : Choice). IsAlone slot u (carried_out u d)) (the_one c (Device Event) is)
-        (of_one (Device Event) (ap (λ (b : Bool). own_is (in_own_window slot u) b (first_of false (flags_for slot u))
-        (can_run (slice_get u.records slot))) came))
+        the_one c (Device Event) is (of_one (Device Event) (rw came refl))
     by_facts c false came (Some device) found turn ready left is =
-        subst (λ (d : Choice). IsAlone slot u (carried_out u d)) (the_one c (Device device) is)
-        (device_alone device came found (here == slot) refl)
+        the_one c (Device device) is (device_alone device came found (here == slot) refl)
     by_facts c false came None found true ready left is =
-        subst (λ (d : Choice). IsAlone slot u (carried_out u d)) (the_one c (Run here) is)
-        (turn_alone came found ready (here == slot) refl)
+        the_one c (Run here) is (turn_alone came found ready (here == slot) refl)
     by_facts c false came None found false ready true is =
-        subst (λ (d : Choice). IsAlone slot u (carried_out u d)) (the_one c (Pass (pass_end u - u.clock.time)) is)
-        (pass_alone found ready)
+        the_one c (Pass (pass_end u - u.clock.time)) is (pass_alone found ready)
     by_facts c false came None found false ready false is = absurd (cc)
 
     choice_alone : (c : Choice) → next u ≡ Some c → IsAlone slot u (stepped u c)
@@ -183,8 +158,8 @@ module _ (slot : ℕ) (u : World) where
 -- time partitions stay
 pub step_keeps : (w : World) (c : Choice) → IsPartitioned w → IsPartitioned (after w c)
 step_keeps w c good = record {
-  windows = subst (λ (n : ℕ). 1 ≤ n) (sym (ap (λ (pace : Pace). pace.window) (step_same w c).pace)) good.windows;
-  no_acts = by_arrival (arrival_in w c) (subst (All IsNoAct) (arrives_in_order w c) good.no_acts);
+  windows = rw (step_same w c).pace good.windows;
+  no_acts = by_arrival (arrival_in w c) (rw (arrives_in_order w c) at good.no_acts);
 }
   where
     by_arrival : (o : Option Arrival) → All IsNoAct (cons_option o (after w c).devices.arrivals)
@@ -206,8 +181,7 @@ module _ (quiet : QuietUntilNext) (turns : WindowsAreInTurn) (law : NextIsOfTheW
       record {
         count = a + r.count;
         leads = worlds_then slot (went slot (a + r.count) w) (went slot r.count v) to
-            (subst (λ (u : World). AreAlikeIn slot u (went slot r.count v)) (sym (went-plus slot a r.count w))
-            (went_alike slot r.count (went slot a w) v kept leads)) r.leads;
+            (rw (went-plus slot a r.count w) (went_alike slot r.count (went slot a w) v kept leads)) r.leads;
         same = told-plus slot a r.count w
             ∙ ap₂ (λ (x y : List Moment). x ++ y) same (told_alike slot r.count (went slot a w) v kept leads ∙ r.same);
       }
@@ -231,10 +205,8 @@ module _ (quiet : QuietUntilNext) (turns : WindowsAreInTurn) (law : NextIsOfTheW
 
 pub a_slot_sees_itself_alone : QuietUntilNext → WindowsAreInTurn → NextIsOfTheWindow → ASlotSeesItselfAlone
 a_slot_sees_itself_alone quiet turns law slot v w good alike n m time first second =
-    let fine : IsPartitioned w = record {
-      windows = subst (λ (n : ℕ). 1 ≤ n) alike.window good.windows;
-      no_acts = subst (All IsNoAct) alike.lanes.arrivals good.no_acts;
-    } in
+    let fine : IsPartitioned w
+    = record { windows = rw alike.window at good.windows; no_acts = rw alike.lanes.arrivals at good.no_acts } in
     let a = ran_alone quiet turns law slot n v good in
     let b = ran_alone quiet turns law slot m w fine in
     let there = went_alike slot b.count v w good alike in

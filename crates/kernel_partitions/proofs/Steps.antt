@@ -1,10 +1,12 @@
 -- In two worlds that are alike in a slot, its own steps lead to worlds that are alike in it, and tell the same of it:
 -- its turn, a device's step in its window, and what comes in. Each deed is a function of the slot's record and lane
 -- (`ServeAlike`), which are the same in both; so each device is one case.
-use Rattle.std.proofs.Common.{◌≡◌, ◌≢◌, ℕ, ◌==◌, ◌∷◌, ◌+◌, if◌then◌else◌, Bool, true, false, cond, List, [], filter}
-use Rattle.std.proofs.Common.{length, slice_get, slice_index_or, Option, None, Some, refl, sym, ap, ap₂, ◌∙◌, eqb-true}
-use Rattle.std.proofs.Common.{◌*◌, not, subst}
-use Rattle.std.specs.Prelude.{All, drop}
+use Rattle.std.proofs.lemmas.Bool.{cases_Bool}
+use Rattle.std.proofs.Common.{inl, inr, ne_eqb}
+use Rattle.std.proofs.Common.{◌≡◌, ◌≢◌, ℕ, ◌==◌, ◌∷◌, ◌+◌, Bool, true, false, cond, List, [], filter}
+use Rattle.std.proofs.Common.{slice_get, slice_index_or, Option, None, Some, refl, sym, ap, ap₂, ◌∙◌, eqb-true}
+use Rattle.std.proofs.Common.{subst}
+use Rattle.std.specs.Prelude.{All}
 use Rattle.std.specs.Option.{option_and_then, option_map}
 use Rattle.std.proofs.lemmas.Option.{slice_get-map}
 use Rattle.std.proofs.lemmas.List.Elements.{All-head}
@@ -14,10 +16,9 @@ use Rattle.script_text.specs.Settings.{ScriptEvent as Arrival, EventKind}
 use Rattle.script_text.specs.Settings as script
 use Rattle.board_devices.specs.Arriving.{act_of}
 use Rattle.board_devices.specs.Clock.{clock_at}
-use Rattle.board_devices.specs.SerialLine.{SerialLine, with_input}
+use Rattle.board_devices.specs.SerialLine.{with_input}
 use Rattle.board_devices.specs.Parts.{no_line}
 use Rattle.board_devices.specs.Storage.{is_fault}
-use Rattle.process_model.specs.Own.{Own}
 use Rattle.driver_model.specs.Alarm as alarm
 use Rattle.driver_model.specs.Console as console
 use Rattle.driver_model.specs.Random as random
@@ -27,20 +28,18 @@ use Rattle.kernel_model.specs.Record.{Record}
 use Rattle.kernel_model.specs.declared.settings.Settings.{Settings}
 use Rattle.kernel_model.specs.Turn.{Turned, turned}
 use Rattle.kernel_model.specs.Record.{flash_of}
-use Rattle.kernel_model.specs.Turn as heard
-use Rattle.kernel_model.specs.World.{Answer, DeviceAnswer, DeviceStep, Devices, Label, Stepped, World, after_answer}
+use Rattle.kernel_model.specs.World.{Answer, DeviceAnswer, DeviceStep, Devices, Label, Stepped, World}
 use Rattle.kernel_model.specs.World.{answering, arrived, coming_in, device_step_of, done, edge_told}
 use Rattle.kernel_model.specs.Parts.{first_in}
 use Rattle.kernel_model.specs.Parts.{alarmed}
 use Rattle.kernel_model.specs.World.{labels_told, now_in, only_in, owns_in}
 use Rattle.kernel_model.specs.Parts.{line_in}
-use Rattle.kernel_model.specs.Parts.{happens, is_waited_for, labels_of}
-use Rattle.kernel_model.specs.World.{ran, random_step, receive_step, routed, serving, storing}
+use Rattle.kernel_model.specs.Parts.{is_waited_for, labels_of}
+use Rattle.kernel_model.specs.World.{ran, random_step, receive_step, serving, storing}
 use Rattle.kernel_model.specs.Named.{slots_in}
 use Rattle.kernel_model.specs.Named.{lane_by}
-use Rattle.kernel_model.specs.World.{telling_edge, transmitting, turn_label, unmade}
+use Rattle.kernel_model.specs.World.{telling_edge, transmitting, unmade}
 use Rattle.kernel_model.specs.Named.{waits_in}
-use Rattle.kernel_model.specs.Parts.{drawn_event}
 use Rattle.kernel_model.proofs.Places.{set_own}
 use Rattle.kernel_model.proofs.Told.{labels_at, told_at, told_there}
 use Rattle.kernel_partitions.specs.Alike.{AreAlikeIn, IsNoAct, LanesAreAlike}
@@ -52,42 +51,25 @@ pub record StepsAlike (slot : ℕ) (s t : Stepped) : Type 0 where
   pub worlds : AreAlikeIn slot s.after t.after
   pub told : told_of slot s.labels ≡ told_of slot t.labels
 
--- whom devices serve where one slot alone may be served
-abbrev pub served_of : Option ℕ → World → Dev → Option ℕ
-served_of only w dev.Event = None
-served_of only w dev.Alarm = alarm.due_for only (now_in w) (owns_in w)
-served_of only w dev.Uart = first_in only Writes w.devices
-served_of only w dev.Receive = first_in only Reads w.devices
-served_of only w dev.Random = first_in only Randoms w.devices
-served_of only w dev.Store = first_in only Stores w.devices
-
 -- what a device does, by the slot that alone may be served
 abbrev pub deed_by : Option ℕ → World → Dev → Option DeviceStep
 deed_by only w dev.Event = arrived w.records w.devices w.devices.arrivals
 deed_by only w dev.Alarm =
-    serving w.records (λ slot r. alarmed w.settings w.clock.time w.devices) (served_of only w dev.Alarm)
-deed_by only w dev.Uart = serving w.records (transmitting (lane_by only) w.clock.time w.devices) (served_of only w
-    dev.Uart)
-deed_by only w dev.Receive = serving w.records (receive_step (lane_by only) w.devices) (served_of only w dev.Receive)
-deed_by only w dev.Random = serving w.records (random_step (lane_by only) w.devices) (served_of only w dev.Random)
-deed_by only w dev.Store = serving w.records (storing (lane_by only) w.devices) (served_of only w dev.Store)
+    serving w.records (λ slot r. alarmed w.settings w.clock.time w.devices) (alarm.due_for only (now_in w) (owns_in w))
+deed_by only w dev.Uart = serving w.records (transmitting (lane_by only) w.clock.time w.devices)
+    (first_in only Writes w.devices)
+deed_by only w dev.Receive = serving w.records (receive_step (lane_by only) w.devices) (first_in only Reads w.devices)
+deed_by only w dev.Random = serving w.records (random_step (lane_by only) w.devices) (first_in only Randoms w.devices)
+deed_by only w dev.Store = serving w.records (storing (lane_by only) w.devices) (first_in only Stores w.devices)
 
 pub deed_is : (w : World) (device : Dev) → device_step_of w device ≡ deed_by (only_in w) w device
 deed_is w dev.Event = refl
-deed_is w dev.Alarm = refl
-deed_is w dev.Uart = refl
-deed_is w dev.Receive = refl
-deed_is w dev.Random = refl
-deed_is w dev.Store = refl
+deed_is w _ = refl
 
 -- labels of other slots count nothing
 others_count : (slot : ℕ) (label : Label) (ls : List Label) → label.slot ≢ slot
     → cond (label.slot == slot) (label ∷ ls) ls ≡ ls
-others_count slot label ls apart = by_test (label.slot == slot) refl
-  where
-    by_test : (b : Bool) → (label.slot == slot) ≡ b → cond b (label ∷ ls) ls ≡ ls
-    by_test true e = absurd (apart (eqb-true label.slot slot e))
-    by_test false e = refl
+others_count slot label ls apart = rw (ne_eqb label.slot slot apart) refl
 
 -- what a device's step tells of a slot
 pub told_by : (slot : ℕ) (told : ℕ → Option Answer) (rs : List Record)
@@ -104,19 +86,11 @@ first_is slot queue d = by_list (slots_in queue d.waiting)
     by_list : (slots : List ℕ) → slice_get (filter (λ (s : ℕ). s == slot) slots) 0
         ≡ cond (is_waited_for (filter (λ (s : ℕ). s == slot) slots)) (Some slot) None
     by_list [] = refl
-    by_list (s ∷ slots) = by_first (s == slot) refl (by_list slots)
-      where
-        by_first : (b : Bool) → (s == slot) ≡ b
-            → slice_get (filter (λ (s : ℕ). s == slot) slots) 0
-            ≡ cond (is_waited_for (filter (λ (s : ℕ). s == slot) slots)) (Some slot) None
-            → slice_get (cond b (s ∷ filter (λ (s : ℕ). s == slot) slots) (filter (λ (s : ℕ). s == slot) slots)) 0
-            ≡ cond (is_waited_for (cond b (s ∷ filter (λ (s : ℕ). s == slot) slots)
-            (filter (λ (s : ℕ). s == slot) slots)))
-            (Some slot) None
-        by_first true e rest =
-            ap Some (eqb-true s slot e)
-            ∙ sym (ap (λ (b : Bool). cond b (Some slot) None) (some_wait s (filter (λ (s : ℕ). s == slot) slots)))
-        by_first false e rest = rest
+    by_list (s ∷ slots) =
+        elim (cases_Bool (s == slot)) [
+          | inl e ↦ rw (e, some_wait) (ap Some (eqb-true s slot e))
+          | inr e ↦ rw e (by_list slots)
+        ]
 
 module _ (slot : ℕ) (v w : World) (alike : AreAlikeIn slot v w) where
   nothing_made : StepsAlike slot (unmade v) (unmade w)
@@ -130,17 +104,16 @@ module _ (slot : ℕ) (v w : World) (alike : AreAlikeIn slot v w) where
       window = alike.window;
       settings = alike.settings;
       time = alike.time;
-      record_is = told_at v.settings a.told v.records slot
-          ∙ ap₂ (λ (s : Settings) (o : Option Answer). option_map (happens s o) (slice_get v.records slot))
-          alike.settings told
-          ∙ ap (option_map (happens w.settings (b.told slot))) alike.record_is
-          ∙ sym (told_at w.settings b.told w.records slot);
+      record_is = rw (
+        told_at v.settings a.told v.records slot,
+        told_at w.settings b.told w.records slot,
+        alike.record_is,
+        alike.settings,
+        told,
+      ) refl;
       lanes = lanes;
     };
-    told = told_by slot a.told v.records
-        ∙ ap₂ (λ (o : Option Answer) (r : Option Record).
-        told_of slot (labels_of slot (option_and_then (λ (x : Record). o) r)))
-        told alike.record_is ∙ sym (told_by slot b.told w.records);
+    told = rw (told_by slot a.told v.records, told_by slot b.told w.records, alike.record_is, told) refl;
   }
 
   -- a device that serves the slot, or nobody
@@ -152,7 +125,7 @@ module _ (slot : ℕ) (v w : World) (alike : AreAlikeIn slot v w) where
       → StepsAlike slot (done v (serving v.records f (cond b (Some slot) None)))
       (done w (serving w.records g (cond b (Some slot) None)))
   serves_alike f g same false = nothing_made
-  serves_alike f g same true = by_records (slice_get v.records slot) (slice_get w.records slot) alike.record_is
+  serves_alike f g same true = rw alike.record_is (by_record (slice_get w.records slot))
     where
       by_record : (o : Option Record)
           → StepsAlike slot (done v (option_map (λ (r : Record). answering slot (f slot r)) o))
@@ -162,28 +135,12 @@ module _ (slot : ℕ) (v w : World) (alike : AreAlikeIn slot v w) where
           deeds_alike (answering slot (f slot r)) (answering slot (g slot r))
           (ap (λ (a : Answer). cond (slot == slot) (Some a) None) (same.answer r)) (same.lanes r)
 
-      by_records : (o q : Option Record) → o ≡ q
-          → StepsAlike slot (done v (option_map (λ (r : Record). answering slot (f slot r)) o))
-          (done w (option_map (λ (r : Record). answering slot (g slot r)) q))
-      by_records o q e =
-          subst (λ (x : Option Record).
-          StepsAlike slot (done v (option_map (λ (r : Record). answering slot (f slot r)) o))
-          (done w (option_map (λ (r : Record). answering slot (g slot r)) x))) e (by_record o)
-
   of_queue : (queue : QueueName) (f g : ℕ → Record → DeviceAnswer) → ServeAlike f g
       → StepsAlike slot (done v (serving v.records f (first_in (Some slot) queue v.devices)))
       (done w (serving w.records g (first_in (Some slot) queue w.devices)))
   of_queue queue f g same =
-      subst (λ (o : Option ℕ). StepsAlike slot (done v (serving v.records f o))
-      (done w (serving w.records g (first_in (Some slot) queue w.devices)))) (sym (first_is slot queue v.devices))
-      (subst (λ (o : Option ℕ). StepsAlike slot
-      (done v (serving v.records f (cond (waits_in (Some slot) queue v.devices) (Some slot) None))) (done w (serving
-      w.records g o)))
-      (sym (first_is slot queue w.devices)
-      ) (subst (λ (b : Bool). StepsAlike slot
-      (done v (serving v.records f (cond (waits_in (Some slot) queue v.devices) (Some slot) None)))
-      (done w (serving w.records g (cond b (Some slot) None)))) (alike.lanes.waits queue)
-      (serves_alike f g same (waits_in (Some slot) queue v.devices))))
+      rw (first_is slot queue v.devices, first_is slot queue w.devices, alike.lanes.waits queue)
+      (serves_alike f g same (waits_in (Some slot) queue w.devices))
 
   pub same_line : line_in slot v.devices ≡ line_in slot w.devices
   same_line = indexes_alike v.devices.lines w.devices.lines slot no_line alike.lanes.line
@@ -198,151 +155,80 @@ module _ (slot : ℕ) (v w : World) (alike : AreAlikeIn slot v w) where
 
   alarms_alike : StepsAlike slot (done v (deed_by (Some slot) v dev.Alarm)) (done w (deed_by (Some slot) w dev.Alarm))
   alarms_alike =
-      subst (λ (b : Bool). StepsAlike slot (done v (deed_by (Some slot) v dev.Alarm))
-      (done w (serving w.records (λ slot r. alarmed w.settings w.clock.time w.devices) (cond b (Some slot) None))))
-      (ap₂ (λ (now : ℕ) (o : Option Own). alarm.has_due now o) same_now same_own)
-      (serves_alike (λ slot r. alarmed v.settings v.clock.time v.devices)
-      (λ slot r. alarmed w.settings w.clock.time w.devices)
-      (record {
-        answer = λ r. ap₂ (λ (s : Settings) (time : ℕ). (alarmed s time w.devices).answer) alike.settings alike.time;
-        lanes = λ r. alike.lanes;
-      }) (alarm.has_due (now_in v) (slice_get (owns_in v) slot)))
+      rw (same_now, same_own) (serves_alike (λ slot r. alarmed w.settings w.clock.time v.devices)
+      (λ slot r. alarmed w.settings w.clock.time w.devices) (record { answer = λ r. refl; lanes = λ r. alike.lanes })
+      (alarm.has_due (now_in w) (slice_get (owns_in w) slot)))
 
   sends_alike : StepsAlike slot (done v (deed_by (Some slot) v dev.Uart)) (done w (deed_by (Some slot) w dev.Uart))
   sends_alike =
-      of_queue Writes (transmitting slot v.clock.time v.devices) (transmitting slot w.clock.time w.devices)
-      (record { answer = λ r. refl; lanes = λ r. lanes r })
-    where
-      sent_by : Record → ℕ → SerialLine → SerialLine
-      sent_by r time line =
-          let count = length (console.sent (flash_of r) r.own).moved in
-          record line { free = if count == 0 then line.free else time + count * line.ticks }
-
-      lanes : (r : Record)
-          → LanesAreAlike slot (transmitting slot v.clock.time v.devices slot r).devices
-          (transmitting slot w.clock.time w.devices slot r).devices
-      lanes r =
-          let served = console.sent (flash_of r) r.own in
-          let left = answers_alike slot slot Writes served.completed v.devices w.devices alike.lanes in
-          record {
-            arrivals = left.arrivals;
-            faults = left.faults;
-            line = sets_alike v.devices.lines w.devices.lines slot (sent_by r v.clock.time (line_in slot v.devices))
-                (sent_by r w.clock.time (line_in slot w.devices)) alike.lanes.line
-                (ap₂ (sent_by r) alike.time same_line);
-            words = left.words;
-            served = left.served;
-            waits = λ queue. left.waits queue;
-          }
+      of_queue Writes (transmitting slot v.clock.time v.devices) (transmitting slot w.clock.time w.devices) (record {
+        answer = λ r. refl;
+        lanes = λ r. let served = console.sent (flash_of r) r.own in
+            let left = answers_alike slot slot Writes served.completed v.devices w.devices alike.lanes in
+            rw (alike.time, same_line) (record {
+              arrivals = left.arrivals;
+              faults = left.faults;
+              line = sets_alike v.devices.lines w.devices.lines slot _ _ alike.lanes.line refl;
+              words = left.words;
+              served = left.served;
+              waits = λ queue. left.waits queue;
+            });
+      })
 
   receives_alike : StepsAlike slot (done v (deed_by (Some slot) v dev.Receive))
       (done w (deed_by (Some slot) w dev.Receive))
   receives_alike =
-      of_queue Reads (receive_step slot v.devices) (receive_step slot w.devices)
-      (record {
-        answer = λ r. ap (λ (line : SerialLine). record {
-          event = heard.Input (console.received line.ring r.own).moved;
-          printed = [];
-        }) same_line;
-        lanes = λ r. lanes r;
+      of_queue Reads (receive_step slot v.devices) (receive_step slot w.devices) (record {
+        answer = λ r. rw same_line refl;
+        lanes = λ r. let served = console.received (line_in slot w.devices).ring r.own in
+            let left = answers_alike slot slot Reads served.completed v.devices w.devices alike.lanes in
+            rw same_line (record {
+              arrivals = left.arrivals;
+              faults = left.faults;
+              line = sets_alike v.devices.lines w.devices.lines slot _ _ alike.lanes.line refl;
+              words = left.words;
+              served = left.served;
+              waits = λ queue. left.waits queue;
+            });
       })
-    where
-      rest_by : Record → SerialLine → SerialLine
-      rest_by r line = record line { ring = drop (length (console.received line.ring r.own).moved) line.ring }
-
-      lanes : (r : Record)
-          → LanesAreAlike slot (receive_step slot v.devices slot r).devices (receive_step slot w.devices slot r).devices
-      lanes r =
-          let done_by = λ (line : SerialLine). (console.received line.ring r.own).completed in
-          let left = answers_alike slot slot Reads (done_by (line_in slot v.devices)) v.devices w.devices alike.lanes in
-          let same = ap done_by same_line in
-          record {
-            arrivals = left.arrivals;
-            faults = left.faults;
-            line = sets_alike v.devices.lines w.devices.lines slot (rest_by r (line_in slot v.devices))
-                (rest_by r (line_in slot w.devices)) alike.lanes.line (ap (rest_by r) same_line);
-            words = left.words;
-            served = left.served;
-            waits = λ queue. left.waits queue
-                ∙ ap (λ (b : Bool). waits_in (Some slot) queue (after_answer Reads b slot w.devices)) same;
-          }
 
   draws_alike : StepsAlike slot (done v (deed_by (Some slot) v dev.Random)) (done w (deed_by (Some slot) w dev.Random))
   draws_alike =
-      of_queue Randoms (random_step slot v.devices) (random_step slot w.devices)
-      (record {
-        answer = λ r. ap (λ (words : List ℕ). record {
-          event = drawn_event (random.answered (slice_get words 0) r.own).moved;
-          printed = [];
-        }) same_words;
-        lanes = λ r. lanes r;
+      let same : slice_index_or v.devices.words slot [] ≡ slice_index_or w.devices.words slot []
+      = indexes_alike v.devices.words w.devices.words slot [] alike.lanes.words in
+      of_queue Randoms (random_step slot v.devices) (random_step slot w.devices) (record {
+        answer = λ r. rw same refl;
+        lanes = λ r. let a = random.answered (slice_get (slice_index_or w.devices.words slot []) 0) r.own in
+            let left = answers_alike slot slot Randoms a.completed v.devices w.devices alike.lanes in
+            rw same (record {
+              arrivals = left.arrivals;
+              faults = left.faults;
+              line = left.line;
+              words = sets_alike v.devices.words w.devices.words slot _ _ alike.lanes.words refl;
+              served = left.served;
+              waits = λ queue. left.waits queue;
+            });
       })
-    where
-      same_words : slice_index_or v.devices.words slot [] ≡ slice_index_or w.devices.words slot []
-      same_words = indexes_alike v.devices.words w.devices.words slot [] alike.lanes.words
-
-      rest_by : Record → List ℕ → List ℕ
-      rest_by r words = random.words_after (random.answered (slice_get words 0) r.own).moved words
-
-      lanes : (r : Record)
-          → LanesAreAlike slot (random_step slot v.devices slot r).devices (random_step slot w.devices slot r).devices
-      lanes r =
-          let done_by = λ (words : List ℕ). (random.answered (slice_get words 0) r.own).completed in
-          let left = answers_alike slot slot Randoms (done_by (slice_index_or v.devices.words slot [])) v.devices
-          w.devices alike.lanes in
-          let same = ap done_by same_words in
-          record {
-            arrivals = left.arrivals;
-            faults = left.faults;
-            line = left.line;
-            words = sets_alike v.devices.words w.devices.words slot (rest_by r (slice_index_or v.devices.words slot []))
-                (rest_by r (slice_index_or w.devices.words slot [])) alike.lanes.words (ap (rest_by r) same_words);
-            served = left.served;
-            waits = λ queue. left.waits queue
-                ∙ ap (λ (b : Bool). waits_in (Some slot) queue (after_answer Randoms b slot w.devices)) same;
-          }
 
   stores_alike : StepsAlike slot (done v (deed_by (Some slot) v dev.Store)) (done w (deed_by (Some slot) w dev.Store))
   stores_alike =
-      of_queue Stores (storing slot v.devices) (storing slot w.devices)
-      (record {
-        answer = λ r. ap (λ (fails : Bool). record {
-          event = heard.Stored (not fails);
-          printed = [];
-        }) same_fails;
-        lanes = λ r. lanes r;
+      let same : slice_index_or v.devices.served slot 0 ≡ slice_index_or w.devices.served slot 0
+      = indexes_alike v.devices.served w.devices.served slot 0 alike.lanes.served in
+      of_queue Stores (storing slot v.devices) (storing slot w.devices) (record {
+        answer = λ r. rw (same, alike.lanes.faults) refl;
+        lanes = λ r.
+            let fails = is_fault w.devices.faults (slice_index_or w.devices.served slot 0 + 1) in
+            let a = storage.answered fails (flash_of r) r.storage r.own in
+            let left = answers_alike slot slot Stores a.completed v.devices w.devices alike.lanes in
+            rw (same, alike.lanes.faults) (record {
+              arrivals = left.arrivals;
+              faults = refl;
+              line = left.line;
+              words = left.words;
+              served = sets_alike v.devices.served w.devices.served slot _ _ alike.lanes.served refl;
+              waits = λ queue. left.waits queue;
+            });
       })
-    where
-      same_served : slice_index_or v.devices.served slot 0 ≡ slice_index_or w.devices.served slot 0
-      same_served = indexes_alike v.devices.served w.devices.served slot 0 alike.lanes.served
-
-      fails_by : List ℕ → ℕ → Bool
-      fails_by faults count = is_fault faults (count + 1)
-
-      same_fails : fails_by v.devices.faults (slice_index_or v.devices.served slot 0)
-          ≡ fails_by w.devices.faults (slice_index_or w.devices.served slot 0)
-      same_fails = ap₂ fails_by alike.lanes.faults same_served
-
-      done_by : Record → Bool → Bool
-      done_by r fails = (storage.answered fails (flash_of r) r.storage r.own).completed
-
-      lanes : (r : Record)
-          → LanesAreAlike slot (storing slot v.devices slot r).devices (storing slot w.devices slot r).devices
-      lanes r =
-          let left = answers_alike slot slot Stores
-          (done_by r (fails_by v.devices.faults (slice_index_or v.devices.served slot 0))) v.devices w.devices
-          alike.lanes in
-          let same = ap (done_by r) same_fails in
-          record {
-            arrivals = left.arrivals;
-            faults = left.faults;
-            line = left.line;
-            words = left.words;
-            served = sets_alike v.devices.served w.devices.served slot _ _ alike.lanes.served
-                (ap₂ (λ (over : Bool) (count : ℕ). if over then count + 1 else count) same same_served);
-            waits = λ queue. left.waits queue
-                ∙ ap (λ (b : Bool). waits_in (Some slot) queue (after_answer Stores b slot w.devices)) same;
-          }
 
   -- what comes in, where no operator acts
   comes_alike : (arrivals : List Arrival) → All IsNoAct arrivals
@@ -408,17 +294,12 @@ module _ (slot : ℕ) (v w : World) (alike : AreAlikeIn slot v w) where
   devices_alike dev.Store none = stores_alike
 
   -- the slot's turn
-  turns_alike : (o q : Option Record) → slice_get v.records slot ≡ o → slice_get w.records slot ≡ q → o ≡ q
-      → StepsAlike slot (ran v slot o) (ran w slot q)
-  turns_alike None None at there same = nothing_made
-  turns_alike None (Some r) at there same = absurd (cc)
-  turns_alike (Some r) None at there same = absurd (cc)
-  turns_alike (Some r) (Some q) at there same =
-      let turns = λ (s : Settings) (time : ℕ) (x : Record). turned s time x in
-      let the_one : r ≡ q = cc in
-      let t : turned v.settings v.clock.time r ≡ turned w.settings w.clock.time q =
-      ap₂ (λ (s : Settings) (time : ℕ). turned s time r) alike.settings alike.time
-      ∙ ap (turned w.settings w.clock.time) the_one in
+  turns_alike : (o : Option Record) → slice_get v.records slot ≡ o → slice_get w.records slot ≡ o
+      → StepsAlike slot (ran v slot o) (ran w slot o)
+  turns_alike None at there = nothing_made
+  turns_alike (Some r) at there =
+      let t : turned v.settings v.clock.time r ≡ turned w.settings w.clock.time r
+      = rw (alike.settings, alike.time) refl in
       record {
         worlds = record {
           window = alike.window;
@@ -426,13 +307,11 @@ module _ (slot : ℕ) (v w : World) (alike : AreAlikeIn slot v w) where
           time = ap (λ (time : ℕ). time + 1) alike.time;
           record_is = set_own v.records slot (turned v.settings v.clock.time r).after r at
               ∙ ap (λ (x : Turned). Some x.after) t
-              ∙ sym (set_own w.records slot (turned w.settings w.clock.time q).after q there);
-          lanes = subst (λ (x : Turned). LanesAreAlike slot
-              (routed slot (turned v.settings v.clock.time r).acts v.devices) (routed slot x.acts w.devices)) t
-              (routes_alike slot slot (turned v.settings v.clock.time r).acts v.devices w.devices alike.lanes);
+              ∙ sym (set_own w.records slot (turned w.settings w.clock.time r).after r there);
+          lanes = rw t (routes_alike slot slot (turned w.settings w.clock.time r).acts v.devices w.devices alike.lanes);
         };
-        told = ap₂ (λ (time : ℕ) (x : Turned). told_of slot (turn_label slot time x.told ∷ [])) alike.time t;
+        told = rw (t, alike.time) refl;
       }
 
   pub turn_alike : StepsAlike slot (ran v slot (slice_get v.records slot)) (ran w slot (slice_get w.records slot))
-  turn_alike = turns_alike (slice_get v.records slot) (slice_get w.records slot) refl refl alike.record_is
+  turn_alike = rw alike.record_is (turns_alike (slice_get w.records slot) alike.record_is refl)

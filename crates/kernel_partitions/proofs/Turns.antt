@@ -1,12 +1,13 @@
 -- In a window of its own a slot that is ready has a turn in each tick. The next step there is its turn, which takes a
 -- tick, or a device's step, which takes none (`OneTick`); so up to the window's end the turns told are the ticks
 -- passed, by induction on the steps of the run.
+use Rattle.std.proofs.lemmas.Bool.{cases_lt, cond_both}
+use Rattle.std.proofs.Common.{inl, inr}
 use Rattle.std.proofs.Common.{◌≡◌, ◌≤◌, ◌<◌, ℕ, zero, suc, ◌*◌, ◌/◌, ◌%◌, ◌+◌, ◌-◌, ◌==◌, ◌∷◌, ◌++◌, div-add-mod', Bool}
-use Rattle.std.proofs.Common.{true, false, cond, nat_lt, List, [], filter, length, slice_get, IfSome, Option, None}
+use Rattle.std.proofs.Common.{true, false, nat_lt, List, [], slice_get, IfSome, Option, None}
 use Rattle.std.proofs.Common.{Some, refl, sym, ap, ap₂, subst, ◌∙◌, arith, eq-eqb, length-append}
 use Rattle.std.specs.Option.{option_and_then}
 use Rattle.std.proofs.lemmas.Bool.{false≢true}
-use Rattle.std.proofs.lemmas.Bool.Decides.{nat_tests}
 use Rattle.std.proofs.lemmas.List.Elements.{filter-append}
 use Rattle.tk_base.specs.declared.limits.TheConstants.{STEP_LIMIT}
 use Rattle.tk_base.specs.declared.process.Choice.{Choice}
@@ -17,10 +18,9 @@ use Rattle.partition_turns.specs.Windows.{is_left, window_end, window_slot}
 use Rattle.kernel_laws.specs.Windows.{NextIsOfTheWindow, lanes_in}
 use Rattle.kernel_laws.proofs.Turns.{run_ready, step_same}
 use Rattle.kernel_model.specs.Record.{Record}
-use Rattle.kernel_model.specs.Turn.{is_turn, turned}
-use Rattle.kernel_model.specs.World.{Answer, DeviceStep, Label, answer_label, Pace, Stepped, World, after}
+use Rattle.kernel_model.specs.World.{Answer, DeviceStep, Label, Pace, Stepped, World, after}
 use Rattle.kernel_model.specs.Named.{can_run}
-use Rattle.kernel_model.specs.World.{carried_out, device_step_of, done, labels, ran, stepped, turn_label}
+use Rattle.kernel_model.specs.World.{carried_out, device_step_of, done, labels, ran, stepped}
 use Rattle.kernel_model.specs.Parts.{labels_of}
 use Rattle.kernel_model.specs.Run.{next, round, runs_on, stays}
 use Rattle.kernel_model.specs.Parts.{on_choice}
@@ -37,18 +37,9 @@ use Rattle.kernel_partitions.proofs.Records.{all_kept, step_first}
 use Rattle.kernel_partitions.proofs.Steps.{told_by}
 use Rattle.kernel_partitions.proofs.Windows.{chosen_by, next_by, pass_end}
 
-is_below : (a b : ℕ) → nat_lt a b ≡ true → a < b
-is_below a b is = grind (arith, nat_tests)
-
-not_below : (a b : ℕ) → nat_lt a b ≡ false → b ≤ a
-not_below a b is = grind (arith, nat_tests)
-
 -- the turns of one list and then of another
 turns_joined : (first more : List Moment) → turns_told (first ++ more) ≡ turns_told first + turns_told more
-turns_joined first more =
-    ap length (filter-append (λ (m : Moment). is_turn m.label.event) first more)
-    ∙ length-append (filter (λ (m : Moment). is_turn m.label.event) first)
-    (filter (λ (m : Moment). is_turn m.label.event) more)
+turns_joined first more = simp (filter-append, length-append)
 
 -- what a step is to a slot: it takes so many ticks, each a turn of it
 record Takes (slot : ℕ) (w : World) (s : Stepped) (ticks : ℕ) : Type 0 where
@@ -65,18 +56,12 @@ deed_takes slot w (Some deed) answers = record {
       ∙ by_record (slice_get w.records slot);
 }
   where
-    -- of one label that is no turn
-    no_turn : (label : Label) → is_turn label.event ≡ false → (b : Bool)
-        → turns_told (told_at_time w.clock.time (cond b (label ∷ []) [])) ≡ 0
-    no_turn label none true =
-        let told : Moment = record { at = w.clock.time; label = label } in
-        ap (λ (turn : Bool). length (cond turn (told ∷ []) [])) none
-    no_turn label none false = refl
-
     by_answer : (o : Option Answer) → deed.told slot ≡ o
         → turns_told (told_at_time w.clock.time (told_of slot (labels_of slot o))) ≡ 0
     by_answer None is = refl
-    by_answer (Some a) is = no_turn (answer_label slot a) (answers slot a is) (slot == slot)
+    by_answer (Some a) is =
+        cond_both (slot == slot) _ _ (λ (ls : List Label). turns_told (told_at_time w.clock.time ls) ≡ 0)
+        (λ e. rw (answers slot a is) refl) (λ e. refl)
 
     by_record : (o : Option Record)
         → turns_told (told_at_time w.clock.time (told_of slot (labels_of slot
@@ -89,8 +74,7 @@ turn_takes : (slot : ℕ) (w : World) (o : Option Record) → can_run o ≡ true
 turn_takes slot w None can = absurd (false≢true can)
 turn_takes slot w (Some r) can = record {
   time = refl;
-  turns = ap (λ (b : Bool). turns_told (told_at_time w.clock.time
-      (cond b (turn_label slot w.clock.time (turned w.settings w.clock.time r).told ∷ []) []))) (eq-eqb slot slot refl);
+  turns = rw (eq-eqb slot slot refl) refl;
 }
 
 -- below the limit of steps the next step in a window whose slot is ready is its turn, or a device's step
@@ -188,7 +172,14 @@ module _ (law : NextIsOfTheWindow) (turns : WindowsAreInTurn) where
   unfolding round chosen
   turns_to_end slot end zero w way below ready reached = omega (arith, way.within, reached)
   turns_to_end slot end (suc n) w way below ready reached =
-      by_time (nat_lt w.clock.time end) refl (λ c. turns_to_end slot end n (after w c))
+      elim (cases_lt w.clock.time end) [
+        | inl under ↦ by_choice (next w) refl under (λ c. turns_to_end slot end n (after w c)) reached
+        | inr there ↦
+            let choices = on_choice [] (λ c. c ∷ chosen n (after w c)) (next w) in
+            let none : turns_told (before end (timed_history slot w choices)) ≡ 0
+            = ap turns_told (none_sooner slot end w choices there) in
+            omega (arith, none, there, way.within)
+      ]
     where
       -- a step of so many ticks, and then the rest
       by_ticks : (c : Choice) → next w ≡ Some c → w.clock.time < end → TellsFrom slot end n (after w c) → (ticks : ℕ)
@@ -229,16 +220,6 @@ module _ (law : NextIsOfTheWindow) (turns : WindowsAreInTurn) where
           by_tick : OneTick slot w c → TellsUpTo slot end w (c ∷ chosen n (after w c))
           by_tick (no_tick takes) = by_ticks c is under (rest c) 0 (omega arith) takes
           by_tick (a_tick takes) = by_ticks c is under (rest c) 1 (omega arith) takes
-
-      by_time : (b : Bool) → nat_lt w.clock.time end ≡ b → ((c : Choice) → TellsFrom slot end n (after w c))
-          → TellsUpTo slot end w (on_choice [] (λ c. c ∷ chosen n (after w c)) (next w))
-      by_time true e rest = by_choice (next w) refl (is_below w.clock.time end e) rest reached
-      by_time false e rest =
-          let there = not_below w.clock.time end e in
-          let none : turns_told (before end (timed_history slot w
-          (on_choice [] (λ c. c ∷ chosen n (after w c)) (next w)))) ≡ 0 =
-          ap turns_told (none_sooner slot end w (on_choice [] (λ c. c ∷ chosen n (after w c)) (next w)) there) in
-          omega (arith, none, there, way.within)
 
   pub each_tick_is_its_turn : EachTickIsItsTurn
   each_tick_is_its_turn w n through =

@@ -3,7 +3,7 @@
 -- it becomes ready, so each tick on the way is one without a step of its own.
 use Rattle.std.proofs.Common.{◌≡◌, ◌≤◌, ◌<◌, ℕ, ◌+◌, ◌-◌, ◌^◌, ◌%◌, ◌&&◌, if◌then◌else◌, ◌∷◌, ◌/◌, Bool}
 use Rattle.std.proofs.Common.{true, false, List, [], map, nat_le, slice_get, slice_index_or, IfSome, Option, None, Some}
-use Rattle.std.proofs.Common.{is_some, refl, sym, ap, ap₂, subst, ◌∙◌, arith, eqb-true}
+use Rattle.std.proofs.Common.{is_some, refl, sym, ◌∙◌, arith, eqb-true}
 use Rattle.std.specs.List.{range_with_len}
 use Rattle.std.specs.Option.{option_map, option_or}
 use Rattle.std.proofs.Math.Nat.{mod-lt}
@@ -66,9 +66,7 @@ next_by law w some =
     let l = lanes_in w in
     let lane : lane_of l (slot_now w) ≡ flags_for (slot_now w) w =
     at_slot (λ (s : ℕ). map (work_for w s).ready lane_order) [] w in
-    law w some
-    ∙ ap₂ (λ (flags : List Bool) (turn : Bool). chosen_by (slot_now w) (first_of (comes_in w) flags) turn (is_left l)
-    (pass_end w - w.clock.time)) lane (told_ready w.records (slot_now w))
+    law w some ∙ rw (lane, told_ready w.records (slot_now w)) refl
 
 -- a time before the earlier of two lies before both
 before_earlier : (time : ℕ) (o : Option ℕ) (other : ℕ) → time < earlier o other
@@ -117,9 +115,7 @@ no_own : (slot : ℕ) (window event : Bool) (lane : List Bool) (turn : Bool) →
 no_own slot window true lane turn no_event none = absurd (cc)
 no_own slot false false lane turn no_event none = refl
 no_own slot true false lane turn no_event none =
-    let both = none refl in
-    ap₂ (λ (o : Option Dev) (b : Bool). option_or (option_map Device o) (if b then Some (Run slot) else None)) both.0
-    both.1
+    let both = none refl in rw (both.0, both.1) refl
 
 module _ (quiet : QuietUntilNext) (turns : WindowsAreInTurn) (w : World) (some : 1 ≤ w.pace.window) where
   -- ticks before the end of a pass: nothing comes in, and no alarm is due nor is the UART free
@@ -145,8 +141,8 @@ module _ (quiet : QuietUntilNext) (turns : WindowsAreInTurn) (w : World) (some :
       let third = before_earlier (w.clock.time + i) (uart_time l (slot_now w)) end second.1 in
       record {
         event = first.0;
-        alarm = subst (λ (o : Option ℕ). IfSome o (λ at. w.clock.time + i < at)) alarm second.0;
-        uart = subst (λ (o : Option ℕ). IfSome o (λ at. w.clock.time + i < at)) uart third.0;
+        alarm = rw alarm at second.0;
+        uart = rw uart at third.0;
         window = third.1;
       }
 
@@ -154,10 +150,11 @@ module _ (quiet : QuietUntilNext) (turns : WindowsAreInTurn) (w : World) (some :
   alarm_waits : (i : ℕ) → InPass i
       → is_some (due_for (Some (slot_now w)) (now_in (later i w)) (owns_in w)) ≡ false
   alarm_waits i pass =
-      ap is_some (ap (λ (now : ℕ). due_for (Some (slot_now w)) now (owns_in w))
-      (sym (on_the_clock w.settings.start w.clock.time i))
-      ∙ quiet (Some (slot_now w)) (now_in w) i (owns_in w)
-      (by_left (left_for (Some (slot_now w)) (now_in w) (owns_in w)) pass.alarm))
+      rw (
+        ← on_the_clock w.settings.start w.clock.time i,
+        quiet (Some (slot_now w)) (now_in w) i (owns_in w)
+            (by_left (left_for (Some (slot_now w)) (now_in w) (owns_in w)) pass.alarm),
+      ) refl
     where
       by_left : (o : Option ℕ) → IfSome (option_map (λ left. w.clock.time + left) o) (λ at. w.clock.time + i < at)
           → IfSome o (λ left. i < left)
@@ -194,7 +191,5 @@ module _ (quiet : QuietUntilNext) (turns : WindowsAreInTurn) (w : World) (some :
       no_own slot (in_own_window slot (later i w)) (comes_in (later i w)) (flags_for slot (later i w))
       (can_run (slice_get w.records slot)) (not_yet (w.clock.time + i) w.devices.arrivals pass.event)
       (λ here.
-      let same : slot_now w ≡ slot = sym stays ∙ eqb-true (window_slot (w.clock.time + i) w.pace.window) slot here in (
-        ap (λ (s : ℕ). first_of false (flags_for s (later i w))) (sym same) ∙ still_none i pass none,
-        ap (λ (s : ℕ). can_run (slice_get w.records s)) (sym same) ∙ ready,
-      ))
+      let same : slot_now w ≡ slot = sym stays ∙ eqb-true (window_slot (w.clock.time + i) w.pace.window) slot here in
+      rw (← same) (still_none i pass none, ready))

@@ -148,17 +148,13 @@ waits_by_asking : (queue : QueueName) → has_waiting queue (asks_to_write appli
     ≡ waits_after queue (has_waiting queue application.own) (Waits Writes ∷ [])
 unfolding counts_of drivers shape_of
 waits_by_asking Writes = refl
-waits_by_asking Reads = refl
-waits_by_asking Randoms = refl
-waits_by_asking Stores = refl
+waits_by_asking _ = refl
 
 waits_once_by_asking : (queue : QueueName)
     → waits_once queue (has_waiting queue application.own) (Waits Writes ∷ []) ≡ true
 unfolding counts_of drivers shape_of
 waits_once_by_asking Writes = refl
-waits_once_by_asking Reads = refl
-waits_once_by_asking Randoms = refl
-waits_once_by_asking Stores = refl
+waits_once_by_asking _ = refl
 
 -- A turn that asks to write; a kernel that keeps the request, and puts the process in no queue.
 keeps_write : KeepsLines 0 application.own (asks_to_write application.own) (Waits Writes ∷ [])
@@ -339,19 +335,11 @@ all_is_done = record { slots = λ slot below. refl; devices = devices; times = t
   where
     devices : (slot : ℕ) (device : Dev) → slot < 16 → device_is_ready idle slot device ≡ false
     devices slot dev.Event below = refl
-    devices slot dev.Alarm below = refl
-    devices slot dev.Uart below = refl
-    devices slot dev.Receive below = refl
-    devices slot dev.Random below = refl
-    devices slot dev.Store below = refl
+    devices slot _ below = refl
 
     times : (slot : ℕ) (device : Dev) → slot < 16 → ready_time idle slot device ≡ None
     times slot dev.Event below = refl
-    times slot dev.Alarm below = refl
-    times slot dev.Uart below = refl
-    times slot dev.Receive below = refl
-    times slot dev.Random below = refl
-    times slot dev.Store below = refl
+    times slot _ below = refl
 
 -- An alarm of slot 1 is to come; a kernel that is done before.
 abbrev with_alarm : LanesView
@@ -370,12 +358,8 @@ ends_at_alarm = record {
 }
   where
     devices : (device : Dev) → ForSome (ready_time with_alarm 1 device) (λ at. 7 ≤ at)
-    devices dev.Event = λ at is. absurd (cc)
     devices dev.Alarm = λ at is. let same : 7 ≡ at = cc in omega (arith, same)
-    devices dev.Uart = λ at is. absurd (cc)
-    devices dev.Receive = λ at is. absurd (cc)
-    devices dev.Random = λ at is. absurd (cc)
-    devices dev.Store = λ at is. absurd (cc)
+    devices _ = λ at is. absurd (cc)
 
 none_past_alarm : EndsInTime with_alarm 1 3 → ⊥
 none_past_alarm ends = let late : 8 ≤ 7 = ends.passes_none.devices dev.Alarm 7 refl in omega (arith, late)

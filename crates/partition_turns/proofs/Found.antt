@@ -6,14 +6,19 @@ use Rattle.tk_base.specs.declared.process.Dev.{Dev}
 use Rattle.tk_base.specs.declared.process.Dev.TheVariants.{Event, Alarm, Uart, Receive, Random, Store}
 use Rattle.partition_turns.specs.LanesView.{LanesView}
 use Rattle.partition_turns.specs.Windows.{device_is_ready, device_order, device_in_window}
+use Rattle.std.proofs.lemmas.Bool.{cases_Bool, true≢false}
+use Rattle.std.proofs.lemmas.Option.{same_Some}
+use Rattle.std.proofs.Common.{inl, inr}
+use Rattle.std.proofs.Common.{Option}
 
 -- what is found passes
 pub find-passes : {X : Type 0} (p : X → Bool) (xs : List X) (x : X) → find p xs ≡ Some x → p x ≡ true
 find-passes p [] x h = absurd (cc)
-find-passes {X} p (y ∷ ys) x h = by (p y) refl (find-passes p ys x) h where
-  by : (b : Bool) → p y ≡ b → (find p ys ≡ Some x → p x ≡ true) → cond b (Some y) (find p ys) ≡ Some x → p x ≡ true
-  by true e others h = let same : y ≡ x = cc in ap p (sym same) ∙ e
-  by false e others h = others h
+find-passes p (y ∷ ys) x h =
+    elim (cases_Bool (p y)) [
+      | inl e ↦ rw (← same_Some y x (rw e at h)) e
+      | inr e ↦ find-passes p ys x (rw e at h)
+    ]
 
 -- one that does not pass is passed over
 pub passes_first : (p : ℕ → Bool) (from n m : ℕ) → n ≡ suc m → p from ≡ false
@@ -28,16 +33,17 @@ find-pass p slot to h f = sym (passes_first p slot (to - slot) (to - (slot + 1))
 pub find_range-none : (p : ℕ → Bool) (from n : ℕ) → is_some (find p (range_with_len from n)) ≡ false → (i : ℕ) → i < n
     → p (from + i) ≡ false
 find_range-none p from zero none i below = absurd (omega (arith, below))
-find_range-none p from (suc n) none i below = by (p from) refl none (find_range-none p (from + 1) n) i below where
-  by : (b : Bool) → p from ≡ b → is_some (cond b (Some from) (find p (range_with_len (from + 1) n))) ≡ false
-      → (is_some (find p (range_with_len (from + 1) n)) ≡ false → (i : ℕ) → i < n → p (from + 1 + i) ≡ false)
-      → (i : ℕ) → i < suc n → p (from + i) ≡ false
-  by true is none rest i below = absurd (grind arith)
-  by false is none rest zero below = let same : from + 0 ≡ from = omega arith in ap p same ∙ is
-  by false is none rest (suc i) below =
-      let same : from + suc i ≡ from + 1 + i = omega arith in
-      let under : i < n = omega (arith, below) in
-      ap p same ∙ rest none i under
+find_range-none p from (suc n) none i below =
+    elim (cases_Bool (p from)) [
+      | inl e ↦ absurd (true≢false (rw e at none))
+      | inr e ↦ by_place i below e (find_range-none p (from + 1) n (rw e at none))
+    ]
+  where
+    by_place : (i : ℕ) → i < suc n → p from ≡ false → ((k : ℕ) → k < n → p (from + 1 + k) ≡ false)
+        → p (from + i) ≡ false
+    by_place zero below is rest = let same : from + 0 ≡ from = omega arith in rw same is
+    by_place (suc k) below is rest =
+        let same : from + suc k ≡ from + 1 + k = omega arith in rw same (rest k (omega (arith, below)))
 
 pub none-find_range : (p : ℕ → Bool) (from n : ℕ) → ((i : ℕ) → i < n → p (from + i) ≡ false)
     → is_some (find p (range_with_len from n)) ≡ false
@@ -56,29 +62,29 @@ pub device_ready : (l : LanesView) (slot : ℕ) (device : Dev) → device_in_win
 unfolding device_in_window
 device_ready l slot device h = find-passes (device_is_ready l slot) device_order device h
 
-none_ready : (p : Dev → Bool) (a b c d e f : Bool) → p Event ≡ a → p Alarm ≡ b → p Uart ≡ c → p Receive ≡ d
-    → p Random ≡ e → p Store ≡ f
-    → cond a (Some Event) (cond b (Some Alarm) (cond c (Some Uart)
-    (cond d (Some Receive) (cond e (Some Random) (cond f (Some Store) None))))) ≡ None
-    → (device : Dev) → p device ≡ false
-none_ready p true b c d e f pa pb pc pd pe pf h device = absurd (cc)
-none_ready p false true c d e f pa pb pc pd pe pf h device = absurd (cc)
-none_ready p false false true d e f pa pb pc pd pe pf h device = absurd (cc)
-none_ready p false false false true e f pa pb pc pd pe pf h device = absurd (cc)
-none_ready p false false false false true f pa pb pc pd pe pf h device = absurd (cc)
-none_ready p false false false false false true pa pb pc pd pe pf h device = absurd (cc)
-none_ready p false false false false false false pa pb pc pd pe pf h Event = pa
-none_ready p false false false false false false pa pb pc pd pe pf h Alarm = pb
-none_ready p false false false false false false pa pb pc pd pe pf h Uart = pc
-none_ready p false false false false false false pa pb pc pd pe pf h Receive = pd
-none_ready p false false false false false false pa pb pc pd pe pf h Random = pe
-none_ready p false false false false false false pa pb pc pd pe pf h Store = pf
-
 pub devices_none : (l : LanesView) (slot : ℕ) → device_in_window l slot ≡ None → (device : Dev)
     → device_is_ready l slot device ≡ false
 unfolding device_in_window
 devices_none l slot h device =
-    none_ready (device_is_ready l slot) _ _ _ _ _ _ refl refl refl refl refl refl h device
+    let event = passed (device_is_ready l slot Event) _ _ h in
+    let alarm = passed (device_is_ready l slot Alarm) _ _ event.1 in
+    let uart = passed (device_is_ready l slot Uart) _ _ alarm.1 in
+    let receive = passed (device_is_ready l slot Receive) _ _ uart.1 in
+    let random = passed (device_is_ready l slot Random) _ _ receive.1 in
+    let store = passed (device_is_ready l slot Store) _ _ random.1 in
+    elim device as (λ d. device_is_ready l slot d ≡ false) [
+      | Event ↦ event.0
+      | Alarm ↦ alarm.0
+      | Uart ↦ uart.0
+      | Receive ↦ receive.0
+      | Random ↦ random.0
+      | Store ↦ store.0
+    ]
+  where
+    passed : (b : Bool) (device : Dev) (rest : Option Dev) → cond b (Some device) rest ≡ None
+        → (b ≡ false) × (rest ≡ None)
+    passed true device rest e = absurd (cc)
+    passed false device rest e = (refl, e)
 
 pub none-devices : (l : LanesView) (slot : ℕ) → ((device : Dev) → device_is_ready l slot device ≡ false)
     → device_in_window l slot ≡ None

@@ -1,6 +1,6 @@
 -- What the next choice is in each case.
 use Rattle.std.proofs.Common.{◌≡◌, ℕ, ◌+◌, ◌-◌, Bool, true, false, cond, Option}
-use Rattle.std.proofs.Common.{None, Some, refl, sym, ap, subst, ◌∙◌, arith}
+use Rattle.std.proofs.Common.{None, Some, refl, subst, arith}
 use Rattle.std.specs.Option.{option_map, option_or}
 use Rattle.tk_base.specs.declared.process.Choice.{Choice}
 use Rattle.tk_base.specs.declared.process.Choice.TheVariants.{Run, Device, Pass}
@@ -99,16 +99,11 @@ alike l m slot c d h left right =
     let to = alike_to l m slot h in
     let time = h.time in
     let ticks : passes_to l slot - l.time ≡ passes_to m slot - m.time = omega (arith, to, time) in
-    let first = ap (λ (o : Option Dev).
-    chosen slot o (slot_is_ready l slot) (is_left m) (passes_to l slot - l.time)) device in
-    let second = ap (λ (b : Bool).
-    chosen slot (device_in_window m slot) b (is_left m) (passes_to l slot - l.time)) ready in
-    let third = ap (λ (t : ℕ). chosen slot (device_in_window m slot) (slot_is_ready m slot) (is_left m) t) ticks in
     same_chosen slot (device_in_window l slot) (slot_is_ready l slot) (is_left l) (is_left m)
-    (passes_to l slot - l.time) c d left (first ∙ second ∙ third ∙ right)
+    (passes_to l slot - l.time) c d left (rw (device, ready, ticks) right)
 
 pub other_slots_decide_nothing : OtherSlotsDecideNothing
 other_slots_decide_nothing l m c d h left right =
     let time = h.time in let n = h.n in
     let same : window_slot m.time m.n ≡ window_slot l.time l.n = rw (time, n) refl in
-    alike l m (window_slot l.time l.n) c d h left (ap (slot_choice m) (sym same) ∙ right)
+    alike l m (window_slot l.time l.n) c d h left (rw (← same) right)

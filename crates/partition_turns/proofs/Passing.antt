@@ -2,7 +2,7 @@
 use Rattle.std.proofs.Common.{◌≡◌, ℕ, ◌+◌, ◌<◌, ◌≤◌, Option, None, Some, refl, arith}
 use Rattle.std.specs.Option.{ForSome}
 use Rattle.tk_base.specs.declared.process.Dev.{Dev}
-use Rattle.tk_base.specs.declared.process.Dev.TheVariants.{Event, Alarm, Uart, Receive, Random, Store}
+use Rattle.tk_base.specs.declared.process.Dev.TheVariants.{Event, Alarm, Uart}
 use Rattle.partition_turns.specs.LanesView.{LanesView, alarm_time, uart_time}
 use Rattle.partition_turns.specs.Windows.{AreAhead, earlier, ready_time, passes_to, device_in_window, window_end}
 use Rattle.partition_turns.specs.Windows.{window_slot}
@@ -46,9 +46,7 @@ module _ (l : LanesView) (slot : ℕ) where
       let second = earlier-second (alarm_time l slot) free in
       let third = earlier-first (uart_time l slot) (window_end l.time l.n) at is in
       omega (arith, first, second, third)
-  to-devices Receive at is = absurd (cc)
-  to-devices Random at is = absurd (cc)
-  to-devices Store at is = absurd (cc)
+  to-devices device at is = absurd (cc)
 
   to-window : to ≤ window_end l.time l.n
   to-window =

@@ -1,17 +1,18 @@
 -- Where nothing is left to do.
-use Rattle.std.proofs.Common.{◌≡◌, ℕ, ◌+◌, ◌-◌, ◌/◌, ◌<◌, Bool, true, false, ◌||◌, find}
+use Rattle.std.proofs.Common.{◌≡◌, ℕ, ◌+◌, ◌-◌, ◌/◌, ◌<◌, Bool, true, false, find}
 use Rattle.std.proofs.Common.{Option, None, Some, is_some, refl, sym, ap, ◌∙◌, arith}
 use Rattle.std.specs.List.{range_with_len}
 use Rattle.std.proofs.Math.Nat.{mod-lt}
 use Rattle.tk_base.specs.declared.limits.TheConstants.{SLOT_COUNT}
 use Rattle.tk_base.specs.declared.process.Dev.{Dev}
-use Rattle.tk_base.specs.declared.process.Dev.TheVariants.{Event, Alarm, Uart, Receive, Random, Store}
+use Rattle.tk_base.specs.declared.process.Dev.TheVariants.{Event, Alarm, Uart}
 use Rattle.partition_turns.specs.LanesView.{LanesView, alarm_time, slot_is_ready, uart_time}
 use Rattle.partition_turns.specs.Windows.{device_in_window, is_left, is_left_in, passes_to}
 use Rattle.partition_turns.specs.Windows.{ready_time, slot_choice, window_slot}
 use Rattle.partition_turns.specs.Laws.{NoneExactlyWhereAllIsDone, AllIsDone}
 use Rattle.partition_turns.proofs.Found.{devices_none, find_range-none, none-devices, none-find_range}
 use Rattle.partition_turns.proofs.Made.{chosen}
+use Rattle.std.proofs.lemmas.Bool.{or_parts, or_from}
 
 -- none of four
 record NoneOf (a b c d : Bool) : Type 0 where
@@ -19,20 +20,6 @@ record NoneOf (a b c d : Bool) : Type 0 where
   two : b ≡ false
   three : c ≡ false
   four : d ≡ false
-
-none_of_four : (a b c d : Bool) → (a || (b || (c || d))) ≡ false → NoneOf a b c d
-none_of_four false false false false is = record { one = refl; two = refl; three = refl; four = refl }
-none_of_four true b c d is = absurd (grind arith)
-none_of_four false true c d is = absurd (grind arith)
-none_of_four false false true d is = absurd (grind arith)
-none_of_four false false false true is = absurd (grind arith)
-
-none_of_two : (a b : Bool) → (a || b) ≡ false → (a ≡ false) × (b ≡ false)
-none_of_two false b is = (refl, is)
-none_of_two true b is = absurd (grind arith)
-
-both_false : (a b : Bool) → a ≡ false → b ≡ false → (a || b) ≡ false
-both_false a b e f = rw (e, f) refl
 
 is_none : {Y : Type 0} (o : Option Y) → is_some o ≡ false → o ≡ None
 is_none None is = refl
@@ -42,13 +29,17 @@ is_none (Some y) is = absurd (grind arith)
 nothing_in : (l : LanesView) (slot : ℕ) → is_left_in l slot ≡ false
     → NoneOf (slot_is_ready l slot) (is_some (device_in_window l slot)) (is_some (alarm_time l slot))
     (is_some (uart_time l slot))
-nothing_in l slot h = none_of_four _ _ _ _ h
+nothing_in l slot h =
+    let one = or_parts _ _ h in
+    let two = or_parts _ _ one.1 in
+    let three = or_parts _ _ two.1 in
+    record { one = one.0; two = two.0; three = three.0; four = three.1 }
 
 nothing_left : (l : LanesView) → is_left l ≡ false → AllIsDone l
 unfolding is_left
 nothing_left l h =
     let both : (is_some l.event_at ≡ false)
-    × (is_some (find (is_left_in l) (range_with_len 0 SLOT_COUNT)) ≡ false) = none_of_two _ _ h in
+    × (is_some (find (is_left_in l) (range_with_len 0 SLOT_COUNT)) ≡ false) = or_parts _ _ h in
     let each : (slot : ℕ) → slot < SLOT_COUNT → is_left_in l slot ≡ false =
     λ slot below. (let same : 0 + slot ≡ slot = omega arith in
     ap (is_left_in l) (sym same) ∙ find_range-none (is_left_in l) 0 SLOT_COUNT both.1 slot below) in
@@ -65,9 +56,7 @@ nothing_left l h =
     times slot event h Event = event
     times slot event h Alarm = is_none _ h.three
     times slot event h Uart = is_none _ h.four
-    times slot event h Receive = refl
-    times slot event h Random = refl
-    times slot event h Store = refl
+    times slot event h device = refl
 
 none_left : (l : LanesView) → AllIsDone l → is_left l ≡ false
 unfolding is_left
@@ -83,7 +72,7 @@ none_left l h =
     let alarm : alarm_time l i ≡ None = h.times i Alarm below in
     let uart : uart_time l i ≡ None = h.times i Uart below in
     ap (is_left_in l) same ∙ rw (ready, device, alarm, uart) refl) in
-    both_false _ _ (ap is_some event) slots
+    or_from _ _ (ap is_some event) slots
 
 none_chosen : (l : LanesView) (slot : ℕ) (device : Option Dev) (ready left : Bool) (ticks : ℕ) → is_left l ≡ left
     → chosen slot device ready left ticks ≡ None → AllIsDone l

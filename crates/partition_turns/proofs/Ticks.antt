@@ -1,6 +1,6 @@
 -- In the window of a slot that is ready each tick is a turn of it.
-use Rattle.std.proofs.Common.{◌≡◌, ℕ, ◌+◌, ◌-◌, ◌*◌, ◌/◌, ◌%◌, ◌==◌, Bool, true, false, cond}
-use Rattle.std.proofs.Common.{[], ◌∷◌, Option, None, Some, refl, sym, ap, eq-eqb, ◌∙◌, arith, div-add-mod'}
+use Rattle.std.proofs.Common.{◌≡◌, ℕ, ◌+◌, ◌-◌, ◌*◌, ◌/◌, ◌%◌, Bool, true, false}
+use Rattle.std.proofs.Common.{[], ◌∷◌, Option, None, Some, refl, ap, eq-eqb, ◌∙◌, arith, div-add-mod'}
 use Rattle.std.proofs.lemmas.List.Elements.{All-tail}
 use Rattle.tk_base.specs.declared.process.Dev.{Dev}
 use Rattle.partition_turns.specs.LanesView.{LanesView, slot_is_ready}
@@ -13,9 +13,7 @@ use Rattle.partition_turns.proofs.Made.{chosen}
 tick_chosen : (slot : ℕ) (device : Option Dev) (ready left : Bool) (ticks : ℕ) → ready ≡ true
     → ticks_of (chosen slot device ready left ticks) ≡ turns_by slot (chosen slot device ready left ticks)
 tick_chosen slot (Some device) ready left ticks is = refl
-tick_chosen slot None true left ticks is =
-    let itself : (slot == slot) ≡ true = eq-eqb slot slot refl in
-    sym (ap (λ (b : Bool). cond b 1 0) itself)
+tick_chosen slot None true left ticks is = rw (eq-eqb slot slot refl)
 tick_chosen slot None false left ticks is = absurd (cc)
 
 tick_in : (l : LanesView) (slot : ℕ) → slot_is_ready l slot ≡ true
@@ -28,8 +26,7 @@ tick_is_turn : (slot n : ℕ) (l : LanesView) → IsInOwnWindow slot n l
     → ticks_of (window_choice l) ≡ turns_by slot (window_choice l)
 tick_is_turn slot n l h =
     let same : window_slot l.time l.n ≡ slot = ap (λ (each : ℕ). window_slot l.time each) h.each ∙ h.window in
-    ap (λ (s : ℕ). ticks_of (slot_choice l s)) same ∙ tick_in l slot h.ready
-    ∙ ap (λ (s : ℕ). turns_by slot (slot_choice l s)) (sym same)
+    rw same (tick_in l slot h.ready)
 
 pub each_tick_is_a_turn : EachTickIsATurn
 each_tick_is_a_turn slot n from to [] leads ready = omega (arith, leads)

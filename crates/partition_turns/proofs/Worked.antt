@@ -3,7 +3,7 @@ use Rattle.std.proofs.Common.{◌≡◌, ℕ, zero, suc, ◌+◌, ◌-◌, true,
 use Rattle.std.proofs.Common.{arith}
 use Rattle.tk_base.specs.declared.process.Choice.{Choice}
 use Rattle.tk_base.specs.declared.process.Choice.TheVariants.{Run, Device, Pass}
-use Rattle.tk_base.specs.declared.process.Dev.TheVariants.{Event, Alarm, Uart, Receive, Random, Store}
+use Rattle.tk_base.specs.declared.process.Dev.TheVariants.{Event, Alarm, Uart}
 use Rattle.partition_turns.specs.LanesView.{LanesView}
 use Rattle.partition_turns.specs.Windows.{AreAhead, device_in_window, is_left, passes_to, slot_choice, window_choice}
 use Rattle.partition_turns.specs.Windows.{window_end, window_slot}
@@ -63,10 +63,7 @@ passes = (refl, refl, refl, refl)
 times_lie_ahead : AreAhead (record idle { alarm_at = None ∷ Some 7 ∷ []; event_at = Some 6 })
 times_lie_ahead Event later at is = let same : 6 ≡ at = cc in omega (arith, same)
 times_lie_ahead Alarm later at is = let same : 7 ≡ at = cc in omega (arith, same)
-times_lie_ahead Uart later at is = absurd (cc)
-times_lie_ahead Receive later at is = absurd (cc)
-times_lie_ahead Random later at is = absurd (cc)
-times_lie_ahead Store later at is = absurd (cc)
+times_lie_ahead device later at is = absurd (cc)
 
 -- Two processes, in slots 0 and 1, that end after so many turns, at a time.
 record Two : Type 0 where

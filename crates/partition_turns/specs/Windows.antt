@@ -23,14 +23,20 @@ window_end time n = (time / n + 1) * n
 abbrev pub device_order : List Dev
 device_order = Event ∷ Alarm ∷ Uart ∷ Receive ∷ Random ∷ Store ∷ []
 
--- whether a device step is ready in the window of a slot: an Event, or one that has work for that slot
+-- the place of a device in that order
+abbrev pub device_place : Dev → ℕ
+device_place Event = 0
+device_place Alarm = 1
+device_place Uart = 2
+device_place Receive = 3
+device_place Random = 4
+device_place Store = 5
+
+-- whether a device step is ready in the window of a slot: an Event, or one that has work for that slot, whose lane has
+-- the devices behind the Event
 abbrev pub device_is_ready : LanesView → ℕ → Dev → Bool
 device_is_ready l slot Event = l.event_ready
-device_is_ready l slot Alarm = slice_index_or (lane_of l slot) 0 false
-device_is_ready l slot Uart = slice_index_or (lane_of l slot) 1 false
-device_is_ready l slot Receive = slice_index_or (lane_of l slot) 2 false
-device_is_ready l slot Random = slice_index_or (lane_of l slot) 3 false
-device_is_ready l slot Store = slice_index_or (lane_of l slot) 4 false
+device_is_ready l slot device = slice_index_or (lane_of l slot) (device_place device - 1) false
 
 -- the first that is
 unfoldable pub device_in_window : LanesView → ℕ → Option Dev
@@ -41,9 +47,7 @@ abbrev pub ready_time : LanesView → ℕ → Dev → Option ℕ
 ready_time l slot Event = l.event_at
 ready_time l slot Alarm = alarm_time l slot
 ready_time l slot Uart = uart_time l slot
-ready_time l slot Receive = None
-ready_time l slot Random = None
-ready_time l slot Store = None
+ready_time l slot device = None
 
 -- whether something is left to do for a slot: it is ready, or a device step is, or its alarm or its UART becomes so
 abbrev pub is_left_in : LanesView → ℕ → Bool

@@ -3,7 +3,7 @@
 -- bytes at a lower kernel break leaves all below it.
 use Rattle.std.proofs.Common.{◌≡◌, ◌≢◌, ◌⊎◌, inl, inr, ◌<◌, ◌≤◌, ℕ, ◌+◌, ◌-◌, ◌==◌, ◌&&◌, ◌||◌, nat_le, nat_lt, Bool}
 use Rattle.std.proofs.Common.{true, false, cond, List, length, take, Option, None, Some, refl, ap, ap₂, sym, ◌∙◌, arith}
-use Rattle.std.specs.Prelude.{IfSome, IsTrue, max, slice_index, slice_set}
+use Rattle.std.specs.Prelude.{IfSome, IsTrue, slice_index, slice_set}
 use Rattle.std.specs.List.{list_any}
 use Rattle.std.proofs.lemmas.Bool.{cases_eq, cases_lt, eqb-true}
 use Rattle.std.proofs.lemmas.Bool.Decides.{nat_tests}
@@ -21,7 +21,7 @@ use Rattle.rv32_model.specs.Laws.{WritesAreListed, WritesArePermitted, stores_at
 use Rattle.process_layout.specs.Bounds.{Bounds}
 use Rattle.process_layout.specs.Interval.{lies_within}
 use Rattle.tk_base.specs.declared.kinds.PairKind.{PairKind}
-use Rattle.tk_base.specs.declared.kinds.PairKind.TheVariants.{Upcall, ReadOnly, ReadWrite, Readable}
+use Rattle.tk_base.specs.declared.kinds.PairKind.TheVariants.{Upcall, ReadOnly}
 use Rattle.tk_base.specs.Kinds.{is_buffer, is_writable}
 use Rattle.grant_model.specs.Grants.{with_pair}
 use Rattle.grant_model.proofs.Costs.{same_costs}
@@ -33,53 +33,36 @@ use Rattle.process_model.specs.Flag.{flag_place, with_flag}
 use Rattle.process_model.specs.Served.{with_written}
 use Rattle.tk_base.specs.Bytes.{over}
 use Rattle.process_model.specs.Changes.{ChangesAt, IsInside, IsWhole, KeepsBytes, OnlyWritesChangeBytes, own_byte}
+use Rattle.std.proofs.lemmas.Bool.{cond_both, or_cases, cases_Bool}
+
+-- what lies before some places or after them is none of them
+apart : (at size k i : ℕ) → (k < at) ⊎ (at + size ≤ k) → i < size → k ≢ at + i
+apart at size k i (inl below) within e = omega arith
+apart at size k i (inr above) within e = omega arith
 
 -- a value that is put changes its own places alone, in a list of any length
 half_other : (xs : List ℕ) (at v k : ℕ) → (k < at) ⊎ (at + 2 ≤ k) → slice_index (put xs at Half v) k ≡ slice_index xs k
 half_other xs at v k side =
-    get_or-set_other (slice_set xs at (byte_of v 0)) (at + 1) k (byte_of v 1) 0 (second side)
-    ∙ get_or-set_other xs at k (byte_of v 0) 0 (first side)
-  where
-    first : (k < at) ⊎ (at + 2 ≤ k) → k ≢ at
-    first (inl below) e = omega arith
-    first (inr above) e = omega arith
-
-    second : (k < at) ⊎ (at + 2 ≤ k) → k ≢ at + 1
-    second (inl below) e = omega arith
-    second (inr above) e = omega arith
+    get_or-set_other (slice_set xs at (byte_of v 0)) (at + 1) k (byte_of v 1) 0 (apart at 2 k 1 side (omega arith))
+    ∙ get_or-set_other xs at k (byte_of v 0) 0 (λ e. apart at 2 k 0 side (omega arith) (omega (arith, e)))
 
 put_other : (xs : List ℕ) (at : ℕ) (width : Width) (v k : ℕ) → (k < at) ⊎ (at + width_bytes width ≤ k)
     → slice_index (put xs at width v) k ≡ slice_index xs k
-put_other xs at Byte v k side = get_or-set_other xs at k (byte_of v 0) 0 (apart side)
-  where
-    apart : (k < at) ⊎ (at + 1 ≤ k) → k ≢ at
-    apart (inl below) e = omega arith
-    apart (inr above) e = omega arith
+put_other xs at Byte v k side =
+    get_or-set_other xs at k (byte_of v 0) 0 (λ e. apart at 1 k 0 side (omega arith) (omega (arith, e)))
 put_other xs at Half v k side = half_other xs at v k side
 put_other xs at Word v k side =
     let half = put xs at Half v in
-    get_or-set_other (slice_set half (at + 2) (byte_of v 2)) (at + 3) k (byte_of v 3) 0 (fourth side)
-    ∙ get_or-set_other half (at + 2) k (byte_of v 2) 0 (third side) ∙ half_other xs at v k (halves side)
-  where
-    third : (k < at) ⊎ (at + 4 ≤ k) → k ≢ at + 2
-    third (inl below) e = omega arith
-    third (inr above) e = omega arith
-
-    fourth : (k < at) ⊎ (at + 4 ≤ k) → k ≢ at + 3
-    fourth (inl below) e = omega arith
-    fourth (inr above) e = omega arith
-
-    halves : (k < at) ⊎ (at + 4 ≤ k) → (k < at) ⊎ (at + 2 ≤ k)
-    halves (inl below) = inl below
-    halves (inr above) = inr (omega arith)
+    get_or-set_other (slice_set half (at + 2) (byte_of v 2)) (at + 3) k (byte_of v 3) 0
+    (apart at 4 k 3 side (omega arith))
+    ∙ get_or-set_other half (at + 2) k (byte_of v 2) 0 (apart at 4 k 2 side (omega arith))
+    ∙ half_other xs at v k (elim side [ inl below ↦ inl below | inr above ↦ inr (omega arith) ])
 
 -- a store that is not denied lies in accessible RAM
 not_denied : (misaligned flash ram : Bool)
     → cond misaligned (Some Misaligned) (cond flash (Some NoWrite) (cond ram None (Some NoRegion))) ≡ None → ram ≡ true
-not_denied true flash ram e = cc
-not_denied false true ram e = cc
 not_denied false false true e = refl
-not_denied false false false e = cc
+not_denied misaligned flash ram e = cc
 
 starts : (from to at size : ℕ) → lies_within from to at size ≡ true → from ≤ at
 starts from to at size e = grind (arith, nat_tests)
@@ -91,18 +74,20 @@ store_starts e at width none =
     (not_denied (is_misaligned Store at width) (lies_within e.flash_start e.flash_end at (width_bytes width))
     (lies_within e.start e.brk at (width_bytes width)) none)
 
+covers : (at a size : ℕ) → at ≤ a → a < at + size → (nat_le at a && nat_lt a (at + size)) ≡ false → ⊥
+covers at a size above under uncovered = grind (arith, nat_tests)
+
 -- what a store does not cover lies before it or after it, also seen from the start of the block
 beside : (start at size a : ℕ) → start ≤ at → start ≤ a → (nat_le at a && nat_lt a (at + size)) ≡ false
     → (a - start < at - start) ⊎ (at - start + size ≤ a - start)
-beside start at size a low from uncovered = by_low (cases_lt a at)
-  where
-    by_high : at ≤ a → (a < at + size) ⊎ (at + size ≤ a) → (a - start < at - start) ⊎ (at - start + size ≤ a - start)
-    by_high above (inl under) = absurd (grind (arith, nat_tests))
-    by_high above (inr past) = inr (omega arith)
-
-    by_low : (a < at) ⊎ (at ≤ a) → (a - start < at - start) ⊎ (at - start + size ≤ a - start)
-    by_low (inl below) = inl (omega arith)
-    by_low (inr above) = by_high above (cases_lt a (at + size))
+beside start at size a low from uncovered =
+    elim (cases_lt a at) [
+      | inl below ↦ inl (omega arith)
+      | inr above ↦ elim (cases_lt a (at + size)) [
+        | inl under ↦ absurd (covers at a size above under uncovered)
+        | inr past ↦ inr (omega arith)
+      ]
+    ]
 
 module _ (listed : WritesAreListed) (permitted : WritesArePermitted) (own : Own) (seen : ℕ → ℕ) (regs : Registers) where
   abbrev turn : UserTurn
@@ -120,16 +105,14 @@ module _ (listed : WritesAreListed) (permitted : WritesArePermitted) (own : Own)
       → (slice_index (ram_after own.layout.start w own.ram) (a - own.layout.start) ≡ own_byte own a) ⊎ Stored a
   unfolding ram_after
   by_write a from None lists may = inl refl
-  by_write a from (Some w) lists may = by_cover (stores_at a (touch_of Store w.address w.width)) refl
-    where
-      by_cover : (b : Bool) → stores_at a (touch_of Store w.address w.width) ≡ b
-          → (slice_index (put own.ram (w.address - own.layout.start) w.width w.value) (a - own.layout.start)
-          ≡ own_byte own a) ⊎ Stored a
-      by_cover true covers = inr (lists.0, lists.1 a covers)
-      by_cover false covers =
-          inl (put_other own.ram (w.address - own.layout.start) w.width w.value (a - own.layout.start)
-          (beside own.layout.start w.address (width_bytes w.width) a (store_starts own.layout w.address w.width may)
-          from covers))
+  by_write a from (Some w) lists may =
+      elim (cases_Bool (stores_at a (touch_of Store w.address w.width))) [
+        | inl covered ↦ inr (lists.0, lists.1 a covered)
+        | inr uncovered ↦
+            inl (put_other own.ram (w.address - own.layout.start) w.width w.value (a - own.layout.start)
+            (beside own.layout.start w.address (width_bytes w.width) a (store_starts own.layout w.address w.width may)
+            from uncovered))
+      ]
 
   changes_instruction : ChangesAt Stored own (with_write own turn)
   changes_instruction a before after =
@@ -138,24 +121,17 @@ module _ (listed : WritesAreListed) (permitted : WritesArePermitted) (own : Own)
 -- a flag is one byte
 changes_flag : (place byte : ℕ) (own : Own)
     → ChangesAt (λ at. flag_place place own ≡ Some at) own (with_flag place byte own)
-changes_flag place byte own a before after = by_place (lies_in_ram own.layout place 1) refl
-  where
-    by_address : own.layout.start ≤ place → (a ≡ place) ⊎ (a ≢ place)
-        → (slice_index (slice_set own.ram (place - own.layout.start) byte) (a - own.layout.start) ≡ own_byte own a)
-        ⊎ (◌≡◌ {A = Option ℕ} (Some place) (Some a))
-    by_address low (inl same) = inr (ap Some (sym same))
-    by_address low (inr apart) =
-        inl (get_or-set_other own.ram (place - own.layout.start) (a - own.layout.start) byte 0
-        (λ e. apart (same_place own.layout.start place a low before.0 e)))
-      where
-        same_place : (start place a : ℕ) → start ≤ place → start ≤ a → a - start ≡ place - start → a ≡ place
-        same_place start place a low from e = omega arith
-
-    by_place : (b : Bool) → lies_in_ram own.layout place 1 ≡ b
-        → (own_byte (cond b (record own { ram = slice_set own.ram (place - own.layout.start) byte }) own) a
-        ≡ own_byte own a) ⊎ (cond b (Some place) None ≡ Some a)
-    by_place true lies = by_address (starts own.layout.start own.layout.brk place 1 lies) (cases_eq a place)
-    by_place false lies = inl refl
+changes_flag place byte own a before after =
+    elim (cases_Bool (lies_in_ram own.layout place 1)) [
+      | inr outside ↦ rw outside (inl refl)
+      | inl lies ↦ elim (cases_eq a place) [
+        | inl same ↦ rw lies (inr (ap Some (sym same)))
+        | inr apart ↦
+            let low = starts own.layout.start own.layout.brk place 1 lies in
+            rw lies (inl (get_or-set_other own.ram (place - own.layout.start) (a - own.layout.start) byte 0
+            (λ e. apart (omega (arith, low, before.0, e)))))
+      ]
+    ]
 
 -- bytes that are written over others change their own places alone, wherever they stand
 over_other : (xs ys : List ℕ) (p k : ℕ) → k < length xs → (k < p) ⊎ (p + length ys ≤ k)
@@ -164,69 +140,52 @@ over_other xs ys p k within (inl below) = grind (arith, places)
 over_other xs ys p k within (inr above) = grind (arith, places)
 
 over_nothing : (xs : List ℕ) (p n : ℕ) (ys : List ℕ) → n ≡ 0 → over xs p (take n ys) ≡ xs
-over_nothing xs p n ys none = ap (λ (m : ℕ). over xs p (take m ys)) none ∙ take-append-drop p xs
+over_nothing xs p n ys none = rw none (take-append-drop p xs)
 
 -- those that fit a buffer stand inside of it
 written_at : (ram bytes : List ℕ) (start from size offset a : ℕ) → (0 < size → start ≤ from) → start ≤ a
     → a < start + length ram
     → (slice_index (over ram (from - start + offset) (take (size - offset) bytes)) (a - start)
     ≡ slice_index ram (a - start)) ⊎ ((from ≤ a) × (a < from + size))
-written_at ram bytes start from size offset a lies low high = by_room (cases_lt offset size)
-  where
-    others : List ℕ
-    others = take (size - offset) bytes
-
-    short : length others ≤ size - offset
-    short = omega (arith, length-take (size - offset) bytes)
-
-    by_end : offset < size → from ≤ a → (a < from + size) ⊎ (from + size ≤ a)
-        → (slice_index (over ram (from - start + offset) others) (a - start) ≡ slice_index ram (a - start))
-        ⊎ ((from ≤ a) × (a < from + size))
-    by_end room above (inl under) = inr (above, under)
-    by_end room above (inr past) =
-        let first : start ≤ from = lies (omega arith) in
-        inl (over_other ram others (from - start + offset) (a - start) (omega arith) (inr (omega (arith, short))))
-
-    by_start : offset < size → (a < from) ⊎ (from ≤ a)
-        → (slice_index (over ram (from - start + offset) others) (a - start) ≡ slice_index ram (a - start))
-        ⊎ ((from ≤ a) × (a < from + size))
-    by_start room (inl below) =
-        inl (over_other ram others (from - start + offset) (a - start) (omega arith) (inl (omega arith)))
-    by_start room (inr above) = by_end room above (cases_lt a (from + size))
-
-    by_room : (offset < size) ⊎ (size ≤ offset)
-        → (slice_index (over ram (from - start + offset) others) (a - start) ≡ slice_index ram (a - start))
-        ⊎ ((from ≤ a) × (a < from + size))
-    by_room (inl room) = by_start room (cases_lt a from)
-    by_room (inr full) =
-        inl (ap (λ (xs : List ℕ). slice_index xs (a - start))
-        (over_nothing ram (from - start + offset) (size - offset) bytes (omega arith)))
+written_at ram bytes start from size offset a lies low high =
+    let others = take (size - offset) bytes in
+    let short = length-take (size - offset) bytes in
+    elim (cases_lt offset size) [
+      | inr full ↦
+          inl (ap (λ (xs : List ℕ). slice_index xs (a - start))
+          (over_nothing ram (from - start + offset) (size - offset) bytes (omega arith)))
+      | inl room ↦ let first : start ≤ from = lies (omega arith) in elim (cases_lt a from) [
+        | inl below ↦
+            inl (over_other ram others (from - start + offset) (a - start) (omega arith) (inl (omega arith)))
+        | inr above ↦ elim (cases_lt a (from + size)) [
+          | inl under ↦ inr (above, under)
+          | inr past ↦
+              inl (over_other ram others (from - start + offset) (a - start) (omega arith)
+              (inr (omega (arith, short))))
+        ]
+      ]
+    ]
 
 -- a buffer that the kernel may write has no bytes, or lies in accessible RAM
 pub keeps_in_ram : (kind : PairKind) (e : Bounds) (buffer : ℕ × ℕ) → IsTrue (is_writable kind)
     → IsTrue (may_keep kind e buffer) → (buffer.1 == 0 || lies_in_ram e buffer.0 buffer.1) ≡ true
 keeps_in_ram Upcall e buffer can may = absurd (cc)
 keeps_in_ram ReadOnly e buffer can may = absurd (cc)
-keeps_in_ram ReadWrite e buffer can may = may
-keeps_in_ram Readable e buffer can may = may
+keeps_in_ram kind e buffer can may = may
 
 -- a pair of zeros may be kept, whatever its kind
 pub keeps_none : (kind : PairKind) (e : Bounds) → IsTrue (may_keep kind e (0, 0))
 keeps_none Upcall e = refl
-keeps_none ReadOnly e = refl
-keeps_none ReadWrite e = refl
-keeps_none Readable e = refl
+keeps_none kind e = refl
 
 -- such a buffer with bytes begins in the block
 begins : (e : Bounds) (buffer : ℕ × ℕ) → (buffer.1 == 0 || lies_in_ram e buffer.0 buffer.1) ≡ true → 0 < buffer.1
     → e.start ≤ buffer.0
-begins e buffer may some = by_size (buffer.1 == 0) (lies_in_ram e buffer.0 buffer.1) refl refl may
-  where
-    by_size : (none ram : Bool) → (buffer.1 == 0) ≡ none → lies_in_ram e buffer.0 buffer.1 ≡ ram → (none || ram) ≡ true
-        → e.start ≤ buffer.0
-    by_size true ram is lies may = let zero_is : buffer.1 ≡ 0 = eqb-true buffer.1 0 is in omega arith
-    by_size false true is lies may = starts e.start e.brk buffer.0 buffer.1 lies
-    by_size false false is lies may = absurd (cc)
+begins e buffer may some =
+    elim (or_cases (buffer.1 == 0) (lies_in_ram e buffer.0 buffer.1) may) [
+      | inl none ↦ absurd (omega (arith, eqb-true buffer.1 0 none, some))
+      | inr lies ↦ starts e.start e.brk buffer.0 buffer.1 lies
+    ]
 
 changes_written : (kind : PairKind) (driver number offset : ℕ) (bytes : List ℕ) (own : Own) → IsTrue (is_writable kind)
     → IsWhole own → ChangesAt (IsInside (held kind driver number own)) own
@@ -251,19 +210,13 @@ abbrev Stays : Bounds → Bounds → Type 0
 Stays e f = (f.start ≡ e.start) × (f.end ≡ e.end)
 
 raised_stays : (pair : ℕ × ℕ) (e : Bounds) → Stays e (raised pair e)
-raised_stays pair e = by_tests (pair.1 == 0) (lies_in_ram e pair.0 pair.1)
-  where
-    by_tests : (none ram : Bool) → Stays e (cond none e (cond ram (record e { mark = max e.mark (pair.0 + pair.1) }) e))
-    by_tests true ram = (refl, refl)
-    by_tests false true = (refl, refl)
-    by_tests false false = (refl, refl)
+raised_stays pair e =
+    cond_both (pair.1 == 0) e _ (Stays e) (λ none. (refl, refl))
+    (λ some. cond_both (lies_in_ram e pair.0 pair.1) _ e (Stays e) (λ lies. (refl, refl)) (λ past. (refl, refl)))
 
 marked_stays : (kind : PairKind) (pair : ℕ × ℕ) (e : Bounds) → Stays e (marked kind pair e)
-marked_stays kind pair e = by_test (is_buffer kind)
-  where
-    by_test : (b : Bool) → Stays e (cond b (raised pair e) e)
-    by_test true = raised_stays pair e
-    by_test false = (refl, refl)
+marked_stays kind pair e =
+    cond_both (is_buffer kind) _ e (Stays e) (λ b. raised_stays pair e) (λ b. (refl, refl))
 
 keeps_entering : (driver : ℕ) (own : Own) → KeepsBytes own (own_entering driver own)
 keeps_entering driver own =

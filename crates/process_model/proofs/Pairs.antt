@@ -1,15 +1,14 @@
 -- The pairs that a process has handed, once what is its own has changed. A change of a driver's grant changes what is
 -- found for that driver alone, by induction on the grants (`at`); a value kept or a driver entered leaves all pairs,
 -- and to hand one changes that place, by the law that pairs stand by kind.
-use Rattle.std.proofs.Common.{◌≡◌, ◌≢◌, ◌<◌, ℕ, ◌-◌, ◌==◌, Bool, true, false, cond, List, [], ◌∷◌, length}
+use Rattle.std.proofs.Common.{◌≡◌, ◌≢◌, ◌<◌, ℕ, ◌==◌, Bool, true, false, cond, List, [], ◌∷◌, length}
 use Rattle.std.proofs.Common.{Option, None, Some, is_some, IfSome, refl, ap, sym, subst, ◌∙◌, eqb-true, eq-eqb, ne_eqb}
-use Rattle.std.specs.Prelude.{slice_set}
 use Rattle.std.specs.Option.{option_map}
 use Rattle.std.proofs.lemmas.Bool.{false≢true}
 use Rattle.tk_base.specs.declared.kinds.PairKind.{PairKind}
 use Rattle.tk_base.specs.Kinds.{count_of, pair_count}
 use Rattle.grant_values.specs.Values.{KeptValue}
-use Rattle.grant_model.specs.Grants.{Grant, HasPairs, entered, entering as entering_with, fresh, grant_of, pair_of}
+use Rattle.grant_model.specs.Grants.{Grant, HasPairs, entered, fresh, grant_of, pair_of}
 use Rattle.grant_model.specs.Grants.{shape_of, with_grant, with_pair, with_value}
 use Rattle.grant_model.specs.Laws.{PairsStandByKind}
 use Rattle.process_model.specs.Own.{Own}
@@ -17,87 +16,65 @@ use Rattle.process_model.specs.Handed.{own_entering, handing, held, lies_in_ram}
 use Rattle.process_model.specs.Served.{own_scheduled, with_kept}
 use Rattle.process_model.specs.Flag.{with_flag}
 use Rattle.process_model.specs.Pairs.{HandsNone, HandsOne, HandsTheSame, HasShape, OnlyHandingChangesPairs, pairs_in}
+use Rattle.std.proofs.lemmas.Bool.{cond_both, cases_eq, cases_Bool, ne_eqb}
+use Rattle.std.proofs.Common.{inl, inr, ◌⊎◌}
+
+-- an option is none, or something
+cases_Option : {X : Type 0} (o : Option X) → (o ≡ None) ⊎ ((x : X) × (o ≡ Some x))
+cases_Option None = inl refl
+cases_Option (Some x) = inr (x, refl)
 
 -- a change that leaves the grant its driver's changes the grant of that driver alone
 pub at : (driver other : ℕ) (change : Grant → Grant) (gs : List Grant) → ((g : Grant) → (change g).driver ≡ g.driver)
     → grant_of other (with_grant driver change gs)
     ≡ cond (driver == other) (option_map change (grant_of other gs)) (grant_of other gs)
-at driver other change [] stays = by_test (driver == other)
-  where
-    by_test : (b : Bool) → ◌≡◌ {A = Option Grant} None (cond b None None)
-    by_test true = refl
-    by_test false = refl
-at driver other change (g ∷ gs) stays = by_test (g.driver == driver) refl (at driver other change gs stays)
-  where
-    before : Option Grant
-    before = grant_of other gs
-
-    -- by whether the grant at hand is the other driver's
-    here : (b : Bool)
-        → cond b (Some (change g)) before ≡ cond b (option_map change (cond b (Some g) before)) (cond b (Some g) before)
-    here true = refl
-    here false = refl
-
-    passed : (b : Bool) → (g.driver == driver) ≡ false → (g.driver == other) ≡ b
-        → grant_of other (with_grant driver change gs) ≡ cond (driver == other) (option_map change before) before
-        → cond b (Some g) (grant_of other (with_grant driver change gs))
-        ≡ cond (driver == other) (option_map change (cond b (Some g) before)) (cond b (Some g) before)
-    passed true apart same later =
-        let e : g.driver ≡ other = eqb-true g.driver other same in
-        let not_it : (driver == other) ≡ false =
-        ne_eqb driver other (λ d. false≢true (sym apart ∙ eq-eqb g.driver driver (e ∙ sym d))) in
-        ap (λ (b : Bool). cond b (Some (change g)) (Some g)) (sym not_it)
-    passed false apart same later = later
-
-    by_test : (b : Bool) → (g.driver == driver) ≡ b
-        → grant_of other (with_grant driver change gs) ≡ cond (driver == other) (option_map change before) before
-        → grant_of other (cond b (change g ∷ gs) (g ∷ with_grant driver change gs))
-        ≡ cond (driver == other) (option_map change (cond (g.driver == other) (Some g) before))
-        (cond (g.driver == other) (Some g) before)
-    by_test true e later =
-        ap (λ (d : ℕ). cond (d == other) (Some (change g)) before) (stays g) ∙ here (g.driver == other)
-        ∙ ap (λ (d : ℕ). cond (d == other) (option_map change (cond (g.driver == other) (Some g) before))
-        (cond (g.driver == other) (Some g) before)) (eqb-true g.driver driver e)
-    by_test false e later = passed (g.driver == other) e refl later
+at driver other change [] stays = cond_both (driver == other) _ _ (λ o. None ≡ o) (λ e. refl) (λ e. refl)
+at driver other change (g ∷ gs) stays =
+    elim (cases_eq g.driver driver) [
+      | inl here ↦
+          let tests : ((change g).driver == other) ≡ (g.driver == other) = rw (stays g) in
+          elim (cases_Bool (g.driver == other)) [
+            | inl e ↦ rw (eq-eqb g.driver driver here, tests, ← here, e)
+            | inr e ↦ rw (eq-eqb g.driver driver here, tests, ← here, e)
+          ]
+      | inr gone ↦ elim (cases_eq g.driver other) [
+        | inl is ↦ rw (
+          ne_eqb g.driver driver gone,
+          eq-eqb g.driver other is,
+          ne_eqb driver other (λ d. gone (is ∙ sym d)),
+        )
+        | inr apart ↦ rw (ne_eqb g.driver driver gone, ne_eqb g.driver other apart) (at driver other change gs stays)
+      ]
+    ]
 
 -- another value leaves the pairs
 keeping : (driver : ℕ) (value : KeptValue) (own : Own) → HandsTheSame own (with_kept driver value own)
 keeping driver value own = record {
-  pairs = λ other. ap (pairs_in other) (at driver other (with_value value) own.grants (λ g. refl))
-      ∙ valued other (driver == other) (grant_of other own.grants);
+  pairs = λ other. rw (at driver other (with_value value) own.grants (λ g. refl))
+      (cond_both (driver == other) _ (grant_of other own.grants)
+      (λ o. pairs_in other o ≡ pairs_in other (grant_of other own.grants))
+      (λ e. elim (grant_of other own.grants)
+      as (λ o. pairs_in other (option_map (with_value value) o) ≡ pairs_in other o) [ None ↦ refl | Some g ↦ refl ])
+      (λ e. refl));
 }
-  where
-    valued : (other : ℕ) (b : Bool) (found : Option Grant)
-        → pairs_in other (cond b (option_map (with_value value) found) found) ≡ pairs_in other found
-    valued other false found = refl
-    valued other true None = refl
-    valued other true (Some g) = refl
 
 -- a driver that is entered has a grant: its own of before, or a fresh one
-made_fresh : (driver : ℕ) (gs : List Grant) (other : ℕ) (b : Bool) → (driver == other) ≡ b → grant_of driver gs ≡ None
-    → pairs_in other (cond b (Some (fresh driver)) (grant_of other gs)) ≡ pairs_in other (grant_of other gs)
-made_fresh driver gs other true e none =
-    let same : driver ≡ other = eqb-true driver other e in
-    ap (λ (d : ℕ). (fresh d).pairs) same ∙ ap (pairs_in other) (sym none ∙ ap (λ (d : ℕ). grant_of d gs) same)
-made_fresh driver gs other false e none = refl
-
 entering_same : (driver : ℕ) (own : Own) → HandsTheSame own (own_entering driver own)
-entering_same driver own = record { pairs = λ other. by_grant other (grant_of driver own.grants) refl }
-  where
-    by_grant : (other : ℕ) (found : Option Grant) → grant_of driver own.grants ≡ found
-        → pairs_in other (grant_of other (entering_with driver own.grants found))
-        ≡ pairs_in other (grant_of other own.grants)
-    by_grant other None e = made_fresh driver own.grants other (driver == other) refl e
-    by_grant other (Some g) e = refl
+entering_same driver own = record {
+  pairs = λ other. elim (cases_Option (grant_of driver own.grants)) [
+    | inl none ↦ elim (cases_eq driver other) [
+      | inl same ↦ let gone : grant_of other own.grants ≡ None = rw (← same) none in
+          rw (none, same, eq-eqb other other refl, gone)
+      | inr apart ↦ rw (none, ne_eqb driver other apart)
+    ]
+    | inr is ↦ rw is.1
+  ];
+}
 
 is_there : (driver : ℕ) (gs : List Grant) → is_some (grant_of driver (entered driver gs)) ≡ true
-is_there driver gs = by_grant (grant_of driver gs) refl
-  where
-    by_grant : (found : Option Grant) → grant_of driver gs ≡ found
-        → is_some (grant_of driver (entering_with driver gs found)) ≡ true
-    by_grant None e =
-        ap (λ (b : Bool). is_some (cond b (Some (fresh driver)) (grant_of driver gs))) (eq-eqb driver driver refl)
-    by_grant (Some g) e = ap is_some e
+is_there driver gs =
+    elim (cases_Option (grant_of driver gs))
+    [ inl none ↦ rw (none, eq-eqb driver driver refl) | inr is ↦ rw (is.1, is.1) ]
 
 -- the grant that is found of a driver is that driver's
 abbrev IsOf : ℕ → Option Grant → Type 0
@@ -105,12 +82,8 @@ IsOf driver found = IfSome found (λ g. g.driver ≡ driver)
 
 is_of : (driver : ℕ) (gs : List Grant) → IsOf driver (grant_of driver gs)
 is_of driver [] = tt
-is_of driver (g ∷ gs) = by_test (g.driver == driver) refl (is_of driver gs)
-  where
-    by_test : (b : Bool) → (g.driver == driver) ≡ b → IsOf driver (grant_of driver gs)
-        → IsOf driver (cond b (Some g) (grant_of driver gs))
-    by_test true e later = eqb-true g.driver driver e
-    by_test false e later = later
+is_of driver (g ∷ gs) =
+    cond_both (g.driver == driver) (Some g) _ (IsOf driver) (λ e. eqb-true g.driver driver e) (λ e. is_of driver gs)
 
 -- so it has its pairs, where a process has as many as it should
 has_pairs : (driver : ℕ) (g : Grant) → g.driver ≡ driver → length g.pairs ≡ pair_count (shape_of driver) → HasPairs g
@@ -219,12 +192,8 @@ same_grants own o same =
     record { pairs = λ driver. ap (λ (gs : List Grant). pairs_in driver (grant_of driver gs)) same }
 
 flagged_same : (at byte : ℕ) (own : Own) → (with_flag at byte own).grants ≡ own.grants
-flagged_same at byte own = by_place (lies_in_ram own.layout at 1)
-  where
-    by_place : (b : Bool)
-        → (cond b (record own { ram = slice_set own.ram (at - own.layout.start) byte }) own).grants ≡ own.grants
-    by_place true = refl
-    by_place false = refl
+flagged_same at byte own =
+    cond_both (lies_in_ram own.layout at 1) _ own (λ (o : Own). o.grants ≡ own.grants) (λ e. refl) (λ e. refl)
 
 pub only_handing_changes_pairs : PairsStandByKind → OnlyHandingChangesPairs
 only_handing_changes_pairs law = record {

@@ -16,7 +16,7 @@ use Rattle.tk_base.specs.Bytes.{over}
 use Rattle.swap_tables.specs.declared.handover.Handover.{Handover}
 use Rattle.grant_model.specs.Grants.{Grant, costs, grant_of}
 use Rattle.grant_model.proofs.Costs.{kernel_costs}
-use Rattle.grant_model.specs.Encoding.{EncodesGrants, Tells, decode_grants}
+use Rattle.grant_model.specs.Encoding.{EncodesGrants, decode_grants}
 use Rattle.process_layout.specs.Ordered.{IsOrdered}
 use Rattle.grant_region.specs.Region.{AreParts, Leaves, Parts, below, above, roomed}
 use Rattle.swap_tables.specs.Swaps.{Swaps, held_pair, with_swapped_pair}
@@ -24,6 +24,16 @@ use Rattle.process_seat.specs.Places.{FitsMemory}
 use Rattle.process_seat.specs.Windows.{SameOutside}
 use Rattle.process_seat.specs.Seats.{IsKept, Regrants, SwapsIn, app_in, kernel_in}
 use Rattle.process_seat.proofs.Windows.{length_window, over_outside, over_part}
+
+-- what was written over memory, where it fits
+pub run_is : (m : MemoryBytes) (from : ℕ) (ys : List ℕ) → from - RAM_START + length ys ≤ length m.ram
+    → with_run m from ys ≡ record m { ram = over m.ram (from - RAM_START) ys }
+run_is m from ys fits =
+    let zs = over m.ram (from - RAM_START) ys in
+    let long : length zs ≡ length m.ram = (over_outside m.ram ys (from - RAM_START) fits).long in
+    ap (λ (xs : List ℕ). record m { ram = xs })
+    (take-append-le (length m.ram) zs (drop (length zs) m.ram) (omega arith)
+    ∙ take_all (length m.ram) zs (omega arith))
 
 front_part : (xs : List ℕ) (a b c : ℕ) → a ≤ b → b ≤ c → c ≤ length xs
     → take (b - a) (slice_range xs a c) ≡ slice_range xs a b
@@ -96,7 +106,7 @@ module _ (m : MemoryBytes) (e : LayoutView) (s : FitsMemory (length m.flash) (le
       record {
         size = ap length (lent.app ∙ lent_app) ∙ length_app
             ∙ ap (λ (x : LayoutView). x.kernel_break - x.start) (sym lent.layout);
-        laid = subst EncodesGrants (sym (lent.kernel ∙ lent_kernel)) kept.laid;
+        laid = rw (lent.kernel, lent_kernel) kept.laid;
         small = omega (arith, s.fits);
       }
 
@@ -106,12 +116,7 @@ module _ (m : MemoryBytes) (e : LayoutView) (s : FitsMemory (length m.flash) (le
     fits = omega (arith, s.to, s.from, s.ordered.block, s.ordered.grants, s.ordered.end)
 
     whole : with_run m e.start bytes ≡ record m { ram = over m.ram (e.start - RAM_START) bytes }
-    whole =
-        let ys = over m.ram (e.start - RAM_START) bytes in
-        let long : length ys ≡ length m.ram = (over_outside m.ram bytes (e.start - RAM_START) fits).long in
-        ap (λ (xs : List ℕ). record m { ram = xs })
-        (take-append-le (length m.ram) ys (drop (length ys) m.ram) (omega arith)
-        ∙ take_all (length m.ram) ys (omega arith))
+    whole = run_is m e.start bytes fits
 
     pub run_flash : (with_run m e.start bytes).flash ≡ m.flash
     run_flash = refl
@@ -120,8 +125,7 @@ module _ (m : MemoryBytes) (e : LayoutView) (s : FitsMemory (length m.flash) (le
     run_elsewhere =
         subst (λ (xs : List ℕ). SameOutside (e.start - RAM_START) (e.end - RAM_START) m.ram xs)
         (sym (ap (λ (x : MemoryBytes). x.ram) whole))
-        (subst (λ (n : ℕ). SameOutside (e.start - RAM_START) n m.ram (over m.ram (e.start - RAM_START) bytes)) ends
-        (over_outside m.ram bytes (e.start - RAM_START) fits))
+        (rw ends at (over_outside m.ram bytes (e.start - RAM_START) fits))
       where
         ends : e.start - RAM_START + length bytes ≡ e.end - RAM_START
         ends = omega (arith, s.from, s.ordered.block, s.ordered.grants, s.ordered.end)
@@ -172,8 +176,7 @@ module _ (m : MemoryBytes) (e : LayoutView) (s : FitsMemory (length m.flash) (le
         flash = refl;
         elsewhere = run_elsewhere bytes size;
         app = run_app bytes size f ends.start high ∙ left.own ∙ ap (below f) (lent.app ∙ lent_app);
-        tells = subst (λ (xs : List ℕ). Tells xs gs) (sym (run_kernel bytes size f ends.start ends.end low high))
-            left.tells;
+        tells = rw (run_kernel bytes size f ends.start ends.end low high) left.tells;
       }
 
   -- two parts that were left as a block with room for a driver's grant

@@ -3,10 +3,10 @@
 -- of memory; one that may only be read lies there or in flash.
 use Rattle.std.proofs.Common.{◌≡◌, ℕ, zero, suc, ◌+◌, ◌-◌, ◌<◌, ◌≤◌, ◌^◌, ◌==◌, ◌||◌, IsTrue, Bool, true, false, cond}
 use Rattle.std.proofs.Common.{List, [], ◌∷◌, length, map, take, drop, Option, None, Some, refl, sym, ap, subst, ◌∙◌}
-use Rattle.std.proofs.Common.{rules, arith}
+use Rattle.std.proofs.Common.{rules, arith, inl, inr}
 use Rattle.std.specs.Prelude.{slice_range, slice_index, slice_index_or}
 use Rattle.std.specs.List.{AllByRecursion, range_with_len}
-use Rattle.std.proofs.lemmas.Bool.{eqb-true}
+use Rattle.std.proofs.lemmas.Bool.{eqb-true, cases_Bool}
 use Rattle.std.proofs.lemmas.Bool.Decides.{nat_tests}
 use Rattle.std.proofs.lemmas.Grind.{same_number_lists}
 use Rattle.std.proofs.lemmas.List.{length-take, length-drop, places}
@@ -16,7 +16,7 @@ use Rattle.process_layout.specs.LayoutView.{LayoutView}
 use Rattle.process_layout.specs.Bounds.{Bounds, bounds_of}
 use Rattle.process_layout.specs.Interval.{lies_within}
 use Rattle.tk_base.specs.declared.kinds.PairKind.{PairKind}
-use Rattle.tk_base.specs.declared.kinds.PairKind.TheVariants.{Upcall, ReadOnly, ReadWrite, Readable}
+use Rattle.tk_base.specs.declared.kinds.PairKind.TheVariants.{Upcall, ReadOnly}
 use Rattle.tk_base.specs.Kinds.{is_writable}
 use Rattle.grant_model.specs.Grants.{Grant, grant_of, pair_of}
 use Rattle.board_memory.specs.Memory.{MemoryBytes, ram_between}
@@ -26,20 +26,18 @@ use Rattle.process_model.specs.Served.{bytes_at, ram_at}
 use Rattle.process_seat.specs.declared.seat.Seat.{Seat}
 use Rattle.process_seat.specs.Buffers.{buffer_start, last_of}
 use Rattle.process_seat.specs.Places.{FitsMemory}
-use Rattle.process_seat.proofs.Holding.{lies_zero, wider}
+use Rattle.process_seat.proofs.Holding.{lies_zero}
 use Rattle.process_seat.specs.Seats.{Holds, SitsIn, LiesBelowMark, LiesInPlace, MayBeRead, app_in, readable_bytes}
 use Rattle.process_seat.specs.Seats.{own_in}
-
-all_by : (P : Grant → Type 0) (driver : ℕ) (g x : Grant) (gs : List Grant) (b : Bool) → P x
-    → cond b (Some x) (grant_of driver gs) ≡ Some g → (grant_of driver gs ≡ Some g → P g) → P g
-all_by P driver g x gs true p is on = let same : x ≡ g = cc in subst P same p
-all_by P driver g x gs false p is on = on is
 
 -- what holds of all grants holds of a driver's
 pub all_of : (P : Grant → Type 0) (driver : ℕ) (g : Grant) (gs : List Grant) → AllByRecursion P gs
     → grant_of driver gs ≡ Some g → P g
 all_of P driver g [] all is = absurd (cc)
-all_of P driver g (x ∷ gs) all is = all_by P driver g x gs (x.driver == driver) all.0 is (all_of P driver g gs all.1)
+all_of P driver g (x ∷ gs) all is = elim (cases_Bool (x.driver == driver)) [
+  | inl e ↦ let now = rw e at is in let same : x ≡ g = cc in subst P same all.0
+  | inr e ↦ all_of P driver g gs all.1 (rw e at is)
+]
 
 pub pair_at : (P : ℕ × ℕ → Type 0) (ps : List (ℕ × ℕ)) (n : ℕ) → P (0, 0) → AllByRecursion P ps
     → P (slice_index_or ps n (0, 0))
@@ -57,8 +55,7 @@ pub below_mark : (kind : PairKind) (e : Bounds) (pair : ℕ × ℕ) → IsTrue (
     → LiesBelowMark e pair
 below_mark Upcall e pair can lies = absurd (cc)
 below_mark ReadOnly e pair can lies = absurd (cc)
-below_mark ReadWrite e pair can lies = lies
-below_mark Readable e pair can lies = lies
+below_mark other e pair can lies = lies
 
 module _ (m : MemoryBytes) (seat : Seat) (t : SitsIn m seat) (kind : PairKind) (driver n : ℕ) where
   pub lies_held : LiesInPlace kind (bounds_of seat.layout) (held kind driver n (own_in m.ram seat))
@@ -73,27 +70,16 @@ module _ (m : MemoryBytes) (seat : Seat) (t : SitsIn m seat) (kind : PairKind) (
 -- where a buffer lies, it may be allowed
 rw_allowed : (e : Bounds) (pair : ℕ × ℕ) → e.mark ≤ e.brk → LiesBelowMark e pair
     → IsTrue (pair.1 == 0 || lies_in_ram e pair.0 pair.1)
-rw_allowed e pair below lies = by_size (pair.1 == 0) refl
-  where
-    by_size : (a : Bool) → pair.1 == 0 ≡ a → IsTrue (a || lies_in_ram e pair.0 pair.1)
-    by_size true none = refl
-    by_size false none = let some : 0 < pair.1 = grind (arith, nat_tests) in let l = lies some in
-        grind (arith, nat_tests)
+rw_allowed e pair below lies = grind (arith, nat_tests, lies)
 
 ro_allowed : (e : Bounds) (pair : ℕ × ℕ) → e.mark ≤ e.brk → MayBeRead e pair → IsTrue (may_keep ReadOnly e pair)
-ro_allowed e pair below may = by_size (pair.1 == 0) refl
-  where
-    by_size : (a : Bool) → pair.1 == 0 ≡ a → IsTrue (a || lies_in_ram e pair.0 pair.1 || lies_in_flash e pair.0 pair.1)
-    by_size true none = refl
-    by_size false none = let some : 0 < pair.1 = grind (arith, nat_tests) in
-        wider e.start e.mark e.brk pair.0 pair.1 (lies_in_flash e pair.0 pair.1) below (may some)
+ro_allowed e pair below may = grind (arith, nat_tests, may)
 
 allowed : (kind : PairKind) (e : Bounds) (pair : ℕ × ℕ) → e.mark ≤ e.brk → LiesInPlace kind e pair
     → IsTrue (may_keep kind e pair)
 allowed Upcall e pair below lies = refl
 allowed ReadOnly e pair below lies = ro_allowed e pair below lies
-allowed ReadWrite e pair below lies = rw_allowed e pair below lies
-allowed Readable e pair below lies = rw_allowed e pair below lies
+allowed other e pair below lies = rw_allowed e pair below lies
 
 pub in_place : (m : MemoryBytes) (seat : Seat) → SitsIn m seat → HoldsInPlace (own_in m.ram seat)
 in_place m seat t = record {

@@ -1,7 +1,7 @@
 -- Room for a driver's grant in a block, and the process that has entered the driver.
 use Rattle.std.proofs.Common.{◌≡◌, ℕ, ◌+◌, ◌-◌, ◌||◌, nat_le, is_some, take, List, ◌++◌, length}
 use Rattle.std.proofs.Common.{Option, None, Some, Result, Ok}
-use Rattle.std.proofs.Common.{Err, refl, sym, ap, ap₂, subst, ◌∙◌, arith}
+use Rattle.std.proofs.Common.{Err, refl, sym, ap, ap₂, ◌∙◌, arith}
 use Rattle.std.specs.Prelude.{OnOk}
 use Rattle.std.specs.List.{AllByRecursion}
 use Rattle.process_layout.specs.LayoutView.{LayoutView}
@@ -110,8 +110,7 @@ module _ (driver : ℕ) (m : MemoryBytes) (seat : Seat) (m' : MemoryBytes) (f : 
   entered_reseats law t =
       let gs = decode_grants (kernel_in m.ram seat.layout) in
       let held : AllByRecursion (Holds (bounds_of f)) (entered driver gs) =
-      subst (λ (b : Bounds). AllByRecursion (Holds b) (entered driver gs))
-      (sym (same_bounds driver m seat t f r.layout))
+      rw (same_bounds driver m seat t f r.layout)
       (entering_holds law (bounds_of seat.layout) driver gs (grant_of driver gs) t.seated.kept.held) in
       regranted m seat t driver m' f (entered driver gs) r.layout r.grants f.mark seat.inbox r.grants.ordered.buffers
       held

@@ -1,13 +1,14 @@
 -- The buffers of grants lie where they may, also once others were handed. To hand a pair changes the mark alone, which
 -- never falls and stays at or below the break; what lay below it lies below it still, and the pair handed is covered by
 -- it. So it is with all grants, by induction on their list, as a driver is entered or a pair is put.
-use Rattle.std.proofs.Common.{◌≡◌, ◌⊎◌, inl, inr, ℕ, ◌+◌, ◌≤◌, ◌<◌, ◌==◌, ◌||◌, nat_le, IsTrue, Bool, true, false, cond}
+use Rattle.std.proofs.Common.{◌≡◌, inl, inr, ℕ, ◌+◌, ◌≤◌, ◌<◌, ◌==◌, ◌||◌, IsTrue, Bool, true, false}
 use Rattle.std.proofs.Common.{List, [], ◌∷◌, Option, None, Some, refl, sym, subst, arith, eqb-true}
 use Rattle.std.specs.Prelude.{max}
 use Rattle.std.specs.List.{AllByRecursion}
+use Rattle.std.proofs.lemmas.Bool.{cases_Bool, cond_both}
 use Rattle.std.proofs.lemmas.Bool.Decides.{nat_tests}
 use Rattle.tk_base.specs.declared.kinds.PairKind.{PairKind}
-use Rattle.tk_base.specs.declared.kinds.PairKind.TheVariants.{Upcall, ReadOnly, ReadWrite, Readable}
+use Rattle.tk_base.specs.declared.kinds.PairKind.TheVariants.{Upcall, ReadOnly}
 use Rattle.tk_base.specs.Kinds.{count_of, is_buffer}
 use Rattle.process_layout.specs.Bounds.{Bounds}
 use Rattle.process_layout.specs.Interval.{lies_within}
@@ -24,87 +25,59 @@ use Rattle.process_seat.specs.Seats.{Holds, LiesBelowMark, LiesInPlace, MayBeRea
 abbrev pub with_mark : ℕ → Bounds → Bounds
 with_mark mark e = record e { mark = mark }
 
-raised_by : (pair : ℕ × ℕ) (e : Bounds) (a b : Bool)
-    → cond a e (cond b (with_mark (max e.mark (pair.0 + pair.1)) e) e)
-    ≡ with_mark (cond a e (cond b (with_mark (max e.mark (pair.0 + pair.1)) e) e)).mark e
-raised_by pair e true b = refl
-raised_by pair e false true = refl
-raised_by pair e false false = refl
+-- what holds of a layout, and of it with the mark at the end of a pair in its RAM, holds of it once that was handed
+of_raised : (P : Bounds → Type 0) (pair : ℕ × ℕ) (e : Bounds) → P e
+    → (lies_in_ram e pair.0 pair.1 ≡ true → P (with_mark (max e.mark (pair.0 + pair.1)) e)) → P (raised pair e)
+of_raised P pair e same up =
+    cond_both (pair.1 == 0) e _ P (λ none. same)
+    (λ some. cond_both (lies_in_ram e pair.0 pair.1) _ e P up (λ not. same))
+
+of_marked : (P : Bounds → Type 0) (kind : PairKind) (pair : ℕ × ℕ) (e : Bounds) → P e
+    → (lies_in_ram e pair.0 pair.1 ≡ true → P (with_mark (max e.mark (pair.0 + pair.1)) e)) → P (marked kind pair e)
+of_marked P kind pair e same up =
+    cond_both (is_buffer kind) (raised pair e) e P (λ is. of_raised P pair e same up) (λ not. same)
 
 -- what was handed changes the mark alone
 pub only_mark : (kind : PairKind) (pair : ℕ × ℕ) (e : Bounds)
     → marked kind pair e ≡ with_mark (marked kind pair e).mark e
-only_mark kind pair e = by_test (is_buffer kind)
-  where
-    by_test : (b : Bool) → cond b (raised pair e) e ≡ with_mark (cond b (raised pair e) e).mark e
-    by_test true = raised_by pair e (pair.1 == 0) (lies_in_ram e pair.0 pair.1)
-    by_test false = refl
-
-raised_up : (pair : ℕ × ℕ) (e : Bounds) (a b : Bool)
-    → e.mark ≤ (cond a e (cond b (with_mark (max e.mark (pair.0 + pair.1)) e) e)).mark
-raised_up pair e true b = omega arith
-raised_up pair e false true = omega arith
-raised_up pair e false false = omega arith
+only_mark kind pair e = of_marked (λ f. f ≡ with_mark f.mark e) kind pair e refl (λ is. refl)
 
 -- and never lowers it
 pub mark_rises : (kind : PairKind) (pair : ℕ × ℕ) (e : Bounds) → e.mark ≤ (marked kind pair e).mark
-mark_rises kind pair e = by_test (is_buffer kind)
-  where
-    by_test : (b : Bool) → e.mark ≤ (cond b (raised pair e) e).mark
-    by_test true = raised_up pair e (pair.1 == 0) (lies_in_ram e pair.0 pair.1)
-    by_test false = omega arith
-
-raised_below : (pair : ℕ × ℕ) (e : Bounds) (a b : Bool) → lies_in_ram e pair.0 pair.1 ≡ b → e.mark ≤ e.brk
-    → (cond a e (cond b (with_mark (max e.mark (pair.0 + pair.1)) e) e)).mark ≤ e.brk
-raised_below pair e true b is h = h
-raised_below pair e false true is h = let l : pair.0 + pair.1 ≤ e.brk = grind (arith, nat_tests) in omega arith
-raised_below pair e false false is h = h
+mark_rises kind pair e = of_marked (λ f. e.mark ≤ f.mark) kind pair e (omega arith) (λ is. omega arith)
 
 -- it stays at or below the break
 pub mark_below : (kind : PairKind) (pair : ℕ × ℕ) (e : Bounds) → e.mark ≤ e.brk → (marked kind pair e).mark ≤ e.brk
-mark_below kind pair e h = by_test (is_buffer kind)
-  where
-    by_test : (b : Bool) → (cond b (raised pair e) e).mark ≤ e.brk
-    by_test true = raised_below pair e (pair.1 == 0) (lies_in_ram e pair.0 pair.1) refl h
-    by_test false = h
+mark_below kind pair e h = of_marked (λ f. f.mark ≤ e.brk) kind pair e h
+    (λ is. let l : pair.0 + pair.1 ≤ e.brk = grind (arith, nat_tests) in omega arith)
 
 -- a buffer that was handed lies where it may: one that may be written, and one that may only be read
-rw_handed : (pair : ℕ × ℕ) (e : Bounds) (a b : Bool) → pair.1 == 0 ≡ a → lies_in_ram e pair.0 pair.1 ≡ b
-    → IsTrue (a || b) → let mark = (cond a e (cond b (with_mark (max e.mark (pair.0 + pair.1)) e) e)).mark in
-    LiesBelowMark (with_mark mark e) pair
-rw_handed pair e true b none is may some = absurd (grind (arith, nat_tests))
-rw_handed pair e false true none is may some = (grind (arith, nat_tests), omega arith)
-rw_handed pair e false false none is may some = absurd (grind (arith, nat_tests, may))
+rw_handed : (pair : ℕ × ℕ) (e : Bounds) → IsTrue (pair.1 == 0 || lies_in_ram e pair.0 pair.1)
+    → LiesBelowMark (with_mark (raised pair e).mark e) pair
+rw_handed pair e may some =
+    let none : pair.1 == 0 ≡ false = grind (arith, nat_tests) in
+    let is : lies_in_ram e pair.0 pair.1 ≡ true = grind (arith, nat_tests, may) in
+    rw (none, is) (grind (arith, nat_tests), omega arith)
 
-ro_handed : (pair : ℕ × ℕ) (e : Bounds) (a b c : Bool) → pair.1 == 0 ≡ a → lies_in_ram e pair.0 pair.1 ≡ b
-    → lies_in_flash e pair.0 pair.1 ≡ c → IsTrue (a || b || c)
-    → let mark = (cond a e (cond b (with_mark (max e.mark (pair.0 + pair.1)) e) e)).mark in
-    MayBeRead (with_mark mark e) pair
-ro_handed pair e true b c none is at may some = absurd (grind (arith, nat_tests))
-ro_handed pair e false true c none is at may some = by_ram (grind (arith, nat_tests))
-  where
-    by_ram : e.start ≤ pair.0
-        → IsTrue (lies_within e.start (max e.mark (pair.0 + pair.1)) pair.0 pair.1 || lies_in_flash e pair.0 pair.1)
-    by_ram low = let l : nat_le e.start pair.0 ≡ true = grind (arith, nat_tests) in
-        let h : nat_le (pair.0 + pair.1) (max e.mark (pair.0 + pair.1)) ≡ true = grind (arith, nat_tests) in
-        grind (arith, nat_tests)
-ro_handed pair e false false true none is at may some = grind (arith, nat_tests)
-ro_handed pair e false false false none is at may some = absurd (grind (arith, nat_tests, may))
+ro_handed : (pair : ℕ × ℕ) (e : Bounds) → IsTrue (pair.1 == 0 || lies_in_ram e pair.0 pair.1
+    || lies_in_flash e pair.0 pair.1) → MayBeRead (with_mark (raised pair e).mark e) pair
+ro_handed pair e may some =
+    let none : pair.1 == 0 ≡ false = grind (arith, nat_tests) in
+    elim (cases_Bool (lies_in_ram e pair.0 pair.1)) [
+      | inl is ↦ rw (none, is) (grind (arith, nat_tests))
+      | inr not ↦ rw (none, not) (grind (arith, nat_tests, may))
+    ]
 
 lies_handed : (kind : PairKind) (pair : ℕ × ℕ) (e : Bounds) → IsTrue (may_share kind e pair)
     → LiesInPlace kind (with_mark (marked kind pair e).mark e) pair
 lies_handed Upcall pair e may = tt
-lies_handed ReadOnly pair e may =
-    ro_handed pair e (pair.1 == 0) (lies_in_ram e pair.0 pair.1) (lies_in_flash e pair.0 pair.1) refl refl refl may
-lies_handed ReadWrite pair e may = rw_handed pair e (pair.1 == 0) (lies_in_ram e pair.0 pair.1) refl refl may
-lies_handed Readable pair e may = rw_handed pair e (pair.1 == 0) (lies_in_ram e pair.0 pair.1) refl refl may
+lies_handed ReadOnly pair e may = ro_handed pair e may
+lies_handed other pair e may = rw_handed pair e may
 
 -- one without bytes lies anywhere
 pub lies_zero : (kind : PairKind) (e : Bounds) → LiesInPlace kind e (0, 0)
 lies_zero Upcall e = tt
-lies_zero ReadOnly e = λ some. absurd (omega arith)
-lies_zero ReadWrite e = λ some. absurd (omega arith)
-lies_zero Readable e = λ some. absurd (omega arith)
+lies_zero other e = λ some. absurd (omega arith)
 
 -- a layout of the same block and the same flash, whose mark is no lower
 pub record Marks (e f : Bounds) : Type 0 where
@@ -125,16 +98,9 @@ below_on e f pair m lies = λ some. let l = lies some in (omega (arith, l.0, m.s
 lies_on : (kind : PairKind) (e f : Bounds) (pair : ℕ × ℕ) → Marks e f → LiesInPlace kind e pair
     → LiesInPlace kind f pair
 lies_on Upcall e f pair m lies = tt
-lies_on ReadOnly e f pair m may = λ some.
-    subst (λ (n : ℕ). IsTrue (lies_within n f.mark pair.0 pair.1 || lies_within f.flash_start
-    f.flash_end pair.0 pair.1))
-    (sym m.start)
-    (subst (λ (n : ℕ). IsTrue (lies_within e.start f.mark pair.0 pair.1 || lies_within n f.flash_end pair.0 pair.1))
-    (sym m.flash_start)
-    (subst (λ (n : ℕ). IsTrue (lies_within e.start f.mark pair.0 pair.1 || lies_within e.flash_start n pair.0 pair.1))
-    (sym m.flash_end) (wider e.start e.mark f.mark pair.0 pair.1 (lies_in_flash e pair.0 pair.1) m.mark (may some))))
-lies_on ReadWrite e f pair m lies = below_on e f pair m lies
-lies_on Readable e f pair m lies = below_on e f pair m lies
+lies_on ReadOnly e f pair m may = λ some. rw (m.start, m.flash_start, m.flash_end)
+    (wider e.start e.mark f.mark pair.0 pair.1 (lies_in_flash e pair.0 pair.1) m.mark (may some))
+lies_on other e f pair m lies = below_on e f pair m lies
 
 pub holds_on : (e f : Bounds) (g : Grant) → Marks e f → Holds e g → Holds f g
 holds_on e f g m h = record { each = λ kind n. lies_on kind e f (pair_of kind n (Some g)) m (h.each kind n) }
@@ -155,21 +121,15 @@ holds_fresh law e driver =
 pair_holds : PairsStandByKind → (kind : PairKind) (number : ℕ) (pair : ℕ × ℕ) (e : Bounds) (g : Grant) → HasPairs g
     → number < count_of kind (shape_of g.driver) → IsTrue (may_share kind e pair) → Holds e g
     → Holds (noted kind pair e) (with_pair kind number pair g)
-pair_holds law kind number pair e g has small may h =
-    record { each = λ other n. by_place other n (law.either kind other number n pair g has small) }
-  where
-    by_place : (other : PairKind) (n : ℕ)
-        → ((other ≡ kind) × (pair_of other n (Some (with_pair kind number pair g)) ≡ pair))
-        ⊎ (pair_of other n (Some (with_pair kind number pair g)) ≡ pair_of other n (Some g))
-        → LiesInPlace other (noted kind pair e) (pair_of other n (Some (with_pair kind number pair g)))
-    by_place other n (inl put) =
-        subst (LiesInPlace other (noted kind pair e)) (sym put.1)
-        (subst (λ (k : PairKind). LiesInPlace k (noted kind pair e) pair) (sym put.0) (lies_handed kind pair e may))
-    by_place other n (inr same) =
-        subst (LiesInPlace other (noted kind pair e)) (sym same)
-        ((holds_on e (noted kind pair e) g (rises kind pair e) h).each other n)
+pair_holds law kind number pair e g has small may h = record {
+  each = λ other n. elim (law.either kind other number n pair g has small) [
+    | inl put ↦ rw (put.1, put.0) (lies_handed kind pair e may)
+    | inr same ↦ rw same ((holds_on e (noted kind pair e) g (rises kind pair e) h).each other n)
+  ];
+}
 
-all_grants : (P Q : Grant → Type 0) (gs : List Grant) → ((g : Grant) → P g → Q g) → AllByRecursion P gs
+-- what holds of each grant, where it leads to another, leads to that of each
+pub all_grants : (P Q : Grant → Type 0) (gs : List Grant) → ((g : Grant) → P g → Q g) → AllByRecursion P gs
     → AllByRecursion Q gs
 all_grants P Q [] on all = tt
 all_grants P Q (g ∷ gs) on all = (on g all.0, all_grants P Q gs on all.1)
@@ -180,12 +140,9 @@ pub all_with : (P Q : Grant → Type 0) (driver : ℕ) (change : Grant → Grant
     → AllByRecursion Q (with_grant driver change gs)
 all_with P Q driver change [] on changed all = tt
 all_with P Q driver change (g ∷ gs) on changed all =
-    by_test (g.driver == driver) refl (all_with P Q driver change gs on changed all.1)
-  where
-    by_test : (b : Bool) → (g.driver == driver) ≡ b → AllByRecursion Q (with_grant driver change gs)
-        → AllByRecursion Q (cond b (change g ∷ gs) (g ∷ with_grant driver change gs))
-    by_test true e later = (changed g (eqb-true g.driver driver e) all.0, all_grants P Q gs on all.1)
-    by_test false e later = (on g all.0, later)
+    cond_both (g.driver == driver) (change g ∷ gs) _ (AllByRecursion Q)
+    (λ is. (changed g (eqb-true g.driver driver is) all.0, all_grants P Q gs on all.1))
+    (λ not. (on g all.0, all_with P Q driver change gs on changed all.1))
 
 all_both : (P Q : Grant → Type 0) (gs : List Grant) → AllByRecursion P gs → AllByRecursion Q gs
     → AllByRecursion (λ g. P g × Q g) gs

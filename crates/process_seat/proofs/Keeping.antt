@@ -22,16 +22,15 @@ use Rattle.process_model.specs.Own.{Own}
 use Rattle.process_model.specs.Served.{kept, with_kept}
 use Rattle.process_seat.specs.declared.seat.Seat.{Seat}
 use Rattle.process_seat.specs.Windows.{SameOutside}
-use Rattle.process_seat.specs.Seats.{Holds, IsKept, Reseats, app_in, kernel_in, own_in, owned, value_put, with_value_in}
+use Rattle.process_seat.specs.Seats.{Holds, Reseats, app_in, kernel_in, own_in, owned, value_put, with_value_in}
 use Rattle.process_seat.specs.Seen.{IsLentTo, Seen, ServesIn}
 use Rattle.process_seat.specs.Visits.{Asks, GrantVisit, IsCounted, Visited, found_in, seen_by}
-use Rattle.process_seat.proofs.Blocks.{length_kernel}
+use Rattle.process_seat.proofs.Blocks.{length_kernel, run_is}
 use Rattle.process_seat.proofs.Holding.{all_with}
 use Rattle.process_seat.proofs.Reseated.{ram_reseats, reseats_on}
 use Rattle.process_seat.proofs.Values.{shape_is}
 use Rattle.process_seat.proofs.Windows.{over_outside, over_window, widened, windows_same}
 use Rattle.process_seat.proofs.Serving.{kernel_same, serving_own, serving_reseats, still_lent}
-use Rattle.process_seat.proofs.Writing.{run_is}
 
 -- how many bytes the value of a driver has
 pub size_of : (driver : Driver) (number size count : ℕ) (counts : Counts) → IsCounted driver number counts size
@@ -131,12 +130,7 @@ module _ (driver : ℕ) (counts : Counts) (m : MemoryBytes) (seat : Seat) (l : I
       subst (λ (x : MemoryBytes). Reseats m seat x seat) (sym left)
       (ram_reseats m seat seat ys elsewhere refl refl refl refl s (record {
         object = l.sits.seated.object;
-        kept = subst (IsKept (bounds_of seat.layout)) (sym kernel_is)
-            (record {
-              laid = tells.laid;
-              held = subst (AllByRecursion (Holds (bounds_of seat.layout)))
-                  (sym tells.grants) held;
-            });
+        kept = rw kernel_is (record { laid = tells.laid; held = rw tells.grants held });
       }))
 
 -- a value stands where it stood once its driver has served the process
@@ -145,7 +139,7 @@ pub value_again : (driver : ℕ) (counts : Counts) (m : MemoryBytes) (seat : Sea
     → ServesIn driver m seat m1 seat1 → IsValue (kernel_in m1.ram seat1.layout) at size driver
 value_again driver counts m seat l at size v m1 seat1 w =
     subst (λ (x : Seat). IsValue (kernel_in m1.ram x.layout) at size driver) (sym w.seat_is)
-    (subst (λ (xs : List ℕ). IsValue xs at size driver) (sym (kernel_same driver counts m seat l m1 seat1 w)) v)
+    (rw (kernel_same driver counts m seat l m1 seat1 w) v)
 
 -- a visitor was run between the reading of a value and the keeping of it
 module _ {T V A : Type 0} (visit : GrantVisit T V A) (m : MemoryBytes) (seat : Seat)

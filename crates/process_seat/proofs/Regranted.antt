@@ -1,5 +1,5 @@
 -- A seat whose block has room for one grant more, or has other pairs in its grants.
-use Rattle.std.proofs.Common.{◌≡◌, ℕ, ◌≤◌, List, length, Option, None, Some, refl, sym, ap, subst}
+use Rattle.std.proofs.Common.{◌≡◌, ℕ, ◌≤◌, List, length, Option, None, Some, refl, rules}
 use Rattle.std.specs.List.{AllByRecursion}
 use Rattle.process_layout.specs.LayoutView.{LayoutView}
 use Rattle.process_layout.specs.Bounds.{bounds_of}
@@ -31,27 +31,12 @@ room_settled flash ram driver mark e (Some g) s o = others_settled flash ram e e
 room_object : (flash driver mark : ℕ) (object : Object) (e : LayoutView) (g : Option Grant)
     → HasObject flash object (bounds_of e)
     → HasObject flash object (bounds_of (remarked mark (roomed driver e g)))
-room_object flash driver mark object e None h =
-    record { from = h.from; to = h.to; accessible_from = h.accessible_from; accessible_to = h.accessible_to }
-room_object flash driver mark object e (Some g) h =
-    record { from = h.from; to = h.to; accessible_from = h.accessible_from; accessible_to = h.accessible_to }
+room_object flash driver mark object e None h = search (rules, h)
+room_object flash driver mark object e (Some g) h = search (rules, h)
 
 -- a mark at or below the break keeps a layout in order
 mark_ordered : (mark : ℕ) (e : LayoutView) → IsOrdered e → mark ≤ e.brk → IsOrdered (remarked mark e)
-mark_ordered mark e o low =
-    record {
-      flash = o.flash;
-      block = o.block;
-      grants = o.grants;
-      end = o.end;
-      buffers = low;
-      start_aligned =
-          o.start_aligned;
-      end_aligned = o.end_aligned;
-      brk_aligned = o.brk_aligned;
-      kernel_break_aligned =
-          o.kernel_break_aligned;
-    }
+mark_ordered mark e o low = search (rules, o)
 
 module _ (m : MemoryBytes) (seat : Seat) (t : SitsIn m seat) (driver : ℕ) (m' : MemoryBytes) (f : LayoutView)
     (gs : List Grant) (layout : f
@@ -63,7 +48,7 @@ module _ (m : MemoryBytes) (seat : Seat) (t : SitsIn m seat) (driver : ℕ) (m' 
   regranted mark inbox low held =
       let g = grant_of driver (decode_grants (kernel_in m.ram seat.layout)) in
       let ends : SameEnds seat.layout f =
-      subst (SameEnds seat.layout) (sym layout) (roomed_ends driver seat.layout g) in
+      rw layout (roomed_ends driver seat.layout g) in
       record {
         flash = r.flash;
         elsewhere = r.elsewhere;
@@ -73,18 +58,14 @@ module _ (m : MemoryBytes) (seat : Seat) (t : SitsIn m seat) (driver : ℕ) (m' 
         permissions = refl;
         sits = record {
           settled = settled_in m m' (remarked mark f) r.flash r.elsewhere.long
-              (subst (λ (e : LayoutView). IsOrdered (remarked mark e)
-              → FitsMemory (length m.flash) (length m.ram) (remarked mark e)) (sym layout)
-              (room_settled (length m.flash) (length m.ram) driver mark seat.layout g t.settled)
-              (mark_ordered mark f r.ordered low));
+              (rw layout (room_settled (length m.flash) (length m.ram) driver mark seat.layout g t.settled
+              (rw layout at (mark_ordered mark f r.ordered low))));
           seated = record {
-            object = subst (λ (n : ℕ). HasObject n seat.object (bounds_of (remarked mark f))) (sym (ap length r.flash))
-                (subst (λ (e : LayoutView). HasObject (length m.flash) seat.object (bounds_of (remarked mark e)))
-                (sym layout)
-                (room_object (length m.flash) driver mark seat.object seat.layout g t.seated.object));
+            object = rw (r.flash, layout)
+                (room_object (length m.flash) driver mark seat.object seat.layout g t.seated.object);
             kept = record {
               laid = r.tells.laid;
-              held = subst (AllByRecursion (Holds (bounds_of (remarked mark f)))) (sym r.tells.grants) held;
+              held = rw r.tells.grants held;
             };
           };
         };

@@ -1,5 +1,5 @@
 -- A seat that changes, with the RAM in its block.
-use Rattle.std.proofs.Common.{◌≡◌, ℕ, ◌-◌, true, false, Bool, List, length, refl, sym, ap, subst, ◌∙◌}
+use Rattle.std.proofs.Common.{◌≡◌, ℕ, ◌-◌, true, false, Bool, List, length, refl, sym, ap, ◌∙◌, rules}
 use Rattle.upcall_queue.specs.declared.inbox.Inbox.{Inbox}
 use Rattle.upcall_queue.specs.Pending.{cleared}
 use Rattle.tk_base.specs.declared.access.TheConstants.{RAM_START}
@@ -16,14 +16,13 @@ use Rattle.process_seat.proofs.Blocks.{break_is}
 
 -- a seat's layout lies in memory
 pub placed_of : (m : MemoryBytes) (e : LayoutView) → FitsMemory (length m.flash) (length m.ram) e → IsPlaced e m
-placed_of m e s = record { flash_from = s.flash_from; flash_to = s.flash_to; from = s.from; to = s.to }
+placed_of m e s = search rules
 
 -- in memory as long as before a layout is settled as before
 pub settled_in : (m m' : MemoryBytes) (e : LayoutView) → m'.flash ≡ m.flash → length m'.ram ≡ length m.ram
     → FitsMemory (length m.flash) (length m.ram) e → FitsMemory (length m'.flash) (length m'.ram) e
 settled_in m m' e flash long s =
-    subst (λ (n : ℕ). FitsMemory (length m'.flash) n e) (sym long)
-    (subst (λ (n : ℕ). FitsMemory n (length m.ram) e) (sym (ap length flash)) s)
+    rw (long, flash) s
 
 -- RAM that was not changed is the same everywhere
 pub nowhere : (xs : List ℕ) (from to : ℕ) → SameOutside from to xs xs
@@ -38,16 +37,12 @@ own_layout m seat t =
 pub reseats_on : (m : MemoryBytes) (seat : Seat) (m1 : MemoryBytes) (seat1 : Seat) (m2 : MemoryBytes) (seat2 : Seat)
     → Reseats m seat m1 seat1 → Reseats m1 seat1 m2 seat2 → Reseats m seat m2 seat2
 reseats_on m seat m1 seat1 m2 seat2 a b =
-    let same : SameOutside (seat.layout.start - RAM_START) (seat.layout.end - RAM_START) m1.ram m2.ram =
-    subst (λ (n : ℕ). SameOutside (n - RAM_START) (seat.layout.end - RAM_START) m1.ram m2.ram) a.start
-    (subst (λ (n : ℕ). SameOutside (seat1.layout.start - RAM_START) (n - RAM_START) m1.ram m2.ram) a.end
-    b.elsewhere) in
+    let same = rw (a.start, a.end) at b.elsewhere in
     record {
       flash = b.flash ∙ a.flash;
       elsewhere = record {
         long = same.long ∙ a.elsewhere.long;
-        each =
-            λ k side. same.each k side ∙ a.elsewhere.each k side;
+        each = λ k side. same.each k side ∙ a.elsewhere.each k side;
       };
       start = b.start ∙ a.start;
       end = b.end ∙ a.end;
@@ -80,30 +75,12 @@ ram_reseats m seat new ram elsewhere start end object permissions settled seated
 pub same_memory : (m : MemoryBytes) (seat new : Seat) → new.layout.start ≡ seat.layout.start
     → new.layout.end ≡ seat.layout.end → new.object ≡ seat.object → new.has_permissions ≡ seat.has_permissions
     → SitsIn m new → Reseats m seat m new
-same_memory m seat new start end object permissions sits = record {
-  flash = refl;
-  elsewhere = nowhere m.ram _ _;
-  start = start;
-  end = end;
-  object = object;
-  permissions = permissions;
-  sits = sits;
-}
+same_memory m seat new start end object permissions sits = search (rules, nowhere)
 
 -- a layout in order whose breaks are others, in order too
 pub others_settled : (flash ram : ℕ) (e : LayoutView) (brk kernel_break mark : ℕ) → FitsMemory flash ram e
     → let f = record e { brk = brk; kernel_break = kernel_break; mark = mark } in IsOrdered f → FitsMemory flash ram f
-others_settled flash ram e brk kernel_break mark s ordered = record {
-  ordered = ordered;
-  flash_from = s.flash_from;
-  flash_to = s.flash_to;
-  flash_start_aligned = s.flash_start_aligned;
-  flash_end_aligned = s.flash_end_aligned;
-  below = s.below;
-  from = s.from;
-  to = s.to;
-  fits = s.fits;
-}
+others_settled flash ram e brk kernel_break mark s ordered = search rules
 
 -- so does what is scheduled, and whether the process lives
 pub requeued : (m : MemoryBytes) (seat : Seat) (inbox : Inbox) (lives : Bool) → SitsIn m seat
@@ -116,8 +93,7 @@ requeued m seat inbox lives t =
 pub known : (m : MemoryBytes) (seat : Seat) (m' : MemoryBytes) → m' ≡ m → SitsIn m seat
     → Reseats m seat m' (record seat { decoded = true })
 known m seat m' same t =
-    subst (λ (x : MemoryBytes). Reseats m seat x (record seat { decoded = true })) (sym same)
-    (same_memory m seat (record seat { decoded = true }) refl refl refl refl
+    rw same (same_memory m seat (record seat { decoded = true }) refl refl refl refl
     (record { settled = t.settled; seated = record { object = t.seated.object; kept = t.seated.kept } }))
 
 pub ended_own : (ram : List ℕ) (seat : Seat) (inbox : Inbox) → inbox ≡ cleared seat.inbox

@@ -1,12 +1,12 @@
 -- A seat whose process was started again: its block is zeroed where it lies, so it has no grants and the kernel break
 -- is the block's end; the layout is in order with the new break, and what is its own is the definition's
 -- (`own_restarted`). All RAM outside of the block is as it was (`Reseats`).
-use Rattle.std.proofs.Common.{◌≡◌, ℕ, ◌+◌, ◌-◌, ◌%◌, ◌≤◌, true, List, [], length, refl, sym, ap, ap₂, subst, ◌∙◌, arith}
+use Rattle.std.proofs.Common.{rules}
+use Rattle.std.proofs.Common.{◌≡◌, ℕ, ◌+◌, ◌-◌, ◌%◌, ◌≤◌, true, List, [], length, refl, sym, ap, subst, ◌∙◌, arith}
 use Rattle.std.specs.Prelude.{slice_range}
 use Rattle.std.specs.List.{AllByRecursion}
 use Rattle.upcall_queue.specs.declared.inbox.Inbox.{Inbox}
 use Rattle.upcall_queue.specs.Pending.{cleared}
-use Rattle.grant_model.specs.Grants.{Grant}
 use Rattle.tk_base.specs.declared.access.TheConstants.{RAM_START}
 use Rattle.process_layout.specs.LayoutView.{LayoutView, with_break}
 use Rattle.process_layout.specs.Bounds.{Bounds, bounds_of}
@@ -27,21 +27,9 @@ use Rattle.process_seat.proofs.Reseated.{others_settled, placed_of, ram_reseats}
 pub start_settled : (flash ram : ℕ) (e f : LayoutView) (brk : ℕ) → FitsMemory flash ram e → e.start ≤ brk → brk ≤ e.end
     → brk % 4 ≡ 0 → f ≡ with_break brk e → FitsMemory flash ram f
 start_settled flash ram e f brk s from to aligned is =
-    subst (FitsMemory flash ram) (sym is)
-    (others_settled flash ram e brk e.end e.start s
-    (record {
-      flash = s.ordered.flash;
-      block = from;
-      grants = to;
-      end = omega arith;
-      buffers = from;
-      start_aligned =
-          s.ordered.start_aligned;
-      end_aligned = s.ordered.end_aligned;
-      brk_aligned = aligned;
-      kernel_break_aligned =
-          s.ordered.end_aligned;
-    }))
+    let o = s.ordered in
+    let last : e.end ≤ e.end = omega arith in
+    rw is (others_settled flash ram e brk e.end e.start s (search (rules, o, last)))
 
 -- an empty part has no grants
 pub no_bytes : (xs : List ℕ) (a : ℕ) → slice_range xs a a ≡ []
@@ -71,35 +59,19 @@ module _ (m : MemoryBytes) (seat : Seat) (t : SitsIn m seat) (brk : ℕ) (from :
 
   -- its block is cleared where it lies
   pub clears : (f : LayoutView) → f ≡ with_break brk seat.layout → IsPlaced f m
-  clears f at = placed_of m f (subst (FitsMemory (length m.flash) (length m.ram)) (sym at)
-      layout_again)
+  clears f at = placed_of m f (rw at layout_again)
 
   abbrev cleared_ram : List ℕ
   cleared_ram = over m.ram (seat.layout.start - RAM_START) (zeros (seat.layout.end - seat.layout.start))
 
   fits : seat.layout.start - RAM_START + length (zeros (seat.layout.end - seat.layout.start)) ≤ length m.ram
   fits = let s = t.settled in
-      omega (
-        arith,
-        length_zeros (seat.layout.end - seat.layout.start),
-        s.to,
-        s.from,
-        s.ordered.block,
-        s.ordered.grants,
-        s.ordered.end,
-      )
+      omega (arith, length_zeros (seat.layout.end - seat.layout.start))
 
   ends : seat.layout.end - RAM_START
       ≡ seat.layout.start - RAM_START + length (zeros (seat.layout.end - seat.layout.start))
   ends = let s = t.settled in
-      omega (
-        arith,
-        length_zeros (seat.layout.end - seat.layout.start),
-        s.from,
-        s.ordered.block,
-        s.ordered.grants,
-        s.ordered.end,
-      )
+      omega (arith, length_zeros (seat.layout.end - seat.layout.start))
 
   -- the seat of the new life
   abbrev seat_again : Seat
@@ -113,21 +85,12 @@ module _ (m : MemoryBytes) (seat : Seat) (t : SitsIn m seat) (brk : ℕ) (from :
 
   again_reseats : IsReadBack → Reseats m seat (record m { ram = cleared_ram }) seat_again
   again_reseats law =
-      let elsewhere : SameOutside (seat.layout.start - RAM_START) (seat.layout.end - RAM_START) m.ram
-      cleared_ram = subst (λ (n : ℕ). SameOutside (seat.layout.start - RAM_START) n m.ram cleared_ram)
-      (sym ends) (over_outside m.ram (zeros (seat.layout.end - seat.layout.start))
-      (seat.layout.start - RAM_START) fits) in
+      let elsewhere : SameOutside (seat.layout.start - RAM_START) (seat.layout.end - RAM_START) m.ram cleared_ram =
+      rw ends (over_outside m.ram (zeros (seat.layout.end - seat.layout.start)) (seat.layout.start - RAM_START) fits) in
       let object = t.seated.object in
       ram_reseats m seat seat_again cleared_ram elsewhere refl refl refl refl layout_again (record {
-        object = record {
-          from = object.from;
-          to = object.to;
-          accessible_from = object.accessible_from;
-          accessible_to =
-              object.accessible_to;
-        };
-        kept = subst (IsKept (bounds_of (with_break brk seat.layout)))
-            (sym (no_bytes cleared_ram (seat.layout.end - RAM_START)))
+        object = search (rules, object);
+        kept = rw (no_bytes cleared_ram (seat.layout.end - RAM_START))
             (none_kept law (bounds_of (with_break brk seat.layout)));
       })
 
@@ -139,27 +102,11 @@ module _ (m : MemoryBytes) (seat : Seat) (t : SitsIn m seat) (brk : ℕ) (from :
       (seat.layout.end - RAM_START) fits ends in
       let none : decode_grants (slice_range cleared_ram (seat.layout.end - RAM_START) (seat.layout.end - RAM_START))
       ≡ [] = ap decode_grants (no_bytes cleared_ram (seat.layout.end - RAM_START)) ∙ none_back law in
-      ap₂ (λ (a : List ℕ) (gs : List Grant). record {
-        object = seat.object;
-        layout = bounds_of (with_break brk seat.layout);
-        ram = a;
-        grants = gs;
-        inbox = cleared seat.inbox;
-        life = seat.life + 1;
-        lives = true;
-      }) whole none
+      rw (whole, none) refl
 
   -- as the code leaves memory and the seat
   pub restarts : IsReadBack → (m' : MemoryBytes) (f : LayoutView) (inbox : Inbox) → f ≡ with_break brk seat.layout
       → inbox ≡ cleared seat.inbox → m' ≡ block_cleared f m
       → Restarts m seat brk m' (record seat { layout = f; inbox = inbox; life = seat.life + 1; lives = true })
   restarts law m' f inbox at none left =
-      let same : m' ≡ block_cleared (with_break brk seat.layout) m =
-      left ∙ ap (λ (x : LayoutView). block_cleared x m) at in
-      subst (λ (x : MemoryBytes). Restarts m seat brk x
-      (record seat_again { layout = f; inbox = inbox })) (sym same)
-      (subst (λ (x : LayoutView). Restarts m seat brk (block_cleared (with_break brk seat.layout) m)
-      (record seat_again { layout = x; inbox = inbox })) (sym at)
-      (subst (λ (i : Inbox). Restarts m seat brk (block_cleared (with_break brk seat.layout) m)
-      (record seat_again { inbox = i })) (sym none)
-      (record { reseats = again_reseats law; own = again_own law })))
+      rw (left, at, none) (record { reseats = again_reseats law; own = again_own law })

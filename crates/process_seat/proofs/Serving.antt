@@ -1,13 +1,12 @@
 -- What a driver has changed of a process in its seat, and what it has left. It changed bytes in the buffers alone that
 -- it may write (`ServesIn`), all of which lie below the mark; so the kernel's part, the grants and the layout stay, the
 -- seat is one as before, and it may be served once more (`serving_on`).
-use Rattle.std.proofs.Common.{get_or, ◌≡◌, ℕ, zero, suc, ◌+◌, ◌-◌, ◌<◌, ◌≤◌, ◌⊎◌, inl, inr, ◌==◌, Bool, true, false}
+use Rattle.std.proofs.Common.{get_or, ◌≡◌, ℕ, suc, ◌+◌, ◌-◌, ◌<◌, ◌≤◌, ◌⊎◌, inl, inr}
 use Rattle.std.proofs.Common.{List, []}
 use Rattle.std.proofs.Common.{◌∷◌, ◌++◌, length, slice_index, Option, None, Some, refl, sym, ap, subst, ◌∙◌, arith}
 use Rattle.std.specs.Prelude.{slice_range}
 use Rattle.std.specs.List.{AllByRecursion}
-use Rattle.std.proofs.lemmas.Bool.{eqb-true}
-use Rattle.std.proofs.lemmas.Bool.Decides.{nat_tests}
+use Rattle.std.proofs.lemmas.Bool.{cases_lt}
 use Rattle.std.proofs.lemmas.List.{places}
 use Rattle.tk_base.specs.declared.access.TheConstants.{RAM_START}
 use Rattle.tk_base.specs.declared.upcall.Counts.{Counts}
@@ -16,28 +15,17 @@ use Rattle.process_layout.specs.Bounds.{Bounds, bounds_of}
 use Rattle.tk_base.specs.declared.kinds.PairKind.TheVariants.{ReadWrite, Readable}
 use Rattle.grant_model.specs.Grants.{Grant, grant_of, pairs_of}
 use Rattle.board_memory.specs.Memory.{MemoryBytes}
-use Rattle.process_model.specs.Flash.{HasObject}
 use Rattle.process_model.specs.Own.{Own}
 use Rattle.upcall_queue.specs.declared.inbox.Inbox.{Inbox}
 use Rattle.process_seat.specs.declared.seat.Seat.{Seat}
 use Rattle.process_seat.specs.Places.{FitsMemory}
 use Rattle.process_seat.specs.Windows.{SameOutside}
-use Rattle.process_seat.specs.Seats.{Holds, IsKept, IsSeated, LiesBelowMark, Reseats, app_in, kernel_in, own_in, owned}
+use Rattle.process_seat.specs.Seats.{Holds, IsSeated, LiesBelowMark, Reseats, app_in, kernel_in, own_in, owned}
 use Rattle.process_seat.specs.Seen.{IsLentTo, LiesOutside, SameButIn, VisitorChanges, ServesIn, writable_buffers}
 use Rattle.process_seat.specs.Seen.{writable_of}
 use Rattle.process_seat.proofs.Buffers.{all_of}
 use Rattle.process_seat.proofs.Reseated.{settled_in}
 use Rattle.process_seat.proofs.Windows.{length_window, short, window_at, windows_same, widened}
-
--- of two numbers one is less, or it is not
-pub side_of : (x y : ℕ) → (x < y) ⊎ (y ≤ x)
-side_of x zero = inr (omega arith)
-side_of zero (suc y) = inl (omega arith)
-side_of (suc x) (suc y) = later (side_of x y)
-  where
-    later : (x < y) ⊎ (y ≤ x) → (suc x < suc y) ⊎ (suc y ≤ suc x)
-    later (inl l) = inl (omega arith)
-    later (inr l) = inr (omega arith)
 
 all_at : (P : ℕ × ℕ → Type 0) (ps : List (ℕ × ℕ)) → ((n : ℕ) → P (get_or ps n (0, 0))) → AllByRecursion P ps
 all_at P [] each = tt
@@ -63,16 +51,12 @@ outside : (e : LayoutView) (a : ℕ) (buffers : List (ℕ × ℕ)) → e.mark �
     → (a < e.start) ⊎ (e.kernel_break ≤ a) → AllByRecursion (LiesBelowMark (bounds_of e)) buffers
     → LiesOutside a buffers
 outside e a [] mark side all = tt
-outside e a (b ∷ bs) mark side all = (one (b.1 == 0) refl side, outside e a bs mark side all.1)
+outside e a (b ∷ bs) mark side all = (one (cases_lt 0 b.1) side, outside e a bs mark side all.1)
   where
-    one : (none : Bool) → b.1 == 0 ≡ none → (a < e.start) ⊎ (e.kernel_break ≤ a) → (a < b.0) ⊎ (b.0 + b.1 ≤ a)
-    one false some (inl l) = let n : 0 < b.1 = grind (arith, nat_tests) in let p = all.0 n in inl (omega (arith, p.0))
-    one false some (inr l) = let n : 0 < b.1 = grind (arith, nat_tests) in let p = all.0 n in inr (omega (arith, p.1))
-    one true none at = no_bytes (side_of a b.0) (eqb-true b.1 0 none)
-      where
-        no_bytes : (a < b.0) ⊎ (b.0 ≤ a) → b.1 ≡ 0 → (a < b.0) ⊎ (b.0 + b.1 ≤ a)
-        no_bytes (inl l) z = inl l
-        no_bytes (inr l) z = inr (omega arith)
+    one : (0 < b.1) ⊎ (b.1 ≤ 0) → (a < e.start) ⊎ (e.kernel_break ≤ a) → (a < b.0) ⊎ (b.0 + b.1 ≤ a)
+    one (inl n) (inl l) = inl (omega (arith, (all.0 n).0))
+    one (inl n) (inr l) = inr (omega (arith, (all.0 n).1))
+    one (inr none) at = elim (cases_lt a b.0) [ inl l ↦ inl l | inr l ↦ inr (omega arith) ]
 
 past : (xs : List ℕ) (k : ℕ) → length xs ≤ k → slice_index xs k ≡ 0
 past xs k h = grind (arith, places)
@@ -83,21 +67,19 @@ window_but : (buffers : List (ℕ × ℕ)) (xs ys : List ℕ) (from a b : ℕ) �
     → SameButIn buffers from (slice_range xs a b) (slice_range ys a b)
 window_but buffers xs ys from a b low at to same = record {
   long = long;
-  each = λ k out. by_place k (side_of k (b - a)) out;
+  each = λ k out. elim (cases_lt k (b - a)) [
+    | inl h ↦
+        let is : from + k ≡ RAM_START + (a + k) = omega arith in
+        window_at ys a b k h ∙ same.each (a + k) (subst (λ (n : ℕ). LiesOutside n buffers) is out)
+        ∙ sym (window_at xs a b k h)
+    | inr h ↦
+        past (slice_range ys a b) k (omega (arith, short ys a b))
+        ∙ sym (past (slice_range xs a b) k (omega (arith, short xs a b)))
+  ];
 }
   where
     long : length (slice_range ys a b) ≡ length (slice_range xs a b)
     long = length_window ys a b (omega (arith, same.long)) ∙ sym (length_window xs a b to)
-
-    by_place : (k : ℕ) → (k < b - a) ⊎ (b - a ≤ k) → LiesOutside (from + k) buffers
-        → slice_index (slice_range ys a b) k ≡ slice_index (slice_range xs a b) k
-    by_place k (inl h) out =
-        let is : from + k ≡ RAM_START + (a + k) = omega arith in
-        window_at ys a b k h ∙ same.each (a + k) (subst (λ (n : ℕ). LiesOutside n buffers) is out)
-        ∙ sym (window_at xs a b k h)
-    by_place k (inr h) out =
-        past (slice_range ys a b) k (omega (arith, short ys a b))
-        ∙ sym (past (slice_range xs a b) k (omega (arith, short xs a b)))
 
 -- a driver has served a process in its seat
 module _ (driver : ℕ) (counts : Counts) (m : MemoryBytes) (seat : Seat) (l : IsLentTo driver counts m seat)
@@ -113,13 +95,9 @@ module _ (driver : ℕ) (counts : Counts) (m : MemoryBytes) (seat : Seat) (l : I
         long = v.bytes.long;
         each = λ k side.
             v.bytes.each k (outside seat.layout (RAM_START + k) (writable_buffers driver (own_in m.ram seat))
-            (omega (arith, s.ordered.buffers, s.ordered.grants)) (at_side k side) all);
+            (omega (arith, s.ordered.buffers, s.ordered.grants))
+            (elim side [ inl low ↦ inl (omega arith) | inr high ↦ inr (omega arith) ]) all);
       }
-    where
-      at_side : (k : ℕ) → (k < seat.layout.start - RAM_START) ⊎ (seat.layout.kernel_break - RAM_START ≤ k)
-          → (RAM_START + k < seat.layout.start) ⊎ (seat.layout.kernel_break ≤ RAM_START + k)
-      at_side k (inl low) = inl (omega arith)
-      at_side k (inr high) = inr (omega arith)
 
   pub kernel_same : kernel_in m'.ram seat.layout ≡ kernel_in m.ram seat.layout
   kernel_same = windows_same m.ram m'.ram (seat.layout.start - RAM_START) (seat.layout.kernel_break - RAM_START)
@@ -130,9 +108,8 @@ module _ (driver : ℕ) (counts : Counts) (m : MemoryBytes) (seat : Seat) (l : I
 
   seated_with : (inbox : Inbox) → IsSeated (length m'.flash) m'.ram (record seat { inbox = inbox })
   seated_with inbox = record {
-    object = subst (λ (n : ℕ). HasObject n seat.object (bounds_of seat.layout)) (sym (ap length v.flash))
-        l.sits.seated.object;
-    kept = subst (IsKept (bounds_of seat.layout)) (sym kernel_same) l.sits.seated.kept;
+    object = rw v.flash l.sits.seated.object;
+    kept = rw kernel_same l.sits.seated.kept;
   }
 
   settled_same : FitsMemory (length m'.flash) (length m'.ram) seat.layout
@@ -142,7 +119,7 @@ module _ (driver : ℕ) (counts : Counts) (m : MemoryBytes) (seat : Seat) (l : I
   pub still_lent : IsLentTo driver counts m' seat'
   still_lent = record {
     sits = record {
-      settled = subst (FitsMemory (length m'.flash) (length m'.ram)) (sym layout_same) settled_same;
+      settled = rw layout_same settled_same;
       seated = subst (IsSeated (length m'.flash) m'.ram) (sym v.seat_is) (seated_with seat'.inbox);
     };
     counts_are = l.counts_are;
@@ -207,8 +184,7 @@ serving_on driver counts m seat m1 seat1 m2 seat2 l v w = record {
   bytes = record {
     long = w.bytes.long ∙ v.bytes.long;
     each = λ k out.
-        w.bytes.each k (subst (λ (bs : List (ℕ × ℕ)). LiesOutside (RAM_START + k) bs)
-        (sym (buffers_same driver counts m seat l m1 seat1 v)) out) ∙ v.bytes.each k out;
+        w.bytes.each k (rw (buffers_same driver counts m seat l m1 seat1 v) out) ∙ v.bytes.each k out;
   };
 }
 

@@ -4,7 +4,7 @@ use Rattle.std.specs.Prelude.{option_map}
 use Rattle.tk_base.specs.declared.upcall.Counts.{Counts}
 use Rattle.tk_base.specs.Kinds.{pair_count}
 use Rattle.grant_values.specs.declared.drivers.Driver.{Driver}
-use Rattle.grant_values.specs.declared.drivers.Driver.TheVariants.{Alarm, Buttons, Console, Leds, Random, Storage}
+use Rattle.grant_values.specs.declared.drivers.Driver.TheVariants.{Alarm}
 use Rattle.grant_values.specs.Drivers.{counts_by, counts_of, driver_of}
 use Rattle.grant_model.specs.Grants.{shape_of}
 use Rattle.grant_values.specs.ByNumber.{counts_or_none}
@@ -29,8 +29,4 @@ few_pairs driver counts is = by_driver (driver_of driver) is
     by_driver : (d : Option Driver) → option_map counts_by d ≡ Some counts → pair_count counts + counts.value ≤ 100
     by_driver None e = cc
     by_driver (Some Alarm) e = of_row (counts_by Alarm) e (omega arith)
-    by_driver (Some Console) e = of_row (counts_by Console) e (omega arith)
-    by_driver (Some Leds) e = of_row (counts_by Leds) e (omega arith)
-    by_driver (Some Buttons) e = of_row (counts_by Buttons) e (omega arith)
-    by_driver (Some Random) e = of_row (counts_by Random) e (omega arith)
-    by_driver (Some Storage) e = of_row (counts_by Storage) e (omega arith)
+    by_driver (Some other) e = of_row (counts_by other) e (omega arith)

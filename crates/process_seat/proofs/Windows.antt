@@ -38,19 +38,16 @@ pub windows_same : (xs ys : List ℕ) (from to a b : ℕ) → SameOutside from t
 windows_same xs ys from to a b same side =
     same_number_lists (slice_range ys a b) (slice_range xs a b) (same_length xs ys a b same.long) (λ k h.
     let within : k < b - a = let n = short ys a b in omega arith in
-    window_at ys a b k within ∙ same.each (a + k) (at_side side k within) ∙ sym (window_at xs a b k within))
-  where
-    at_side : (b ≤ from) ⊎ (to ≤ a) → (k : ℕ) → k < b - a → (a + k < from) ⊎ (to ≤ a + k)
-    at_side (inl below) k h = inl (omega arith)
-    at_side (inr above) k h = inr (omega arith)
+    window_at ys a b k within
+    ∙ same.each (a + k) (elim side [ inl below ↦ inl (omega arith) | inr above ↦ inr (omega arith) ])
+    ∙ sym (window_at xs a b k within))
 
 -- so they are outside of a wider interval
 pub widened : (xs ys : List ℕ) (a b from to : ℕ) → SameOutside a b xs ys → from ≤ a → b ≤ to → SameOutside from to xs ys
-widened xs ys a b from to same low high = record { long = same.long; each = λ k side. same.each k (narrowed k side) }
-  where
-    narrowed : (k : ℕ) → (k < from) ⊎ (to ≤ k) → (k < a) ⊎ (b ≤ k)
-    narrowed k (inl below) = inl (omega arith)
-    narrowed k (inr above) = inr (omega arith)
+widened xs ys a b from to same low high = record {
+  long = same.long;
+  each = λ k side. same.each k (elim side [ inl below ↦ inl (omega arith) | inr above ↦ inr (omega arith) ]);
+}
 
 -- a value that is put changes its own places alone
 pub put_outside : (xs : List ℕ) (at : ℕ) (width : Width) (v : ℕ) → IsPut xs at width v

@@ -2,18 +2,19 @@
 -- written over at the buffer (`over_within`), and nothing outside of it changed. The buffer may be written, so it lies
 -- below the mark; one without bytes changes nothing. This file alone cuts RAM at a buffer.
 use Rattle.std.proofs.Common.{◌≡◌, ℕ, ◌+◌, ◌-◌, ◌<◌, ◌≤◌, ◌⊎◌, inl, inr, ◌==◌, Bool, IsTrue, true, false, cond, List}
-use Rattle.std.proofs.Common.{[], ◌∷◌, ◌++◌, length, take, drop, Option, None, Some, refl, sym, ap, subst, ◌∙◌}
+use Rattle.std.proofs.Common.{[], ◌∷◌, ◌++◌, length, take, Option, None, Some, refl, sym, ap, ◌∙◌}
 use Rattle.std.proofs.Common.{rules, arith}
 use Rattle.std.specs.Prelude.{slice_range}
 use Rattle.std.specs.List.{AllByRecursion}
+use Rattle.std.proofs.lemmas.Bool.{cases_lt}
 use Rattle.std.proofs.lemmas.Bool.{eqb-true}
 use Rattle.std.proofs.lemmas.Bool.Decides.{nat_tests}
 use Rattle.std.proofs.lemmas.Grind.{same_number_lists}
-use Rattle.std.proofs.lemmas.List.{places, take_all, take-append-le, take-append-drop, length-take}
+use Rattle.std.proofs.lemmas.List.{places, take-append-drop, length-take}
 use Rattle.tk_base.specs.declared.access.TheConstants.{RAM_START}
 use Rattle.tk_base.specs.declared.upcall.Counts.{Counts}
 use Rattle.tk_base.specs.declared.kinds.PairKind.{PairKind}
-use Rattle.tk_base.specs.declared.kinds.PairKind.TheVariants.{Upcall, ReadOnly, ReadWrite, Readable}
+use Rattle.tk_base.specs.declared.kinds.PairKind.TheVariants.{ReadWrite, Readable}
 use Rattle.tk_base.specs.Kinds.{is_writable}
 use Rattle.grant_model.specs.Grants.{Grant, grant_of, pair_of, pairs_of}
 use Rattle.process_layout.specs.Bounds.{bounds_of}
@@ -25,19 +26,10 @@ use Rattle.process_seat.specs.declared.seat.Seat.{Seat}
 use Rattle.process_seat.specs.Seats.{LiesBelowMark, own_in}
 use Rattle.process_seat.specs.Seen.{IsLentTo, LiesOutside, ServesIn, writable_of}
 use Rattle.process_seat.specs.Buffers.{buffer_start}
+use Rattle.process_seat.proofs.Blocks.{run_is}
 use Rattle.process_seat.proofs.Buffers.{below_held, own_bytes, pair_at, no_range}
-use Rattle.process_seat.proofs.Serving.{own_same, serving_nothing, side_of}
+use Rattle.process_seat.proofs.Serving.{own_same, serving_nothing}
 use Rattle.process_seat.proofs.Windows.{length_window, over_outside}
-
--- what was written over memory, where it fits
-pub run_is : (m : MemoryBytes) (from : ℕ) (ys : List ℕ) → from - RAM_START + length ys ≤ length m.ram
-    → with_run m from ys ≡ record m { ram = over m.ram (from - RAM_START) ys }
-run_is m from ys fits =
-    let zs = over m.ram (from - RAM_START) ys in
-    let long : length zs ≡ length m.ram = (over_outside m.ram ys (from - RAM_START) fits).long in
-    ap (λ (xs : List ℕ). record m { ram = xs })
-    (take-append-le (length m.ram) zs (drop (length zs) m.ram) (omega arith)
-    ∙ take_all (length m.ram) zs (omega arith))
 
 -- nothing that is written changes nothing
 over_nothing : (xs : List ℕ) (at : ℕ) → over xs at [] ≡ xs
@@ -57,13 +49,10 @@ length_over : (xs ys : List ℕ) (at : ℕ) → at + length ys ≤ length xs →
 length_over xs ys at fits = (over_outside xs ys at fits).long
 
 -- what holds of all of two lists holds of each
-all_first : (P : ℕ × ℕ → Type 0) (ps qs : List (ℕ × ℕ)) → AllByRecursion P (ps ++ qs) → AllByRecursion P ps
-all_first P [] qs all = tt
-all_first P (pair ∷ ps) qs all = (all.0, all_first P ps qs all.1)
-
-all_second : (P : ℕ × ℕ → Type 0) (ps qs : List (ℕ × ℕ)) → AllByRecursion P (ps ++ qs) → AllByRecursion P qs
-all_second P [] qs all = all
-all_second P (pair ∷ ps) qs all = all_second P ps qs all.1
+all_parts : (P : ℕ × ℕ → Type 0) (ps qs : List (ℕ × ℕ)) → AllByRecursion P (ps ++ qs)
+    → AllByRecursion P ps × AllByRecursion P qs
+all_parts P [] qs all = (tt, all)
+all_parts P (pair ∷ ps) qs all = let later = all_parts P ps qs all.1 in ((all.0, later.0), later.1)
 
 -- what lies outside of all buffers lies outside of one
 outside_at : (kind : PairKind) (o : Option Grant) (n a : ℕ) → IsTrue (is_writable kind) → LiesOutside a (writable_of o)
@@ -75,10 +64,9 @@ outside_at kind (Some g) n a can out = pair_at Beside (pairs_of kind g) n (inr (
     Beside b = (a < b.0) ⊎ (b.0 + b.1 ≤ a)
 
     of_kind : (k : PairKind) → IsTrue (is_writable k) → AllByRecursion Beside (pairs_of k g)
-    of_kind Upcall can = absurd (cc)
-    of_kind ReadOnly can = absurd (cc)
-    of_kind ReadWrite can = all_first Beside (pairs_of ReadWrite g) (pairs_of Readable g) out
-    of_kind Readable can = all_second Beside (pairs_of ReadWrite g) (pairs_of Readable g) out
+    of_kind ReadWrite can = (all_parts Beside (pairs_of ReadWrite g) (pairs_of Readable g) out).0
+    of_kind Readable can = (all_parts Beside (pairs_of ReadWrite g) (pairs_of Readable g) out).1
+    of_kind other can = absurd (cc)
 
 -- bytes were written into a buffer of a process, from an offset in it on, as many as fit
 pub record Wrote (kind : PairKind) (driver n offset : ℕ) (bs : List ℕ) (m : MemoryBytes) (seat : Seat)
@@ -95,14 +83,7 @@ module _ (kind : PairKind) (can : IsTrue (is_writable kind)) (driver n : ℕ) (c
   nothing : (m' : MemoryBytes) → m' ≡ m → fitting (held kind driver n (own_in m.ram seat)) offset bs ≡ []
       → Wrote kind driver n offset bs m seat m'
   nothing m' same none =
-      let own = own_in m.ram seat in
-      let buffer = held kind driver n own in
-      subst (λ (x : MemoryBytes). Wrote kind driver n offset bs m seat x) (sym same) (record {
-        serves = serving_nothing driver m seat;
-        own = sym (ap (λ (xs : List ℕ). record own { ram = over own.ram (buffer.0 - own.layout.start + offset) xs })
-            none ∙ ap (λ (xs : List ℕ). record own { ram = xs })
-            (over_nothing own.ram (buffer.0 - own.layout.start + offset)));
-      })
+      rw same (record { serves = serving_nothing driver m seat; own = rw (none, over_nothing) refl })
 
   -- bytes in RAM were written
   some_in : (buffer : ℕ × ℕ) → buffer ≡ held kind driver n (own_in m.ram seat) → seat.layout.start ≤ buffer.0
@@ -125,24 +106,23 @@ module _ (kind : PairKind) (can : IsTrue (is_writable kind)) (driver n : ℕ) (c
           long = out.long;
           each = λ k lies.
               out.each k (places_of k at (length fit)
-              (subst (λ (b : ℕ × ℕ). (RAM_START + k < b.0) ⊎ (b.0 + b.1 ≤ RAM_START + k)) (sym is)
-              (outside_at kind (grant_of driver own.grants) n (RAM_START + k) can lies)) refl long);
+              (rw is (outside_at kind (grant_of driver own.grants) n (RAM_START + k) can lies)) refl long);
         };
       } in
-      subst (λ (x : MemoryBytes). Wrote kind driver n offset bs m seat x) (sym made) (record {
+      rw made (record {
         serves = serves;
         own = own_same driver counts m seat l (record m { ram = over m.ram at fit }) seat serves
             ∙ ap (λ (xs : List ℕ). record own { ram = xs })
             (over_within m.ram fit at (seat.layout.start - RAM_START) (seat.layout.kernel_break - RAM_START)
             (omega (arith, s.from)) (omega (arith, s.from, s.ordered.buffers, s.ordered.grants))
             (omega (arith, s.to, s.from, s.ordered.end)))
-            ∙ ap (λ (k : ℕ). record own { ram = over own.ram k fit }) (omega (arith, s.from))
-            ∙ ap (λ (b : ℕ × ℕ). record own {
-              ram =
-                  over own.ram (b.0 - own.layout.start + offset) (fitting b offset bs);
-            }) is;
+            ∙ rw (place s.from low, is);
       })
     where
+      place : RAM_START ≤ seat.layout.start → seat.layout.start ≤ buffer.0
+          → buffer.0 - RAM_START + offset - (seat.layout.start - RAM_START) ≡ buffer.0 - seat.layout.start + offset
+      place from low = omega arith
+
       places_of : (k at size : ℕ) → (RAM_START + k < buffer.0) ⊎ (buffer.0 + buffer.1 ≤ RAM_START + k)
           → at ≡ buffer.0 - RAM_START + offset → size ≤ buffer.1 - offset → (k < at) ⊎ (at + size ≤ k)
       places_of k at size (inl h) e g = inl (omega arith)
@@ -185,7 +165,7 @@ module _ (kind : PairKind) (can : IsTrue (is_writable kind)) (driver n : ℕ) (c
       (fitting buffer offset bs) =
       made ∙ ap (λ (k : ℕ). over lent offset (take (k - offset) bs)) size
       ∙ ap (λ (xs : List ℕ). over xs offset (fitting buffer offset bs)) run in
-      by_offset (side_of buffer.1 offset) now to at.0 at.1
+      by_offset (cases_lt buffer.1 offset) now to at.0 at.1
     where
       by_offset : (buffer.1 < offset) ⊎ (offset ≤ buffer.1)
           → left ≡ over (slice_range m.ram (buffer.0 - RAM_START) (buffer.0 - RAM_START + buffer.1)) offset

@@ -7,6 +7,7 @@ ghost use Rattle.driver_requests.specs.Waiting.{first_of, without};
 ghost use Rattle.driver_requests.specs.Asking.{MayAskAt, MayBeTold, Obeys, Replies};
 ghost use Rattle.random_capsule.specs.Answers.{random_answer_to};
 
+use crate::steps::serve;
 use crate::visits::randoms;
 use board_devices::{Answer, Words};
 use driver_requests::RequestQueue;
@@ -97,7 +98,9 @@ impl RandomCapsule {
         ensures answers { AnswersFirst only (random_answer_to words.old home.old) self.old.waiting words.old
             home.old result self.new.waiting words.new home.new }
     {
-        self.waiting.answer::<RandomCapsule>(home, words, only)
+        let id = self.waiting.first(only)?;
+        let service = serve(home, &id, words);
+        Ok(self.waiting.answered(id, service))
     }
 
     /// The process of an id ended, or starts again: no request of it waits any more. The others

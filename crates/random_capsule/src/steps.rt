@@ -2,14 +2,14 @@
 ghost use Rattle.std.specs.Prelude.{◌≡◌, ◌<◌, true, length, is_some};
 ghost use Rattle.driver_model.specs.Random.{words_after};
 ghost use Rattle.driver_model.specs.Told.{drawn_told};
-ghost use Rattle.driver_requests.specs.Answers.{kinds};
+ghost use Rattle.driver_requests.specs.Answers.{IsAnswered, kinds};
+ghost use Rattle.driver_requests.specs.Asking.{MayBeTold};
+ghost use Rattle.random_capsule.specs.Answers.{random_answer_to};
 
-use crate::capsule::RandomCapsule;
 use crate::visits::{Advance, randoms};
 use board_devices::{Kind, Words};
-use driver_requests::{Serve, Service, visit_request};
+use driver_requests::{Service, visit_request};
 use grant_enter::Home;
-use grant_values::RandomRequest;
 use tk_base::ProcessId;
 
 /// Takes the next word away, where one was drawn.
@@ -32,30 +32,24 @@ fn told(drawn: Option<u32>) -> Kind
     }
 }
 
-impl Serve<RandomRequest> for RandomCapsule {
-    ghost use Rattle.random_capsule.specs.Answers.{random_answer_to};
-
-    type Device = Words;
-
-    ghost asks = { λ words own. Unit {0} };
-
-    ghost answer_to = { random_answer_to };
-
-    /// A step of the request of a process, if it is there and has one: the word that was drawn, or
-    /// that none was, and whether the request completed.
-    #[tactic(auto, unfolding(driver_model::specs::Random::answered))]
-    fn serve(home: &mut Home, id: &ProcessId, words: &mut Words) -> Service {
-        let advance = Advance { word: words.peek() };
-        let Ok(step) = visit_request(&randoms(), home, *id, advance) else {
-            return Service {
-                kind: Kind::NoWord,
-                completed: false,
-            };
+/// A step of the request of a process, if it is there and has one: the word that was drawn, or that
+/// none was, and whether the request completed.
+#[tactic(auto, unfolding(driver_model::specs::Random::answered))]
+pub(crate) fn serve(home: &mut Home, id: &ProcessId, words: &mut Words) -> Service
+    requires { MayBeTold home.old id.now }
+    ensures { IsAnswered (random_answer_to words.old home.old id.now) id.now home.old result
+        words.new home.new }
+{
+    let advance = Advance { word: words.peek() };
+    let Ok(attended) = visit_request(&randoms(), home, *id, advance) else {
+        return Service {
+            kind: Kind::NoWord,
+            completed: false,
         };
-        take_away(words, step.drawn);
-        Service {
-            kind: told(step.drawn),
-            completed: step.rest.is_none(),
-        }
+    };
+    take_away(words, attended.answer);
+    Service {
+        kind: told(attended.answer),
+        completed: attended.completed,
     }
 }

@@ -33,14 +33,15 @@ pub(crate) fn randoms() -> Randoms
 
 /// What a step of a request came to.
 #[derive(Clone, Copy)]
-pub(crate) struct Step {
+struct Step {
     /// What waits of it still; None where it completed.
-    pub rest: Option<RandomRequest>,
+    rest: Option<RandomRequest>,
     /// The word that was drawn for it, if one was.
-    pub drawn: Option<u32>,
+    drawn: Option<u32>,
 }
 
-/// Takes a step of the request that waits, with the next word, where one is left.
+/// Takes a step of the request that waits, with the next word, where one is left. It answers the
+/// word that was drawn, if one was.
 #[derive(Drop)]
 pub(crate) struct Advance {
     pub word: Option<u32>,
@@ -50,7 +51,7 @@ impl VisitRequest<RandomRequest> for Advance {
     ghost use Rattle.std.specs.Prelude.{◌≡◌, ◌+◌, ◌<◌, ◌^◌};
     ghost use Rattle.driver_model.specs.Random.{progress};
 
-    type Answer = Step;
+    type Answer = Option<u32>;
 
     ghost asks = { λ advance request seen. (seen.driver ≡ random) × (0 < seen.counts.upcalls)
         × (0 < seen.counts.rw) × (seen.own.inbox.dropped + 1 < 2 ^ 32) };
@@ -59,17 +60,16 @@ impl VisitRequest<RandomRequest> for Advance {
 
     ghost rest = { λ advance request seen. (progress advance.word request seen.own).rest };
 
-    ghost answers = { λ advance request seen step.
-        let p = progress advance.word request seen.own in
-        (step.rest ≡ p.rest) × (step.drawn ≡ p.drawn) };
+    ghost answers = { λ advance request seen drawn.
+        drawn ≡ (progress advance.word request seen.own).drawn };
 
     fn run(
         self,
         request: &RandomRequest,
         entered: &mut Entered<'_>,
-    ) -> (Step, Option<RandomRequest>) {
-        let step = take_step(entered, request, self.word);
-        (step, step.rest)
+    ) -> (Option<u32>, Option<RandomRequest>) {
+        let Step { rest, drawn } = take_step(entered, request, self.word);
+        (drawn, rest)
     }
 }
 

@@ -7,9 +7,10 @@ use crate::register::{Register, Target};
 /// An instruction, and by its variant its length; or nothing known of what stands at a place. No variant groups several
 /// operations or lengths, so that one look tells what to do, and what comes next does not wait for memory to tell it.
 /// Those of two bytes begin with C. None names x0 as a register to set: a jump that keeps no link has a variant of its
-/// own, and so has what does nothing. Nor does one name x0 where code often reads it: what sets a register to a number,
-/// what copies one, and what branches by whether one is 0 have their own. Offsets and immediates are numbers modulo
-/// 2^32, as in [`rv32_model::Instr`]; of a jump or branch by an offset it is the half, by so many parcels.
+/// own, and so has what does nothing. Nor does one name x0 where code often reads it: what sets a register to a number
+/// has its own, and so have, of two bytes, what copies one and what branches by whether one is 0. Offsets and
+/// immediates are numbers modulo 2^32, as in [`rv32_model::Instr`]; of a jump or branch by an offset it is the half, by
+/// so many parcels.
 #[derive(Clone, Copy)]
 pub enum Entry {
     /// Nothing is known: bits that are no instruction, a breakpoint, half an instruction, one that sets x0 and has no

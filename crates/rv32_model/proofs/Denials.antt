@@ -1,5 +1,5 @@
 -- What a turn is denied for, by cases on what was fetched, the row and the instruction.
-use Rattle.std.proofs.Common.{◌≡◌, inl, inr, ℕ, ◌+◌, ◌%◌, ◌==◌, Bool, true, false, cond, Option, None, Some, Result, Ok}
+use Rattle.std.proofs.Common.{◌≡◌, inl, inr, ℕ, ◌+◌, ◌%◌, ◌==◌, Option, None, Some, Result, Ok}
 use Rattle.std.proofs.Common.{Err, refl, ap, subst, eqb-true}
 use Rattle.tk_base.specs.declared.access.Access.TheVariants.{Fetch, Load, Store}
 use Rattle.tk_base.specs.declared.access.Width.{Width}
@@ -20,7 +20,8 @@ use Rattle.rv32_model.specs.Laws.{IsDueParcel}
 use Rattle.rv32_model.proofs.Lengths.{length_of}
 use Rattle.rv32_model.specs.UserTurn.{UserTurn, user_turn, on_word, executed, fetched, after_load, after_store}
 use Rattle.rv32_model.specs.UserTurn.{denied_at, effect, load_width, w32_of, judged_parcel, with_first, with_second}
-use Rattle.rv32_model.specs.UserTurn.{parcel_at, instr_of, trapped}
+use Rattle.rv32_model.specs.UserTurn.{instr_of, trapped}
+use Rattle.std.proofs.lemmas.Bool.{cond_both}
 
 module _ (denies : Denies) (bytes : ℕ → ℕ) (regs : Registers) where
   -- a turn that is denied for nothing but what has a property
@@ -50,11 +51,6 @@ module _ (denies : Denies) (bytes : ℕ → ℕ) (regs : Registers) where
   effect_due : (length : ℕ) (i : Instr)
       → IsDeniedFor (λ d. IsDueOf denies regs d (Some i)) (effect denies bytes length i regs)
   unfolding IsDeniedFor
-  effect_due length (instrs.Lui rd imm) d e = absurd (cc)
-  effect_due length (instrs.Auipc rd imm) d e = absurd (cc)
-  effect_due length (instrs.Jal rd offset) d e = absurd (cc)
-  effect_due length (instrs.Jalr rd rs1 offset) d e = absurd (cc)
-  effect_due length (instrs.Branch test rs1 rs2 offset) d e = absurd (cc)
   effect_due length (instrs.Load kind rd rs1 offset) d e =
       let at = w32_of (register regs rs1 + offset) in
       load_due length kind rd at (number_at bytes at (load_width kind))
@@ -62,11 +58,8 @@ module _ (denies : Denies) (bytes : ℕ → ℕ) (regs : Registers) where
   effect_due length (instrs.Store width rs1 rs2 offset) d e =
       let at = w32_of (register regs rs1 + offset) in
       store_due length width at (register regs rs2) (misaligned_first denies Store at width) refl d e
-  effect_due length (instrs.OpImm op rd rs1 imm) d e = absurd (cc)
-  effect_due length (instrs.Op op rd rs1 rs2) d e = absurd (cc)
-  effect_due length instrs.Fence d e = absurd (cc)
-  effect_due length instrs.Ecall d e = absurd (cc)
   effect_due length instrs.Ebreak d e = denied_for (λ d. d ≡ denied_at Fetch regs.pc Breakpoint) _ refl d e
+  effect_due length i d e = absurd (cc)
 
   executed_due : (length : ℕ) (o : Option Instr)
       → IsDeniedFor (λ d. IsDueOf denies regs d o) (executed denies bytes length o regs)
@@ -89,18 +82,9 @@ module _ (denies : Denies) (bytes : ℕ → ℕ) (regs : Registers) where
   first_denied : (o : Option Rule) → denies Fetch regs.pc Half ≡ o
       → IsFetchDenied (with_first denies bytes regs.pc (judged_parcel regs.pc o (number_at bytes regs.pc Half)))
   unfolding IsFetchDenied
-  first_denied None is = by_length (number_at bytes regs.pc Half % 4 == 3) refl
-    where
-      first : ℕ
-      first = number_at bytes regs.pc Half
-
-      at : ℕ
-      at = w32_of (regs.pc + 2)
-
-      by_length : (b : Bool) → (first % 4 == 3) ≡ b
-          → IsFetchDenied (cond b (with_second first (parcel_at denies bytes at)) (Ok first))
-      by_length true long = second_denied (denies Fetch at Half) refl is (eqb-true (first % 4) 3 long)
-      by_length false long = tt
+  first_denied None is =
+      cond_both (number_at bytes regs.pc Half % 4 == 3) _ _ IsFetchDenied
+      (λ long. second_denied _ refl is (eqb-true (number_at bytes regs.pc Half % 4) 3 long)) (λ one. tt)
   first_denied (Some rule) is = (refl, is, inl refl)
 
   fetch_denied : IsFetchDenied (fetched denies bytes regs.pc)
@@ -121,34 +105,18 @@ module _ (denies : Denies) (bytes : ℕ → ℕ) (regs : Registers) where
   -- an instruction that makes a call
   is_ecall : (length : ℕ) (i : Instr) → let t = effect denies bytes length i regs in
       t.end ≡ Call → (i ≡ instrs.Ecall) × (t.regs ≡ regs) × (t.write ≡ None)
-  is_ecall length (instrs.Lui rd imm) e = absurd (cc)
-  is_ecall length (instrs.Auipc rd imm) e = absurd (cc)
-  is_ecall length (instrs.Jal rd offset) e = absurd (cc)
-  is_ecall length (instrs.Jalr rd rs1 offset) e = absurd (cc)
-  is_ecall length (instrs.Branch test rs1 rs2 offset) e = absurd (cc)
   is_ecall length (instrs.Load kind rd rs1 offset) e =
-      absurd (no_load (misaligned_first denies Load at (load_width kind)) e)
-    where
-      at : ℕ
-      at = w32_of (register regs rs1 + offset)
-
-      no_load : (o : Option Rule)
-          → (after_load length regs kind rd at (number_at bytes at (load_width kind)) o).end ≡ Call → ⊥
-      no_load None e = cc
-      no_load (Some rule) e = cc
-  is_ecall length (instrs.Store width rs1 rs2 offset) e = absurd (no_store (misaligned_first denies Store at width) e)
-    where
-      at : ℕ
-      at = w32_of (register regs rs1 + offset)
-
-      no_store : (o : Option Rule) → (after_store length regs width at (register regs rs2) o).end ≡ Call → ⊥
-      no_store None e = cc
-      no_store (Some rule) e = cc
-  is_ecall length (instrs.OpImm op rd rs1 imm) e = absurd (cc)
-  is_ecall length (instrs.Op op rd rs1 rs2) e = absurd (cc)
-  is_ecall length instrs.Fence e = absurd (cc)
+      let at = w32_of (register regs rs1 + offset) in
+      absurd ((elim (misaligned_first denies Load at (load_width kind))
+      as (λ o. (after_load length regs kind rd at (number_at bytes at (load_width kind)) o).end ≡ Call → ⊥)
+      [ None ↦ λ f. cc | Some rule ↦ λ f. cc ]) e)
+  is_ecall length (instrs.Store width rs1 rs2 offset) e =
+      let at = w32_of (register regs rs1 + offset) in
+      absurd ((elim (misaligned_first denies Store at width)
+      as (λ o. (after_store length regs width at (register regs rs2) o).end ≡ Call → ⊥)
+      [ None ↦ λ f. cc | Some rule ↦ λ f. cc ]) e)
   is_ecall length instrs.Ecall e = (refl, refl, refl)
-  is_ecall length instrs.Ebreak e = absurd (cc)
+  is_ecall length i e = absurd (cc)
 
   executed_call : (length : ℕ) (o : Option Instr) → let t = executed denies bytes length o regs in
       t.end ≡ Call → (o ≡ Some instrs.Ecall) × (t.regs ≡ regs) × (t.write ≡ None)

@@ -1,5 +1,5 @@
 -- A turn that writes goes, and lists the store.
-use Rattle.std.proofs.Common.{◌≡◌, ℕ, ◌+◌, ◌||◌, Bool, true, false, [], ◌∷◌, Option, None, Some, Result, Ok, Err, refl}
+use Rattle.std.proofs.Common.{◌≡◌, ℕ, ◌+◌, false, [], ◌∷◌, Option, None, Some, Result, Ok, Err, refl}
 use Rattle.std.proofs.Common.{◌∙◌}
 use Rattle.std.specs.Prelude.{IfSome, IsTrue}
 use Rattle.std.specs.List.{list_any}
@@ -11,7 +11,6 @@ use Rattle.tk_base.specs.declared.access.Denial.{Denial}
 use Rattle.tk_base.specs.Regs.{Registers, register}
 use Rattle.tk_base.specs.Access.{misaligned_first}
 use Rattle.tk_base.specs.Bus.{number_at}
-use Rattle.rv32_model.specs.declared.instr.LoadKind.{LoadKind}
 use Rattle.rv32_model.specs.declared.instr.Instr.{Instr}
 use Rattle.rv32_model.specs.declared.instr.Instr.TheVariants as instrs
 use Rattle.rv32_model.specs.declared.turn_end.TurnEnd.TheVariants.{Went}
@@ -19,16 +18,12 @@ use Rattle.rv32_model.specs.Laws.{Denies, stores_at, WritesAreListed}
 use Rattle.rv32_model.proofs.Lengths.{length_of}
 use Rattle.rv32_model.specs.UserTurn.{UserTurn, user_turn, on_word, executed, fetched, after_load, after_store, effect}
 use Rattle.rv32_model.specs.UserTurn.{fetches, load_width, touch_of, w32_of, instr_of}
+use Rattle.std.proofs.lemmas.Bool.{or_right, or_left}
 
 Listed : UserTurn → Type 0
 Listed t = IfSome t.write (λ w. (t.end ≡ Went)
     × ((at : ℕ) → IsTrue (stores_at at (touch_of Store w.address w.width))
     → IsTrue (list_any (stores_at at) t.accesses)))
-
-last_of : (x y : Bool) → y ≡ true → (x || (y || false)) ≡ true
-last_of true y e = refl
-last_of false true e = refl
-last_of false false e = e
 
 store_listed : (length : ℕ) (regs : Registers) (width : Width) (at value : ℕ) (o : Option Rule)
     → Listed (after_store length regs width at value o)
@@ -37,36 +32,22 @@ store_listed length regs width at value None = (
   refl,
   λ a covers.
       list_any-append (stores_at a) (fetches length regs) (touch_of Store at width ∷ [])
-      ∙ last_of (list_any (stores_at a) (fetches length regs)) (stores_at a (touch_of Store at width)) covers,
+      ∙ or_right (list_any (stores_at a) (fetches length regs)) _ (or_left _ false covers),
 )
 store_listed length regs width at value (Some rule) = tt
-
-load_listed : (length : ℕ) (regs : Registers) (kind : LoadKind) (rd at number : ℕ) (o : Option Rule)
-    → Listed (after_load length regs kind rd at number o)
-unfolding Listed
-load_listed length regs kind rd at number None = tt
-load_listed length regs kind rd at number (Some rule) = tt
 
 effect_listed : (denies : Denies) (bytes : ℕ → ℕ) (length : ℕ) (i : Instr) (regs : Registers)
     → Listed (effect denies bytes length i regs)
 unfolding Listed
-effect_listed denies bytes length (instrs.Lui rd imm) regs = tt
-effect_listed denies bytes length (instrs.Auipc rd imm) regs = tt
-effect_listed denies bytes length (instrs.Jal rd offset) regs = tt
-effect_listed denies bytes length (instrs.Jalr rd rs1 offset) regs = tt
-effect_listed denies bytes length (instrs.Branch test rs1 rs2 offset) regs = tt
 effect_listed denies bytes length (instrs.Load kind rd rs1 offset) regs =
     let at = w32_of (register regs rs1 + offset) in
-    load_listed length regs kind rd at (number_at bytes at (load_width kind))
-    (misaligned_first denies Load at (load_width kind))
+    elim (misaligned_first denies Load at (load_width kind))
+    as (λ o. Listed (after_load length regs kind rd at (number_at bytes at (load_width kind)) o))
+    [ None ↦ tt | Some rule ↦ tt ]
 effect_listed denies bytes length (instrs.Store width rs1 rs2 offset) regs =
     store_listed length regs width (w32_of (register regs rs1 + offset)) (register regs rs2)
     (misaligned_first denies Store (w32_of (register regs rs1 + offset)) width)
-effect_listed denies bytes length (instrs.OpImm op rd rs1 imm) regs = tt
-effect_listed denies bytes length (instrs.Op op rd rs1 rs2) regs = tt
-effect_listed denies bytes length instrs.Fence regs = tt
-effect_listed denies bytes length instrs.Ecall regs = tt
-effect_listed denies bytes length instrs.Ebreak regs = tt
+effect_listed denies bytes length i regs = tt
 
 executed_listed : (denies : Denies) (bytes : ℕ → ℕ) (length : ℕ) (o : Option Instr) (regs : Registers)
     → Listed (executed denies bytes length o regs)

@@ -1,6 +1,6 @@
 -- No parcel fits two rows: of each two rows the quadrants or the top bits differ, or no parcel passes both tests.
-use Rattle.std.proofs.Common.{◌≡◌, ℕ, ◌≤◌, ◌%◌, ◌==◌, ◌&&◌, not, Bool, true, false, cond, List, [], ◌∷◌, length, refl}
-use Rattle.std.proofs.Common.{◌∙◌, ap, arith}
+use Rattle.std.proofs.Common.{◌≡◌, ℕ, ◌≤◌, ◌%◌, ◌==◌, ◌&&◌, not, Bool, true, false, List, [], ◌∷◌, length, refl}
+use Rattle.std.proofs.Common.{arith}
 use Rattle.std.specs.Prelude.{filter}
 use Rattle.std.proofs.lemmas.Bool.Decides.{nat_tests}
 use Rattle.rv32_model.specs.Instructions.{bits_of, rd_of}
@@ -48,17 +48,13 @@ module _ (w : ℕ) where
   none_fits r [] apart fits = refl
   none_fits r (s ∷ rows) apart fits = by_key (has_same_key r s) refl apart (λ later. none_fits r rows later fits)
     where
-      left_out : fits_parcel w s ≡ false → filter (fits_parcel w) rows ≡ [] → filter (fits_parcel w) (s ∷ rows) ≡ []
-      left_out here later =
-          ap (λ (b : Bool). cond b (s ∷ filter (fits_parcel w) rows) (filter (fits_parcel w) rows)) here ∙ later
-
       by_key : (b : Bool) → has_same_key r s ≡ b → ApartIf b r s (ApartOfAll r rows)
           → (ApartOfAll r rows → filter (fits_parcel w) rows ≡ []) → filter (fits_parcel w) (s ∷ rows) ≡ []
       by_key true same a rest =
-          left_out (fails (w % 4) (bits_of w 13 3) s.quadrant s.top (s.when w)
+          rw (fails (w % 4) (bits_of w 13 3) s.quadrant s.top (s.when w)
           (a.0 w (passes (w % 4) (bits_of w 13 3) r.quadrant r.top (r.when w) fits))) (rest a.1)
       by_key false other a rest =
-          left_out (differ (w % 4) (bits_of w 13 3) r.quadrant r.top s.quadrant s.top (r.when w) (s.when w) other fits)
+          rw (differ (w % 4) (bits_of w 13 3) r.quadrant r.top s.quadrant s.top (r.when w) (s.when w) other fits)
           (rest a)
 
   at_most_one : (rows : List CompressedRow) → AllApart rows → length (filter (fits_parcel w) rows) ≤ 1

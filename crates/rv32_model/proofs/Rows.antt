@@ -34,7 +34,7 @@ none_fits w r [] a f = refl
 none_fits w r (s ∷ rows) a f =
     let parts : (are_apart r s ≡ true) × (list_all (are_apart r) rows ≡ true) = grind (arith, nat_tests) in
     let here : row_fits w s ≡ false = not_both w r.mask r.value s.mask s.value parts.0 f in
-    ap (λ b. cond b (s ∷ filter (row_fits w) rows) (filter (row_fits w) rows)) here ∙ none_fits w r rows parts.1 f
+    rw here (none_fits w r rows parts.1 f)
 
 pub one_or_rest : {X : Type 0} (r : X) (rest : List X) (b : Bool) → (b ≡ true → rest ≡ []) → length rest ≤ 1
     → length (cond b (r ∷ rest) rest) ≤ 1

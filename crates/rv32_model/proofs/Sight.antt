@@ -45,11 +45,6 @@ fetched_same d e b c l pc =
 
 effect_same : (d e : Denies) (b c : ℕ → ℕ) → LookAlike d e b c → (length : ℕ) (i : Instr) (regs : Registers)
     → effect d b length i regs ≡ effect e c length i regs
-effect_same d e b c l length (instrs.Lui rd imm) regs = refl
-effect_same d e b c l length (instrs.Auipc rd imm) regs = refl
-effect_same d e b c l length (instrs.Jal rd offset) regs = refl
-effect_same d e b c l length (instrs.Jalr rd rs1 offset) regs = refl
-effect_same d e b c l length (instrs.Branch test rs1 rs2 offset) regs = refl
 effect_same d e b c l length (instrs.Load kind rd rs1 offset) regs =
     let at = w32_of (register regs rs1 + offset) in
     load_same length regs kind rd at (misaligned_first d Load at (load_width kind)) (number_at b at (load_width kind))
@@ -58,11 +53,7 @@ effect_same d e b c l length (instrs.Load kind rd rs1 offset) regs =
 effect_same d e b c l length (instrs.Store width rs1 rs2 offset) regs =
     let at = w32_of (register regs rs1 + offset) in
     ap (after_store length regs width at (register regs rs2)) (l.accesses Store at width)
-effect_same d e b c l length (instrs.OpImm op rd rs1 imm) regs = refl
-effect_same d e b c l length (instrs.Op op rd rs1 rs2) regs = refl
-effect_same d e b c l length instrs.Fence regs = refl
-effect_same d e b c l length instrs.Ecall regs = refl
-effect_same d e b c l length instrs.Ebreak regs = refl
+effect_same d e b c l length i regs = refl
 
 executed_same : (d e : Denies) (b c : ℕ → ℕ) → LookAlike d e b c → (length : ℕ) (o : Option Instr) (regs : Registers)
     → executed d b length o regs ≡ executed e c length o regs

@@ -1,5 +1,5 @@
 -- The laws of a turn, by cases on what was fetched, the row and the instruction.
-use Rattle.std.proofs.Common.{ap, List, ◌≡◌, ◌≢◌, ℕ, ◌+◌, ◌%◌, ◌==◌, ◌||◌, Bool, true, false, [], ◌∷◌, Option, None}
+use Rattle.std.proofs.Common.{ap, ◌≡◌, ◌≢◌, ℕ, ◌+◌, ◌%◌, ◌==◌, ◌||◌, Bool, true, false, [], ◌∷◌, Option, None}
 use Rattle.std.proofs.Common.{Some, Result, Ok, Err, if◌then◌else◌, refl, sym, ◌∙◌, arith}
 use Rattle.std.specs.Prelude.{All, IfSome}
 use Rattle.std.specs.List.{list_any}
@@ -28,6 +28,7 @@ use Rattle.rv32_model.proofs.Lengths.{length_of}
 use Rattle.rv32_model.specs.UserTurn.{MemoryAccess, UserTurn, denied_at, trapped, user_turn, on_word, executed, fetched}
 use Rattle.rv32_model.specs.UserTurn.{after_write, after_load, after_store, effect, fetches, load_width, touch_of}
 use Rattle.rv32_model.specs.UserTurn.{w32_of, judged_parcel, with_first, with_second, parcel_at, instr_of}
+use Rattle.std.proofs.lemmas.Bool.{or_parts, cond_both}
 
 -- a turn that does not go changes nothing, and a denied one lists no access
 Kept : (ℕ → ℕ) → Registers → UserTurn → Type 0
@@ -61,11 +62,6 @@ store_kept bytes length regs width at value (Some rule) = denied_kept bytes regs
 
 effect_kept : (denies : Denies) (bytes : ℕ → ℕ) (length : ℕ) (i : Instr) (regs : Registers)
     → Kept bytes regs (effect denies bytes length i regs)
-effect_kept denies bytes length (instrs.Lui rd imm) regs = went bytes regs _ refl
-effect_kept denies bytes length (instrs.Auipc rd imm) regs = went bytes regs _ refl
-effect_kept denies bytes length (instrs.Jal rd offset) regs = went bytes regs _ refl
-effect_kept denies bytes length (instrs.Jalr rd rs1 offset) regs = went bytes regs _ refl
-effect_kept denies bytes length (instrs.Branch test rs1 rs2 offset) regs = went bytes regs _ refl
 effect_kept denies bytes length (instrs.Load kind rd rs1 offset) regs =
     let at = w32_of (register regs rs1 + offset) in
     load_kept bytes length regs kind rd at (number_at bytes at (load_width kind))
@@ -73,11 +69,9 @@ effect_kept denies bytes length (instrs.Load kind rd rs1 offset) regs =
 effect_kept denies bytes length (instrs.Store width rs1 rs2 offset) regs =
     let at = w32_of (register regs rs1 + offset) in
     store_kept bytes length regs width at (register regs rs2) (misaligned_first denies Store at width)
-effect_kept denies bytes length (instrs.OpImm op rd rs1 imm) regs = went bytes regs _ refl
-effect_kept denies bytes length (instrs.Op op rd rs1 rs2) regs = went bytes regs _ refl
-effect_kept denies bytes length instrs.Fence regs = went bytes regs _ refl
 effect_kept denies bytes length instrs.Ecall regs = call_kept bytes length regs
 effect_kept denies bytes length instrs.Ebreak regs = denied_kept bytes regs (denied_at Fetch regs.pc Breakpoint)
+effect_kept denies bytes length i regs = went bytes regs _ refl
 
 executed_kept : (denies : Denies) (bytes : ℕ → ℕ) (length : ℕ) (o : Option Instr) (regs : Registers)
     → Kept bytes regs (executed denies bytes length o regs)
@@ -111,27 +105,20 @@ load_touches : (P : MemoryAccess → Type 0) (length : ℕ) (regs : Registers) (
     (o : Option Rule) → All P (fetches length regs) → (o ≡ None → P (touch_of Load at (load_width kind)))
     → All P (after_load length regs kind rd at number o).accesses
 load_touches P length regs kind rd at number None f p =
-    All-append P (fetches length regs) (touch_of Load at (load_width kind) ∷ []) f
-    (All-cons P (touch_of Load at (load_width kind)) [] (p refl) (All-nil P))
+    All-append P (fetches length regs) _ f (All-cons P _ [] (p refl) (All-nil P))
 load_touches P length regs kind rd at number (Some rule) f p = All-nil P
 
 store_touches : (P : MemoryAccess → Type 0) (length : ℕ) (regs : Registers) (width : Width) (at value : ℕ)
     (o : Option Rule) → All P (fetches length regs) → (o ≡ None → P (touch_of Store at width))
     → All P (after_store length regs width at value o).accesses
 store_touches P length regs width at value None f p =
-    All-append P (fetches length regs) (touch_of Store at width ∷ []) f
-    (All-cons P (touch_of Store at width) [] (p refl) (All-nil P))
+    All-append P (fetches length regs) _ f (All-cons P _ [] (p refl) (All-nil P))
 store_touches P length regs width at value (Some rule) f p = All-nil P
 
 effect_touches : (P : MemoryAccess → Type 0) (denies : Denies) (bytes : ℕ → ℕ) (length : ℕ) (i : Instr)
     (regs : Registers) → All P (fetches length regs)
     → ((access : Access) (at : ℕ) (width : Width) → misaligned_first denies access at width ≡ None
     → P (touch_of access at width)) → All P (effect denies bytes length i regs).accesses
-effect_touches P denies bytes length (instrs.Lui rd imm) regs f p = f
-effect_touches P denies bytes length (instrs.Auipc rd imm) regs f p = f
-effect_touches P denies bytes length (instrs.Jal rd offset) regs f p = f
-effect_touches P denies bytes length (instrs.Jalr rd rs1 offset) regs f p = f
-effect_touches P denies bytes length (instrs.Branch test rs1 rs2 offset) regs f p = f
 effect_touches P denies bytes length (instrs.Load kind rd rs1 offset) regs f p =
     let at = w32_of (register regs rs1 + offset) in
     load_touches P length regs kind rd at (number_at bytes at (load_width kind))
@@ -140,11 +127,8 @@ effect_touches P denies bytes length (instrs.Store width rs1 rs2 offset) regs f 
     let at = w32_of (register regs rs1 + offset) in
     store_touches P length regs width at (register regs rs2) (misaligned_first denies Store at width) f
     (p Store at width)
-effect_touches P denies bytes length (instrs.OpImm op rd rs1 imm) regs f p = f
-effect_touches P denies bytes length (instrs.Op op rd rs1 rs2) regs f p = f
-effect_touches P denies bytes length instrs.Fence regs f p = f
-effect_touches P denies bytes length instrs.Ecall regs f p = f
 effect_touches P denies bytes length instrs.Ebreak regs f p = All-nil P
+effect_touches P denies bytes length i regs f p = f
 
 executed_touches : (P : MemoryAccess → Type 0) (denies : Denies) (bytes : ℕ → ℕ) (length : ℕ) (o : Option Instr)
     (regs : Registers) → All P (fetches length regs)
@@ -192,20 +176,11 @@ unfolding fetched
 word_permitted denies bytes pc word e =
     first_permitted denies bytes pc (number_at bytes pc Half) (denies Fetch pc Half) word e
 
-second_fetch : Registers → Bool → List MemoryAccess
-second_fetch regs b = if b then [] else touch_of Fetch (w32_of (regs.pc + 2)) Half ∷ []
-
-second_each : (P : MemoryAccess → Type 0) (regs : Registers) (b : Bool)
-    → (b ≡ false → P (touch_of Fetch (w32_of (regs.pc + 2)) Half)) → All P (second_fetch regs b)
-unfolding second_fetch
-second_each P regs true q = All-nil P
-second_each P regs false q = All-cons P (touch_of Fetch (w32_of (regs.pc + 2)) Half) [] (q refl) (All-nil P)
-
 fetches_each : (P : MemoryAccess → Type 0) (length : ℕ) (regs : Registers) → P (touch_of Fetch regs.pc Half)
     → ((length == 2) ≡ false → P (touch_of Fetch (w32_of (regs.pc + 2)) Half)) → All P (fetches length regs)
-unfolding second_fetch
 fetches_each P length regs p q =
-    All-cons P (touch_of Fetch regs.pc Half) (second_fetch regs (length == 2)) p (second_each P regs (length == 2) q)
+    All-cons P (touch_of Fetch regs.pc Half) _ p
+    (cond_both (length == 2) [] _ (All P) (λ one. All-nil P) (λ two. All-cons P _ [] (q two) (All-nil P)))
 
 -- what holds of each permitted fetch, and of each load and store that is not denied
 Holds : Denies → (MemoryAccess → Type 0) → Type 0
@@ -241,10 +216,8 @@ data_permitted denies access at width e =
 data_aligned : (denies : Denies) (access : Access) (at : ℕ) (width : Width)
     → misaligned_first denies access at width ≡ None → access ≢ Fetch → at % width_bytes width ≡ 0
 data_aligned denies Fetch at width e n = absurd (n refl)
-data_aligned denies Load at width e n = let aligned =
-    (none_first (is_misaligned Load at width) (denies Load at width) Misaligned e).0 in grind (arith, nat_tests)
-data_aligned denies Store at width e n = let aligned =
-    (none_first (is_misaligned Store at width) (denies Store at width) Misaligned e).0 in grind (arith, nat_tests)
+data_aligned denies access at width e n = let aligned =
+    (none_first (is_misaligned access at width) (denies access at width) Misaligned e).0 in grind (arith, nat_tests)
 
 pub accesses_are_permitted : AccessesArePermitted
 unfolding Holds
@@ -262,9 +235,7 @@ Stays : ℕ → (ℕ → ℕ) → UserTurn → Type 0
 Stays at bytes t = list_any (stores_at at) t.accesses ≡ false → after_write t.write bytes at ≡ bytes at
 
 none_of : (x y : Bool) → (x || (y || false)) ≡ false → y ≡ false
-none_of true y e = cc
-none_of false true e = cc
-none_of false false e = refl
+none_of x y e = (or_parts y false (or_parts x (y || false) e).1).0
 
 store_stays : (a : ℕ) (bytes : ℕ → ℕ) (length : ℕ) (regs : Registers) (width : Width) (at value : ℕ) (o : Option Rule)
     → Stays a bytes (after_store length regs width at value o)
@@ -277,32 +248,17 @@ store_stays a bytes length regs width at value None e =
     simp last
 store_stays a bytes length regs width at value (Some rule) e = refl
 
-load_stays : (a : ℕ) (bytes : ℕ → ℕ) (length : ℕ) (regs : Registers) (kind : LoadKind) (rd at number : ℕ)
-    (o : Option Rule) → Stays a bytes (after_load length regs kind rd at number o)
-unfolding Stays
-load_stays a bytes length regs kind rd at number None e = refl
-load_stays a bytes length regs kind rd at number (Some rule) e = refl
-
 effect_stays : (a : ℕ) (denies : Denies) (bytes : ℕ → ℕ) (length : ℕ) (i : Instr) (regs : Registers)
     → Stays a bytes (effect denies bytes length i regs)
 unfolding Stays
-effect_stays a denies bytes length (instrs.Lui rd imm) regs e = refl
-effect_stays a denies bytes length (instrs.Auipc rd imm) regs e = refl
-effect_stays a denies bytes length (instrs.Jal rd offset) regs e = refl
-effect_stays a denies bytes length (instrs.Jalr rd rs1 offset) regs e = refl
-effect_stays a denies bytes length (instrs.Branch test rs1 rs2 offset) regs e = refl
 effect_stays a denies bytes length (instrs.Load kind rd rs1 offset) regs e =
     let at = w32_of (register regs rs1 + offset) in
-    load_stays a bytes length regs kind rd at (number_at bytes at (load_width kind))
-    (misaligned_first denies Load at (load_width kind)) e
+    elim (misaligned_first denies Load at (load_width kind)) as (λ o. after_write (after_load length regs kind rd at
+    (number_at bytes at (load_width kind)) o).write bytes a ≡ bytes a) [ None ↦ refl | Some rule ↦ refl ]
 effect_stays a denies bytes length (instrs.Store width rs1 rs2 offset) regs e =
     let at = w32_of (register regs rs1 + offset) in
     store_stays a bytes length regs width at (register regs rs2) (misaligned_first denies Store at width) e
-effect_stays a denies bytes length (instrs.OpImm op rd rs1 imm) regs e = refl
-effect_stays a denies bytes length (instrs.Op op rd rs1 rs2) regs e = refl
-effect_stays a denies bytes length instrs.Fence regs e = refl
-effect_stays a denies bytes length instrs.Ecall regs e = refl
-effect_stays a denies bytes length instrs.Ebreak regs e = refl
+effect_stays a denies bytes length i regs e = refl
 
 executed_stays : (a : ℕ) (denies : Denies) (bytes : ℕ → ℕ) (length : ℕ) (o : Option Instr) (regs : Registers)
     → Stays a bytes (executed denies bytes length o regs)
@@ -330,32 +286,18 @@ unfolding Permitted
 store_permitted denies length regs width at value None e = data_permitted denies Store at width (sym e)
 store_permitted denies length regs width at value (Some rule) e = tt
 
-load_permitted : (denies : Denies) (length : ℕ) (regs : Registers) (kind : LoadKind) (rd at number : ℕ)
-    (o : Option Rule) → Permitted denies (after_load length regs kind rd at number o)
-unfolding Permitted
-load_permitted denies length regs kind rd at number None = tt
-load_permitted denies length regs kind rd at number (Some rule) = tt
-
 effect_permitted : (denies : Denies) (bytes : ℕ → ℕ) (length : ℕ) (i : Instr) (regs : Registers)
     → Permitted denies (effect denies bytes length i regs)
 unfolding Permitted
-effect_permitted denies bytes length (instrs.Lui rd imm) regs = tt
-effect_permitted denies bytes length (instrs.Auipc rd imm) regs = tt
-effect_permitted denies bytes length (instrs.Jal rd offset) regs = tt
-effect_permitted denies bytes length (instrs.Jalr rd rs1 offset) regs = tt
-effect_permitted denies bytes length (instrs.Branch test rs1 rs2 offset) regs = tt
 effect_permitted denies bytes length (instrs.Load kind rd rs1 offset) regs =
     let at = w32_of (register regs rs1 + offset) in
-    load_permitted denies length regs kind rd at (number_at bytes at (load_width kind))
-    (misaligned_first denies Load at (load_width kind))
+    elim (misaligned_first denies Load at (load_width kind)) as (λ o. IfSome (after_load length regs kind rd at
+    (number_at bytes at (load_width kind)) o).write (λ w. denies Store w.address w.width ≡ None))
+    [ None ↦ tt | Some rule ↦ tt ]
 effect_permitted denies bytes length (instrs.Store width rs1 rs2 offset) regs =
     let at = w32_of (register regs rs1 + offset) in
     store_permitted denies length regs width at (register regs rs2) (misaligned_first denies Store at width) refl
-effect_permitted denies bytes length (instrs.OpImm op rd rs1 imm) regs = tt
-effect_permitted denies bytes length (instrs.Op op rd rs1 rs2) regs = tt
-effect_permitted denies bytes length instrs.Fence regs = tt
-effect_permitted denies bytes length instrs.Ecall regs = tt
-effect_permitted denies bytes length instrs.Ebreak regs = tt
+effect_permitted denies bytes length i regs = tt
 
 executed_permitted : (denies : Denies) (bytes : ℕ → ℕ) (length : ℕ) (o : Option Instr) (regs : Registers)
     → Permitted denies (executed denies bytes length o regs)

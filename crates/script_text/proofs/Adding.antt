@@ -1,6 +1,5 @@
 -- What is kept of one more line.
-use Rattle.std.proofs.Common.{◌≡◌, ℕ, true, false, List, [], ◌∷◌, ◌++◌, Some, None, refl, sym, ap, subst, ◌∙◌}
-use Rattle.script_text.specs.declared.rule.ScriptRule.TheVariants.{Repeated, Order, TooMany}
+use Rattle.std.proofs.Common.{◌≡◌, ℕ, true, false, List, [], ◌∷◌, ◌++◌, None, refl, sym, ap, subst, ◌∙◌}
 use Rattle.script_text.specs.declared.table.Line.{Line}
 use Rattle.script_text.specs.Alone.{IsLine}
 use Rattle.script_text.specs.Progress.{Drafted, DraftSays, with_line}
@@ -8,7 +7,7 @@ use Rattle.script_text.specs.Rules.{broken, skips, disorders, exceeds}
 use Rattle.script_text.specs.Parts.{context_of}
 use Rattle.script_text.specs.Said.{settings}
 use Rattle.script_text.specs.Seats.{stood_at, stood_after}
-use Rattle.script_text.specs.Settings.{ScriptSettings, AreSound}
+use Rattle.script_text.specs.Settings.{AreSound}
 use Rattle.script_text.specs.Text.{words}
 use Rattle.script_text.proofs.Rules.{skipped_is_whole, broken_after, last_of}
 use Rattle.script_text.proofs.Said.{stood_is, settings_with, stood_with, settings_skipped, stood_skipped}
@@ -26,41 +25,14 @@ adds_skipped before text d h m = (
   },
 )
 
--- what is kept of the lines before is what they say
-by_lines : (before : List (List ℕ)) (ws : List (List ℕ)) (line : Line) (d : Drafted)
-    → IsLine (context_of d.said) ws line → DraftSays before d → IsLine (context_of (settings before)) ws line
-by_lines before ws line d h m = subst (λ (s : ScriptSettings). IsLine (context_of s) ws line) m.said h
-
 -- the rules that look at the lines before, by what is kept of them
-broken_where : (before : List (List ℕ)) (text : List ℕ) (line : Line) (d : Drafted)
+pub broken_where : (before : List (List ℕ)) (text : List ℕ) (line : Line) (d : Drafted)
     → IsLine (context_of d.said) (words text) line
     → DraftSays before d
     → broken before text
     ≡ last_of (stood_at line d.stood) (disorders line d.said (words text)) (exceeds line d.said (words text))
 broken_where before text line d h m =
-    broken_after before text line (by_lines before (words text) line d h m)
-    ∙ (ap (λ again.
-    last_of again (disorders line (settings before) (words text)) (exceeds line (settings before) (words text)))
-    (sym (stood_is line before) ∙ ap (stood_at line) (sym m.stood))
-    ∙ ap (λ s. last_of (stood_at line d.stood) (disorders line s (words text)) (exceeds line s (words text)))
-    (sym m.said))
-
-pub is_repeated : (before : List (List ℕ)) (text : List ℕ) (line : Line) (d : Drafted)
-    → IsLine (context_of d.said) (words text) line
-    → DraftSays before d → stood_at line d.stood ≡ true → broken before text ≡ Some Repeated
-is_repeated before text line d h m again = broken_where before text line d h m ∙ rw again refl
-
-pub is_disordered : (before : List (List ℕ)) (text : List ℕ) (line : Line) (d : Drafted)
-    → IsLine (context_of d.said) (words text) line
-    → DraftSays before d → stood_at line d.stood ≡ false → disorders line d.said (words text) ≡ true
-    → broken before text ≡ Some Order
-is_disordered before text line d h m again order = broken_where before text line d h m ∙ rw (again, order) refl
-
-pub is_too_much : (before : List (List ℕ)) (text : List ℕ) (line : Line) (d : Drafted)
-    → IsLine (context_of d.said) (words text) line
-    → DraftSays before d → stood_at line d.stood ≡ false → disorders line d.said (words text) ≡ false
-    → exceeds line d.said (words text) ≡ true → broken before text ≡ Some TooMany
-is_too_much before text line d h m again order many = broken_where before text line d h m ∙ rw (again, order, many) refl
+    rw (m.said, m.stood, stood_is line before) (broken_after before text line (rw m.said at h))
 
 -- a line that breaks none is said
 pub adds_line : (before : List (List ℕ)) (text : List ℕ) (line : Line) (d e : Drafted)
@@ -76,9 +48,7 @@ adds_line before text line d e h m again order many said stood =
       record {
         said = said ∙ (ap (with_line line (words text)) m.said ∙ sym new);
         stood = stood ∙ (ap (stood_after line) m.stood ∙ sym (stood_with line before text h.is));
-        sound = subst AreSound (sym new) (sound_with line text (settings before)
-            (by_lines before (words text) line d h m)
-            (ap (λ s. disorders line s (words text)) (sym m.said) ∙ order)
-            (ap (λ s. exceeds line s (words text)) (sym m.said) ∙ many) m.sound);
+        sound = rw new (sound_with line text (settings before) (rw m.said at h) (rw m.said at order)
+            (rw m.said at many) m.sound);
       },
     )

@@ -1,7 +1,7 @@
 -- What the digits of a hex word are.
-use Rattle.std.proofs.Common.{◌≡◌, ◌*◌, ◌%◌, ◌==◌, ℕ, Bool, true, false, not, List, [], length, position, Option, Some}
+use Rattle.std.proofs.Common.{◌≡◌, ◌*◌, ◌%◌, ◌==◌, ℕ, true, not, List, [], length, position, Option, Some}
 use Rattle.std.proofs.Common.{None, is_none, Result, Ok, Err, refl, sym, ap, subst, ◌∙◌, arith}
-use Rattle.std.proofs.lemmas.Bool.{and_parts, eqb-true}
+use Rattle.std.proofs.lemmas.Bool.{and_parts, eqb-true, not-false}
 use Rattle.std.specs.List.{AllPass}
 use Rattle.std.specs.Prelude.{MatchResult}
 use Rattle.std.specs.Result.{result_unwrap_or}
@@ -16,15 +16,11 @@ none_of : {A : Type 0} (o : Option A) → is_none o ≡ true → o ≡ None
 none_of None h = refl
 none_of (Some x) h = cc
 
-is_digit : (b : Bool) → not b ≡ false → b ≡ true
-is_digit true h = refl
-is_digit false h = cc
-
 all_digits : (digits : Option ℕ) (w : List ℕ) → is_hex digits w ≡ true → AllPass is_hex_digit w
 all_digits digits w h =
     let none = none_passes (λ byte. not (is_hex_digit byte)) w
     (none_of _ (and_parts (is_none (position (λ byte. not (is_hex_digit byte)) w)) (has_digits digits w) h).0) in
-    λ k d l. is_digit _ (none k d l)
+    λ k d l. not-false _ (none k d l)
 
 pub fixed_digits : (n : ℕ) (w : List ℕ) → is_hex (Some n) w ≡ true → length w ≡ n
 fixed_digits n w h =

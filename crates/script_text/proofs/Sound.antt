@@ -3,35 +3,33 @@
 -- behind the last one of its list, so what holds of neighbours holds with one more.
 use Rattle.std.proofs.Common.{◌≡◌, ◌≤◌, ◌<◌, ◌+◌, ◌-◌, ◌/◌, ◌||◌, not, nat_lt, nat_le, ℕ, Bool, true, false, cond, List}
 use Rattle.std.proofs.Common.{[], ◌∷◌, ◌++◌, map, length, find, drop, slice_index, slice_index_or, Option, Some, None}
-use Rattle.std.proofs.Common.{◌&&◌, is_none, position, is_some, inl, inr, refl, sym, ap, subst, ◌∙◌, arith}
+use Rattle.std.proofs.Common.{◌&&◌, is_none, position, is_some, inl, inr, refl, sym, ap, subst, ◌∙◌, arith, rules}
 use Rattle.std.proofs.Common.{length-append}
-use Rattle.std.proofs.lemmas.Bool.{and_parts, eqb-true, ltb-false, leb-false, leb-true}
+use Rattle.std.proofs.lemmas.Bool.{and_parts, eqb-true, ltb-false, leb-false, leb-true, not-false, or_parts}
 use Rattle.std.proofs.lemmas.Bool.Decides.{nat_tests}
 use Rattle.std.proofs.lemmas.Bool.{cases_lt}
 use Rattle.std.proofs.lemmas.List.{get_or_append_left, get_or-append-add, drop_more, length-map, map-append}
 use Rattle.std.proofs.lemmas.List.Elements.{All-append, All-cons, All-nil, filter_passes}
 use Rattle.std.specs.List.{slice_split}
-use Rattle.std.specs.Option.{option_map_or}
 use Rattle.tk_base.specs.Limits.{IsRamSize}
 use Rattle.tk_base.specs.declared.limits.TheConstants.{BUTTON_LIMIT, BYTE_TICKS_LIMIT, EVENT_LIMIT, FAULT_LIMIT}
 use Rattle.tk_base.specs.declared.limits.TheConstants.{INPUT_LIMIT}
 use Rattle.tk_base.specs.declared.limits.TheConstants.{LED_LIMIT, NAME_LIMIT, RAM_LEAST, RAM_LIMIT, RAM_UNIT}
 use Rattle.tk_base.specs.declared.limits.TheConstants.{SLICE_LIMIT}
 use Rattle.tk_base.specs.declared.limits.TheConstants.{STORAGE_LIMIT, WINDOW_LIMIT, WORD_LIMIT}
-use Rattle.fault_policy.specs.declared.Policy.{Policy}
 use Rattle.fault_policy.specs.declared.Policy.TheVariants as policies
 use Rattle.decimal_number.specs.Number.{number}
 use Rattle.script_text.specs.declared.line.Context.{Context}
 use Rattle.script_text.specs.declared.table.Line.{Line}
-use Rattle.script_text.specs.declared.table.Line.TheVariants.{Ram, Leds, Buttons, Slice, Partition, Start, Uart}
-use Rattle.script_text.specs.declared.table.Line.TheVariants.{Storage, Stop, Restart, Threshold, FilterOpen}
-use Rattle.script_text.specs.declared.table.Line.TheVariants.{FilterStrict, StorageFault, Random, Input}
+use Rattle.script_text.specs.declared.table.Line.TheVariants.{Ram, Leds, Buttons, Slice, Partition, Uart}
+use Rattle.script_text.specs.declared.table.Line.TheVariants.{Storage}
+use Rattle.script_text.specs.declared.table.Line.TheVariants.{StorageFault, Random, Input}
 use Rattle.script_text.specs.declared.table.Line.TheVariants.{Press, Release, Act}
 use Rattle.script_text.specs.Alone.{IsLine}
 use Rattle.script_text.specs.Progress.{with_line, stood_in}
 use Rattle.script_text.specs.Rules.{disorders, exceeds, is_hex}
 use Rattle.script_text.specs.Parts.{context_of}
-use Rattle.script_text.specs.Said.{settings, lines_of, last, hex_bytes, event_by}
+use Rattle.script_text.specs.Said.{settings, lines_of, last, event_by}
 use Rattle.script_text.specs.Parts.{hex_word}
 use Rattle.script_text.specs.Settings as kinds
 use Rattle.script_text.specs.Settings.{EventKind, ScriptSettings, ScriptEvent, AreSound, AreFaults, AreEvents}
@@ -42,13 +40,8 @@ use Rattle.script_text.specs.Text.{words, word}
 use Rattle.script_text.specs.Parts.{is_blank, is_empty}
 use Rattle.script_text.proofs.HexDigits.{length-hex_bytes}
 
-permitted : (b : Bool) → not b ≡ false → b ≡ true
-permitted true h = refl
-permitted false h = cc
-
 allowed : (a b : Bool) → (not a || b) ≡ false → a ≡ true
-allowed true b h = refl
-allowed false b h = cc
+allowed a b h = not-false a (or_parts (not a) b h).0
 
 ram_size : (n : ℕ) → in_range (record { least = RAM_LEAST; most = RAM_LIMIT; multiple = RAM_UNIT }) n ≡ true
     → IsRamSize n
@@ -65,10 +58,6 @@ at_least least most n h = grind (arith, nat_tests)
 at_most : (least most n : ℕ) → in_range (record { least = least; most = most; multiple = 1 }) n ≡ true → n ≤ most
 at_most least most n h = grind (arith, nat_tests)
 
-neither : (a b : Bool) → (a || b) ≡ false → (a ≡ false) × (b ≡ false)
-neither false b h = (refl, h)
-neither true b h = cc
-
 -- the number that is put behind others, and those before it
 at_end : (xs : List ℕ) (x i : ℕ) → i ≡ length xs → slice_index (xs ++ x ∷ []) i ≡ x
 at_end xs x i h = let e : i ≡ length xs + 0 = omega arith in
@@ -84,14 +73,11 @@ neighbours : (R : ℕ → ℕ → Type 0) (xs : List ℕ) (x : ℕ)
 neighbours R xs x all new i l =
     let whole = length-append xs (x ∷ []) in
     elim (cases_lt (i + 1) (length xs)) [
-      | inl below ↦ subst (λ n. R n (slice_index (xs ++ x ∷ []) (i + 1))) (sym (before_end xs x i (omega arith)))
-          (subst (R (slice_index xs i)) (sym (before_end xs x (i + 1) below)) (all i below))
+      | inl below ↦ rw (before_end xs x i (omega arith), before_end xs x (i + 1) below) (all i below)
       | inr top ↦
           let here : i ≡ length xs - 1 = omega arith in
           let next : i + 1 ≡ length xs = omega arith in
-          subst (λ n. R n (slice_index (xs ++ x ∷ []) (i + 1))) (sym (before_end xs x i (omega arith)))
-          (subst (R (slice_index xs i)) (sym (at_end xs x (i + 1) next))
-          (subst (λ n. R (slice_index xs n) x) (sym here) (new (omega arith))))
+          rw (before_end xs x i (omega arith), at_end xs x (i + 1) next, here) (new (omega arith))
     ]
 
 faults_more : (ks : List ℕ) (k : ℕ) → 1 ≤ k → nat_le FAULT_LIMIT (length ks) ≡ false → nat_le k (last ks) ≡ false
@@ -128,24 +114,16 @@ none_yet buttons [] h = record {
 }
 none_yet buttons (e ∷ es) h = absurd (omega (arith, ltb-false 0 (length (e ∷ es)) h))
 
--- there is such a button
-one_of : (buttons n : ℕ) → nat_le buttons n ≡ false → n < buttons
-one_of buttons n h = omega (arith, leb-false buttons n h)
-
 -- the button of a line is one of the board
 pub below : (context : Context) (ws : List (List ℕ)) (line : Line) → IsLine context ws line
     → (row line).form.button ≡ Some 3 → number (word ws 3) < context.buttons
 below context ws line h e =
-    one_of context.buttons (number (word ws 3))
-    (ap (λ b. option_map_or (λ place. nat_le context.buttons (number (word ws place))) b false) (sym e)
-    ∙ (neither _ _ (neither _ _ h.within).1).1)
+    leb-false context.buttons (number (word ws 3)) (or_parts _ _ (or_parts _ _ (rw e at h.within)).1).1
 
 -- the name of a line is one, and not too long
 pub named_at : (context : Context) (ws : List (List ℕ)) (line : Line) → IsLine context ws line
     → (row line).form.name ≡ Some 4 → is_name (word ws 4) ≡ true
-named_at context ws line h e =
-    permitted _ (ap (λ b. option_map_or (λ place. not (is_name (word ws place))) b false) (sym e)
-    ∙ (neither _ _ h.within).0)
+named_at context ws line h e = not-false _ (or_parts _ _ (rw e at h.within)).0
 
 pub short : (w : List ℕ) → is_name w ≡ true → length w ≤ NAME_LIMIT
 short w h =
@@ -155,10 +133,9 @@ short w h =
 
 -- a board with more buttons has those that one with fewer has
 kind_on_more : (few many : ℕ) → few ≤ many → (kind : EventKind) → IsKind few kind → IsKind many kind
-kind_on_more few many h (kinds.Input bytes) k = k
 kind_on_more few many h (kinds.Press button) k = omega (arith, h, k)
 kind_on_more few many h (kinds.Release button) k = omega (arith, h, k)
-kind_on_more few many h (kinds.Act verb name) k = k
+kind_on_more few many h kind k = k
 
 pub kinds_on_more : (few many : ℕ) (es : List ScriptEvent) → few ≤ many → EachIsKind few es → EachIsKind many es
 kinds_on_more few many es h each = λ i d l. kind_on_more few many h (slice_index_or es i d).kind (each i d l)
@@ -184,222 +161,60 @@ hex_at ws l h =
     first_hex (is_hex None (word ws 3)) (word ws 3) (find (λ w. not (is_hex None w)) (drop 4 ws))
     (ap (λ xs. is_some (find (λ w. not (is_hex None w)) xs)) (sym (drop_more ws 3 [] (omega arith))) ∙ h)
 
--- no start, policy and filter is outside its range
-without_range : (s : ScriptSettings) (start : ℕ) (policy : Policy) (strict : Bool) → AreSound s
-    → AreSound (record s { start = start; policy = policy; strict = strict })
-without_range s start policy strict a = record {
-  ram = a.ram;
-  leds = a.leds;
-  buttons = a.buttons;
-  slice_least = a.slice_least;
-  slice_most = a.slice_most;
-  partition = a.partition;
-  uart = a.uart;
-  storage = a.storage;
-  faults = a.faults;
-  words = a.words;
-  events = a.events;
-}
-
 -- the settings with an event more
 with_event : (s : ScriptSettings) (e : ScriptEvent) → IsKind s.buttons e.kind
     → nat_le EVENT_LIMIT (length s.events) ≡ false
     → nat_lt e.time (last (map (λ v. v.time) s.events)) ≡ false → AreSound s
     → AreSound (record s { events = s.events ++ e ∷ [] })
-with_event s e kind few after a = record {
-  ram = a.ram;
-  leds = a.leds;
-  buttons = a.buttons;
-  slice_least = a.slice_least;
-  slice_most = a.slice_most;
-  partition = a.partition;
-  uart = a.uart;
-  storage = a.storage;
-  faults = a.faults;
-  words = a.words;
-  events = events_more s.buttons s.events e kind few after a.events;
-}
+with_event s e kind few after a = assumption (events_more s.buttons s.events e kind few after a.events)
 
 -- the settings with a line of the table more
 pub sound_with : (line : Line) (text : List ℕ) (s : ScriptSettings) → IsLine (context_of s) (words text) line
     → disorders line s (words text) ≡ false → exceeds line s (words text) ≡ false → AreSound s
     → AreSound (with_line line (words text) s)
-sound_with Ram text s h d x a =
-    record {
-      ram = ram_size (number (word (words text) 1)) (allowed _ _ h.within);
-      leds = a.leds;
-      buttons = a.buttons;
-      slice_least =
-          a.slice_least;
-      slice_most = a.slice_most;
-      partition = a.partition;
-      uart = a.uart;
-      storage = a.storage;
-      faults = a.faults;
-      words =
-          a.words;
-      events = a.events;
-    }
-sound_with Leds text s h d x a =
-    record {
-      ram = a.ram;
-      leds =
-          at_most 0 LED_LIMIT (number (word (words text) 1)) (allowed _ _ h.within);
-      buttons = a.buttons;
-      slice_least = a.slice_least;
-      slice_most =
-          a.slice_most;
-      partition = a.partition;
-      uart = a.uart;
-      storage = a.storage;
-      faults = a.faults;
-      words = a.words;
-      events = a.events;
-    }
+sound_with Ram text s h d x a = assumption (ram_size (number (word (words text) 1)) (allowed _ _ h.within))
+sound_with Leds text s h d x a = assumption (at_most 0 LED_LIMIT (number (word (words text) 1)) (allowed _ _ h.within))
 sound_with Buttons text s h d x a =
-    record {
-      ram = a.ram;
-      leds = a.leds;
-      buttons = at_most 0 BUTTON_LIMIT (number (word (words text) 1)) (allowed _ _ h.within);
-      slice_least = a.slice_least;
-      slice_most = a.slice_most;
-      partition = a.partition;
-      uart = a.uart;
-      storage = a.storage;
-      faults = a.faults;
-      words = a.words;
-      events = none_yet (number (word (words text) 1)) s.events d;
-    }
+    assumption (
+      at_most 0 BUTTON_LIMIT (number (word (words text) 1)) (allowed _ _ h.within),
+      none_yet (number (word (words text) 1)) s.events d,
+    )
 sound_with Slice text s h d x a =
-    record {
-      ram = a.ram;
-      leds = a.leds;
-      buttons = a.buttons;
-      slice_least =
-          at_least 1 SLICE_LIMIT (number (word (words text) 1)) (allowed _ _ h.within);
-      slice_most =
-          at_most 1 SLICE_LIMIT (number (word (words text) 1)) (allowed _ _ h.within);
-      partition = a.partition;
-      uart = a.uart;
-      storage =
-          a.storage;
-      faults = a.faults;
-      words = a.words;
-      events = a.events;
-    }
+    assumption (
+      at_least 1 SLICE_LIMIT (number (word (words text) 1)) (allowed _ _ h.within),
+      at_most 1 SLICE_LIMIT (number (word (words text) 1)) (allowed _ _ h.within),
+    )
 sound_with Partition text s h d x a =
-    record {
-      ram = a.ram;
-      leds = a.leds;
-      buttons = a.buttons;
-      slice_least = a.slice_least;
-      slice_most = a.slice_most;
-      partition = at_most 1 WINDOW_LIMIT (number (word (words text) 1)) (allowed _ _ h.within);
-      uart = a.uart;
-      storage = a.storage;
-      faults = a.faults;
-      words = a.words;
-      events = a.events;
-    }
-sound_with Start text s h d x a = without_range s (number (word (words text) 1)) s.policy s.strict a
+    assumption (at_most 1 WINDOW_LIMIT (number (word (words text) 1)) (allowed _ _ h.within))
 sound_with Uart text s h d x a =
-    record {
-      ram = a.ram;
-      leds = a.leds;
-      buttons = a.buttons;
-      slice_least = a.slice_least;
-      slice_most = a.slice_most;
-      partition = a.partition;
-      uart =
-          at_most 0 BYTE_TICKS_LIMIT (number (word (words text) 1)) (allowed _ _ h.within);
-      storage = a.storage;
-      faults =
-          a.faults;
-      words = a.words;
-      events = a.events;
-    }
+    assumption (at_most 0 BYTE_TICKS_LIMIT (number (word (words text) 1)) (allowed _ _ h.within))
 sound_with Storage text s h d x a =
-    record {
-      ram = a.ram;
-      leds = a.leds;
-      buttons = a.buttons;
-      slice_least = a.slice_least;
-      slice_most = a.slice_most;
-      partition = a.partition;
-      uart =
-          a.uart;
-      storage = at_most 0 STORAGE_LIMIT (number (word (words text) 1)) (allowed _ _ h.within);
-      faults =
-          a.faults;
-      words = a.words;
-      events = a.events;
-    }
-sound_with Stop text s h d x a = without_range s s.start policies.Stop s.strict a
-sound_with Restart text s h d x a = without_range s s.start policies.Restart s.strict a
-sound_with Threshold text s h d x a =
-    without_range s s.start (policies.Threshold (number (word (words text) 2))) s.strict a
-sound_with FilterOpen text s h d x a = without_range s s.start s.policy false a
-sound_with FilterStrict text s h d x a = without_range s s.start s.policy true a
+    assumption (at_most 0 STORAGE_LIMIT (number (word (words text) 1)) (allowed _ _ h.within))
 sound_with StorageFault text s h d x a =
     let n = number (word (words text) 1) in
-    let after = neither (nat_lt 0 (length s.events)) (nat_le n (last s.faults)) d in
-    record {
-      ram = a.ram;
-      leds = a.leds;
-      buttons = a.buttons;
-      slice_least = a.slice_least;
-      slice_most = a.slice_most;
-      partition = a.partition;
-      uart =
-          a.uart;
-      storage = a.storage;
-      faults =
-          faults_more s.faults n (at_least 1 4294967295 n (allowed _ _ h.within)) x after.1 a.faults;
-      words =
-          a.words;
-      events = a.events;
-    }
+    let after = or_parts (nat_lt 0 (length s.events)) (nat_le n (last s.faults)) d in
+    assumption (faults_more s.faults n (at_least 1 4294967295 n (allowed _ _ h.within)) x after.1 a.faults)
 sound_with Random text s h d x a =
+    let counted = ltb-false WORD_LIMIT (length s.words + length (drop 1 (words text))) x in
     let few : length (s.words ++ map hex_word (drop 1 (words text))) ≤ WORD_LIMIT =
-    omega (
-      arith,
-      ltb-false WORD_LIMIT (length s.words + length (drop 1 (words text))) x,
-      length-append s.words (map hex_word (drop 1 (words text))),
-      length-map (drop 1 (words text)) hex_word,
-    ) in
-    record {
-      ram = a.ram;
-      leds = a.leds;
-      buttons = a.buttons;
-      slice_least = a.slice_least;
-      slice_most = a.slice_most;
-      partition = a.partition;
-      uart =
-          a.uart;
-      storage = a.storage;
-      faults = a.faults;
-      words = few;
-      events = a.events;
-    }
+    simp (length-append, length-map) (omega arith) in
+    assumption few
 sound_with Input text s h d x a =
     let ws = words text in
     let w = word ws 3 in
-    let counted : length ws ≡ 4 = eqb-true (length ws) 4 (permitted _ h.counted) in
-    let hex = hex_at ws counted h.hex in
-    let pairs = length-hex_bytes w hex in
-    let limits = neither (nat_le EVENT_LIMIT (length s.events)) (nat_lt INPUT_LIMIT (length w / 2)) x in
-    let some : 1 ≤ length (hex_bytes w) = omega (arith, pairs, filled text 3 (omega arith)) in
-    let most : length (hex_bytes w) ≤ INPUT_LIMIT =
-    omega (arith, pairs, ltb-false INPUT_LIMIT (length w / 2) limits.1) in
-    with_event s (event_by Input ws) (some, most) limits.0 d a
+    let counted : length ws ≡ 4 = eqb-true (length ws) 4 (not-false _ h.counted) in
+    let pairs = length-hex_bytes w (hex_at ws counted h.hex) in
+    let limits = or_parts (nat_le EVENT_LIMIT (length s.events)) (nat_lt INPUT_LIMIT (length w / 2)) x in
+    let some = filled text 3 (omega arith) in
+    let most = ltb-false INPUT_LIMIT (length w / 2) limits.1 in
+    with_event s (event_by Input ws) (omega arith, omega arith) limits.0 d a
 sound_with Press text s h d x a =
-    let ws = words text in
-    with_event s (event_by Press ws) (one_of s.buttons (number (word ws 3)) (neither _ _ h.within).1) x d a
+    with_event s (event_by Press (words text)) (leb-false s.buttons _ (or_parts _ _ h.within).1) x d a
 sound_with Release text s h d x a =
-    let ws = words text in
-    with_event s (event_by Release ws) (one_of s.buttons (number (word ws 3)) (neither _ _ h.within).1) x d a
+    with_event s (event_by Release (words text)) (leb-false s.buttons _ (or_parts _ _ h.within).1) x d a
 sound_with Act text s h d x a =
-    let ws = words text in with_event s (event_by Act ws) (permitted _ (neither _ _ h.within).0) x d a
+    with_event s (event_by Act (words text)) (not-false _ (or_parts _ _ h.within).0) x d a
+sound_with line text s h d x a = assumption a
 
 -- the settings of no lines
 pub said_at_first : (ram leds buttons slice partition start uart storage : ℕ) (ks ws : List ℕ) (es : List ScriptEvent)
@@ -432,16 +247,8 @@ none_at_first = refl
 
 pub sound_at_first : AreSound (settings [])
 unfolding lines_of
-sound_at_first = record {
-  ram = record { least = omega arith; most = omega arith; multiple = refl };
-  leds = omega arith;
-  buttons = omega arith;
-  slice_least = omega arith;
-  slice_most = omega arith;
-  partition = omega arith;
-  uart = omega arith;
-  storage = omega arith;
-  faults = record { few = omega arith; least = All-nil (λ n. 1 ≤ n); rising = λ i l. absurd (omega arith) };
-  words = omega arith;
-  events = none_yet 0 [] refl;
-}
+sound_at_first =
+    let none : AreFaults [] =
+    record { few = omega arith; least = All-nil (λ n. 1 ≤ n); rising = λ i l. absurd (omega arith) } in
+    let none_come = none_yet 0 [] refl in
+    search (rules, none, none_come)

@@ -10,6 +10,7 @@ ghost use Rattle.driver_requests.specs.Asking.{MayAskAt, MayBeTold, Obeys, Repli
 ghost use Rattle.storage_capsule.specs.Answers.{answer_to};
 
 use crate::commands::ask_within;
+use crate::steps::serve;
 use board_devices::{Answer, Stores};
 use driver_requests::RequestQueue;
 use grant_enter::Home;
@@ -125,7 +126,9 @@ impl StorageCapsule {
         ensures answers { AnswersFirst only (answer_to stores.old home.old) self.old.waiting
             stores.old home.old result self.new.waiting stores.new home.new }
     {
-        self.waiting.answer::<StorageCapsule>(home, stores, only)
+        let id = self.waiting.first(only)?;
+        let service = serve(home, &id, stores);
+        Ok(self.waiting.answered(id, service))
     }
 
     /// The process of an id ended, or starts again: no request of it waits any more. The others

@@ -1,5 +1,5 @@
 -- Walking over the entries of Permissions one by one.
-use Rattle.std.proofs.Common.{◌≡◌, ℕ, suc, ◌+◌, ◌-◌, ◌<◌, ◌≤◌, Bool, true, false, ◌||◌, List, ◌∷◌, ap, ◌∙◌, arith}
+use Rattle.std.proofs.Common.{◌≡◌, ℕ, suc, ◌+◌, ◌-◌, ◌<◌, ◌≤◌, Bool, true, false, List, ◌∷◌, refl, arith}
 use Rattle.std.specs.List.{list_any}
 use Rattle.tbf_headers.specs.Permissions.{Entry, entry_at, entries_from}
 
@@ -9,21 +9,17 @@ pub entries_from-step : (n : ℕ) (content : List ℕ) (k : ℕ) → k < n
 unfolding entries_from
 entries_from-step n content k h =
     let one : n - k ≡ suc (n - (k + 1)) = omega arith in
-    ap (λ m. entries_from m content k) one
+    rw one refl
 
 -- a walk that stands at an entry that passes has found one
 pub any_here : (test : Entry → Bool) (n : ℕ) (content : List ℕ) (k : ℕ) → k < n → test (entry_at content k) ≡ true
     → list_any test (entries_from (n - k) content k) ≡ true
-any_here test n content k h t =
-    ap (list_any test) (entries_from-step n content k h)
-    ∙ ap (λ b. b || list_any test (entries_from (n - (k + 1)) content (k + 1))) t
+any_here test n content k h t = rw (entries_from-step n content k h, t) refl
 
 -- it goes on past one that does not
 pub any_later : (test : Entry → Bool) (n : ℕ) (content : List ℕ) (k : ℕ) → k < n → test (entry_at content k) ≡ false
     → list_any test (entries_from (n - k) content k) ≡ list_any test (entries_from (n - (k + 1)) content (k + 1))
-any_later test n content k h t =
-    ap (list_any test) (entries_from-step n content k h)
-    ∙ ap (λ b. b || list_any test (entries_from (n - (k + 1)) content (k + 1))) t
+any_later test n content k h t = rw (entries_from-step n content k h, t) refl
 
 -- none is left at the end
 pub any_none : (test : Entry → Bool) (n : ℕ) (content : List ℕ) (k : ℕ) → n ≤ k
@@ -31,4 +27,4 @@ pub any_none : (test : Entry → Bool) (n : ℕ) (content : List ℕ) (k : ℕ) 
 unfolding entries_from
 any_none test n content k h =
     let none : n - k ≡ 0 = omega arith in
-    ap (λ m. list_any test (entries_from m content k)) none
+    rw none refl

@@ -22,14 +22,14 @@ pub places_from-end : (n : ℕ) (header : List ℕ) (at : ℕ) → length header
 unfolding tlv_places_from
 places_from-end zero header at h = refl
 places_from-end (suc n) header at h =
-    ap (λ b. cond b [] (at ∷ tlv_places_from n header (place_after header at))) (le-leb (length header) at h)
+    rw (le-leb (length header) at h) refl
 
 -- a place before the end is the first
 pub places_from-suc : (n : ℕ) (header : List ℕ) (at : ℕ) → at < length header
     → tlv_places_from (suc n) header at ≡ at ∷ tlv_places_from n header (place_after header at)
 unfolding tlv_places_from
 places_from-suc n header at h =
-    ap (λ b. cond b [] (at ∷ tlv_places_from n header (place_after header at))) (lt-leb (length header) at h)
+    rw (lt-leb (length header) at h) refl
 
 -- any number that suffices gives the same places
 pub places_from-enough : (n m : ℕ) (header : List ℕ) (at : ℕ) → length header ≤ at + n → length header ≤ at + m
@@ -40,9 +40,12 @@ places_from-enough (suc n) zero header at a b =
     places_from-end (suc n) header at (omega arith) ∙ sym (places_from-end zero header at (omega arith))
 places_from-enough (suc n) (suc m) header at a b =
     elim (cases_lt at (length header)) [
-      | inl h ↦ places_from-suc n header at h
-          ∙ ap (λ xs. at ∷ xs) (places_from-enough n m header (place_after header at) (omega arith) (omega arith))
-          ∙ sym (places_from-suc m header at h)
+      | inl h ↦
+          rw (
+            places_from-suc n header at h,
+            places_from-suc m header at h,
+            places_from-enough n m header (place_after header at) (omega arith) (omega arith),
+          ) refl
       | inr h ↦ places_from-end (suc n) header at h ∙ sym (places_from-end (suc m) header at h)
     ]
 
@@ -51,19 +54,19 @@ pub places_from-step : (header : List ℕ) (at next : ℕ) → at < length heade
     → tlv_places_from (length header - at) header at ≡ at ∷ tlv_places_from (length header - next) header next
 places_from-step header at next h e =
     let one : length header - at ≡ suc (length header - at - 1) = omega arith in
-    ap (λ n. tlv_places_from n header at) one
-    ∙ places_from-suc (length header - at - 1) header at h
-    ∙ ap (λ xs. at ∷ xs) (places_from-enough (length header - at - 1) (length header - next) header
-    (place_after header at) (omega arith) (omega arith))
-    ∙ ap (λ p. at ∷ tlv_places_from (length header - next) header p) (sym e)
+    rw (
+      one,
+      places_from-suc (length header - at - 1) header at h,
+      places_from-enough (length header - at - 1) (length header - next) header (place_after header at) (omega arith)
+          (omega arith),
+      e,
+    ) refl
 
 -- a walk that stands at a place that passes has found the first
 pub find_here : (test : ℕ → Bool) (header : List ℕ) (at : ℕ) → at < length header → test at ≡ true
     → find test (tlv_places_from (length header - at) header at) ≡ Some at
 find_here test header at h t =
-    ap (find test) (places_from-step header at (place_after header at) h refl)
-    ∙ ap (λ b. cond b (Some at) (find test
-    (tlv_places_from (length header - place_after header at) header (place_after header at)))) t
+    rw (places_from-step header at (place_after header at) h refl, t) refl
 
 -- it goes on past one that does not
 pub find_later : (test : ℕ → Bool) (header : List ℕ) (at next : ℕ) → at < length header → next ≡ place_after header at
@@ -71,13 +74,12 @@ pub find_later : (test : ℕ → Bool) (header : List ℕ) (at next : ℕ) → a
     → find test (tlv_places_from (length header - at) header at)
     ≡ find test (tlv_places_from (length header - next) header next)
 find_later test header at next h e t =
-    ap (find test) (places_from-step header at next h e)
-    ∙ ap (λ b. cond b (Some at) (find test (tlv_places_from (length header - next) header next))) t
+    rw (places_from-step header at next h e, t) refl
 
 -- it ends at the header's end
 pub find_none : (test : ℕ → Bool) (header : List ℕ) (n at : ℕ) → length header ≤ at
     → find test (tlv_places_from n header at) ≡ None
-find_none test header n at h = ap (find test) (places_from-end n header at h)
+find_none test header n at h = rw (places_from-end n header at h) refl
 
 none_of_cond : (b : Bool) (x : ℕ) (r : Option ℕ) → cond b (Some x) r ≡ None → (b ≡ false) × (r ≡ None)
 none_of_cond true x r e = cc

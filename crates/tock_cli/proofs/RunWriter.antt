@@ -2,35 +2,30 @@
 -- those of its labels, by what a device's step may come to (`ComesTo`). What is told and kept goes by the mode, a case
 -- for each; runs are inductions on their steps, and quiet turns have no line.
 use Rattle.std.proofs.Common.{◌≡◌, inl, inr, ℕ, zero, suc, ◌==◌, ◌||◌, not, Bool, true, false, cond, List, []}
-use Rattle.std.proofs.Common.{◌∷◌, ◌++◌, codes, length, slice_get}
-use Rattle.std.proofs.Common.{Option, None, Some, All, refl, sym, ap, ap₂, subst, ◌∙◌, append-nil}
+use Rattle.std.proofs.Common.{◌∷◌, ◌++◌, length, slice_get}
+use Rattle.std.proofs.Common.{Option, None, Some, All, refl, sym, ap, ap₂, ◌∙◌, append-nil}
 use Rattle.std.specs.List.{flat_map}
-use Rattle.std.proofs.lemmas.List.Elements.{All-cons, All-head, All-nil, All-tail}
-use Rattle.tk_base.specs.declared.access.Denial.{Denial}
+use Rattle.std.proofs.lemmas.List.Elements.{All-cons, All-head, All-nil, All-tail, All-weaker}
 use Rattle.std.proofs.lemmas.Bool.{false≢true}
 use Rattle.tk_base.specs.declared.process.Verb.{Verb}
 use Rattle.tk_base.specs.declared.process.Choice.{Choice}
 use Rattle.tk_base.specs.declared.process.Choice.TheVariants.{Run, Device, Pass}
-use Rattle.process_record.specs.declared.emit.CallMade.{CallMade}
 use Rattle.process_record.specs.Emit.{nothing}
 use Rattle.process_record.specs.declared.emit.Emit.{Emit}
 use Rattle.kernel_model.specs.Record.{Record}
 use Rattle.kernel_model.specs.World.{Answer, Label, Stepped, World, after}
 use Rattle.kernel_model.specs.World.{answer_label, carried_out, labels, ran, telling_edge}
-use Rattle.kernel_model.specs.Turn.{Act, Alarmed, Edge, Event, Input, NoWord, Stored, Taken, Turn, Word, WriteDone}
+use Rattle.kernel_model.specs.Turn.{Act, Event}
 use Rattle.kernel_model.specs.Turn.{is_act, is_turn}
 use Rattle.kernel_model.proofs.Labels.{shown_by-printed}
 use Rattle.kernel_model.proofs.Told.{edge_answer, told_labels}
 use Rattle.kernel_model.specs.Laws.{ComesTo, DevicesAnswerOne, edge_labels}
-use Rattle.kernel_model.specs.Run.{Ran, next, printed, round}
+use Rattle.kernel_model.specs.Run.{next, printed, round}
 use Rattle.kernel_model.specs.Parts.{on_choice}
 use Rattle.kernel_model.specs.Stretch.{IsQuietTurn, IsStretch}
 use Rattle.kernel_model.specs.Shown.{act_shown, shown_by}
-use Rattle.board_report.specs.Trace.{act_text, line_head, out_text, trace_text}
-use Rattle.board_report.specs.Words.{newline}
-use Rattle.tk_outside.specs.Text.{hex_digits}
-use Rattle.board_report.specs.Parts.{turn_text}
-use Rattle.tock_cli.proofs.Runs.{of_stepped, printed-round, round-step, steps-step, steps-stop}
+use Rattle.board_report.specs.Trace.{act_text, out_text, trace_text}
+use Rattle.tock_cli.proofs.Runs.{by_next, of_stepped, printed-round, round-step, steps-step, steps-stop}
 use Rattle.tock_cli.proofs.Runs.{steps-zero}
 use Rattle.run_text.proofs.Tallies.{counting-tally_of}
 use Rattle.run_text.specs.declared.mode.Mode.{Mode}
@@ -94,26 +89,12 @@ trace_text-carried_out law time w (Device device) = by_case _ (law.each w device
             → (acts ≡ false → act ≡ None)
             → trace_text time (cond (turn || (acts || not none)) (shows act (a.printed ++ []))
             nothing) ≡ lines act ++ []
-        by_shown act true acts none e no_act = both act
-        by_shown act false true none e no_act = both act
-        by_shown act false false false e no_act = both act
-        by_shown act false false true e no_act =
-            sym (ap₂ (λ (o : Option (ℕ × Verb)) (b : Bool).
-            (act_text time o ++ cond b []
-            (line_head time slot (codes " out ") ++ (flat_map (hex_digits 2) a.printed ++
-            newline))) ++ []) (no_act refl) e)
+        by_shown act false false true e no_act = rw (no_act refl, e) refl
+        by_shown act turn acts none e no_act = both act
 
         no_acts : (event : Event) → is_act event ≡ false → act_shown slot event ≡ None
-        no_acts (Turn t) is = refl
-        no_acts (Alarmed now) is = refl
-        no_acts (Edge button pressed) is = refl
-        no_acts Taken is = refl
-        no_acts WriteDone is = refl
-        no_acts (Input bytes) is = refl
-        no_acts (Word word) is = refl
-        no_acts NoWord is = refl
-        no_acts (Stored moved) is = refl
         no_acts (Act verb) is = absurd (false≢true (sym is))
+        no_acts event is = refl
 
         by_act : (event : Event)
             → trace_text time (cond (is_turn event || (is_act event || not (length a.printed == 0)))
@@ -123,18 +104,11 @@ trace_text-carried_out law time w (Device device) = by_case _ (law.each w device
 
     by_case : (s : Stepped) → ComesTo w s
         → trace_text time (shown_by s.labels) ≡ flat_map (label_lines time) s.labels
-    by_case s (inl none) =
-        subst (λ (x : Stepped). trace_text time (shown_by x.labels) ≡ flat_map (label_lines time) x.labels) (sym none)
-        refl
-    by_case s (inr (inl nobody)) =
-        subst (λ (x : Stepped). trace_text time (shown_by x.labels) ≡ flat_map (label_lines time) x.labels)
-        (sym nobody.1) refl
-    by_case s (inr (inr (inl one))) =
-        subst (λ (x : Stepped). trace_text time (shown_by x.labels) ≡ flat_map (label_lines time) x.labels) (sym one.is)
-        (of_answer one.slot one.answer.answer)
+    by_case s (inl none) = rw none refl
+    by_case s (inr (inl nobody)) = rw nobody.1 refl
+    by_case s (inr (inr (inl one))) = rw one.is (of_answer one.slot one.answer.answer)
     by_case s (inr (inr (inr edge))) =
-        subst (λ (x : Stepped). trace_text time (shown_by x.labels) ≡ flat_map (label_lines time) x.labels)
-        (sym (edge.is ∙ law.tells_edge w edge.button edge.pressed (record w.devices { arrivals = edge.rest })))
+        rw (edge.is ∙ law.tells_edge w edge.button edge.pressed (record w.devices { arrivals = edge.rest }))
         (ap (trace_text time) (law.shows_nothing w edge.button edge.pressed)
         ∙ sym (edge_lines time w edge.button edge.pressed))
 trace_text-carried_out law time w (Pass ticks) = refl
@@ -181,14 +155,12 @@ passed_on-steps mode w then bytes telling kept t k =
   where
     by_mode : (m : Mode) → passed_on (telling_of m w bytes) then ≡ telling_of m then bytes
     by_mode Boot = refl
-    by_mode Trace = refl
-    by_mode Soak = refl
+    by_mode m = refl
 
     same_count : (m : Mode)
         → counted_bytes (passed_on (telling_of m w bytes) then) ≡ counted_bytes (telling_of m w bytes)
     same_count Boot = refl
-    same_count Trace = refl
-    same_count Soak = refl
+    same_count m = refl
 
 silent : (ss : List Step) → steps_text Soak ss ≡ []
 silent [] = refl
@@ -198,16 +170,15 @@ silent (step ∷ ss) = silent ss
 pub traced : (n : ℕ) (w : World) → flat_map step_lines (steps n w) ≡ trace_lines n w
 unfolding steps trace_lines
 traced zero w = refl
-traced (suc n) w = by_next (next w) (λ c. traced n (after w c))
+traced (suc n) w = by_choice (next w) (λ c. traced n (after w c))
   where
-    by_next : (o : Option Choice)
+    by_choice : (o : Option Choice)
         → ((c : Choice) → flat_map step_lines (steps n (after w c)) ≡ trace_lines n (after w c))
         → flat_map step_lines (on_choice [] (λ choice. step_of w choice ∷ steps n (after w choice)) o)
         ≡ on_choice []
         (λ choice. flat_map (label_lines w.clock.time) (labels w choice) ++ trace_lines n (after w choice)) o
-    by_next None later = refl
-    by_next (Some c) later =
-        ap (λ (t : List ℕ). flat_map (label_lines w.clock.time) (labels w c) ++ t) (later c)
+    by_choice None later = refl
+    by_choice (Some c) later = rw (later c) refl
 
 -- the text of a run: what is told of its steps, and after the last one
 pub text_in : (mode : Mode) (n : ℕ) (w : World) (end : List ℕ)
@@ -222,29 +193,14 @@ text_in Soak n w end =
 
 -- a turn shows no act of an operator
 turn_shows_no_act : (slot : ℕ) (event : Event) → is_turn event ≡ true → act_shown slot event ≡ None
-turn_shows_no_act slot (Turn t) is = refl
-turn_shows_no_act slot (Alarmed now) is = refl
-turn_shows_no_act slot (Edge button pressed) is = refl
-turn_shows_no_act slot Taken is = refl
-turn_shows_no_act slot WriteDone is = refl
-turn_shows_no_act slot (Input bytes) is = refl
-turn_shows_no_act slot (Word word) is = refl
-turn_shows_no_act slot NoWord is = refl
-turn_shows_no_act slot (Stored moved) is = refl
 turn_shows_no_act slot (Act verb) is = absurd (false≢true is)
+turn_shows_no_act slot event is = refl
 
 -- quiet turns have no lines
 quiet_lines : (time : ℕ) (ls : List Label) → All IsQuietTurn ls → flat_map (label_lines time) ls ≡ []
-quiet_lines time [] all = refl
-quiet_lines time (label ∷ ls) all =
-    let quiet = All-head IsQuietTurn label ls all in
-    ap (λ (t : List ℕ). label_lines time label ++ t) (quiet_lines time ls (All-tail IsQuietTurn label ls all))
-    ∙ ap (λ (bytes : List ℕ). (turn_text time label.slot label.trace.call label.trace.denial
-    ++ (act_text time (act_shown label.slot label.event) ++ out_text time label.slot bytes)) ++ []) quiet.1
-    ∙ ap (λ (act : Option (ℕ × Verb)). (turn_text time label.slot label.trace.call label.trace.denial
-    ++ (act_text time act ++ [])) ++ []) (turn_shows_no_act label.slot label.event quiet.0)
-    ∙ ap₂ (λ (call : Option CallMade) (denial : Option Denial). (turn_text time label.slot call denial ++ []) ++ [])
-    quiet.2 quiet.4
+quiet_lines time ls all =
+    no_lines time ls (All-weaker IsQuietTurn (λ label. label_lines time label ≡ []) (λ label quiet.
+    rw (quiet.1, turn_shows_no_act label.slot label.event quiet.0, quiet.2, quiet.4) refl) ls all)
 
 both_parts : {X : Type 0} (P : X → Type 0) (xs ys : List X) → All P (xs ++ ys) → All P xs × All P ys
 both_parts P [] ys all = (All-nil P, all)
@@ -253,18 +209,11 @@ both_parts P (x ∷ xs) ys all =
     (All-cons P x xs (All-head P x (xs ++ ys) all) rest.0, rest.1)
 
 quiet_steps : (k : ℕ) (w : World) → All IsQuietTurn (round k w).labels → flat_map step_lines (steps k w) ≡ []
-quiet_steps zero w all = ap (flat_map step_lines) (steps-zero w)
-quiet_steps (suc k) w all = by_next (next w) refl (λ c. quiet_steps k (after w c))
-  where
-    by_next : (o : Option Choice) → next w ≡ o
-        → ((c : Choice) → All IsQuietTurn (round k (after w c)).labels → flat_map step_lines (steps k (after w c)) ≡ [])
-        → flat_map step_lines (steps (suc k) w) ≡ []
-    by_next None e later = ap (flat_map step_lines) (steps-stop (suc k) w e)
-    by_next (Some c) e later =
-        let parts = both_parts IsQuietTurn (labels w c) (round k (after w c)).labels
-        (subst (λ (r : Ran). All IsQuietTurn r.labels) (round-step k w c e) all) in
-        ap (flat_map step_lines) (steps-step k w c e)
-        ∙ ap₂ (λ (a b : List ℕ). a ++ b) (quiet_lines w.clock.time (labels w c) parts.0) (later c parts.1)
+quiet_steps zero w all = rw (steps-zero w) refl
+quiet_steps (suc k) w all =
+    by_next (next w) (λ e. rw (steps-stop (suc k) w e) refl) (λ c e.
+    let parts = both_parts IsQuietTurn (labels w c) (round k (after w c)).labels (rw (round-step k w c e) at all) in
+    rw (steps-step k w c e, quiet_lines w.clock.time (labels w c) parts.0, quiet_steps k (after w c) parts.1) refl)
 
 -- so nothing is told of a quiet stretch
 pub nothing_told : (mode : Mode) (k : ℕ) (w v : World) → IsStretch k w v → steps_text mode (steps k w) ≡ []

@@ -3,7 +3,7 @@
 -- left, all made, a write that failed) takes from it the text, what is kept and the last world.
 use Rattle.std.proofs.Common.{◌≡◌, ℕ, zero, suc, ◌+◌, ◌-◌, ◌*◌, ◌^◌, ◌<◌, ◌≤◌, List, [], ◌∷◌}
 use Rattle.std.proofs.Common.{◌++◌, slice_get, Option, None, Some, refl, sym, ap, subst, ◌∙◌, arith}
-use Rattle.std.proofs.Common.{append_assoc, append-nil, Result}
+use Rattle.std.proofs.Common.{append_assoc, append-nil, Result, add-one}
 use Rattle.std.proofs.lemmas.Grind.{flat_map-append}
 use Rattle.std.specs.List.{flat_map}
 use Rattle.tk_base.specs.declared.limits.TheConstants.{PRINT_LIMIT}
@@ -26,7 +26,7 @@ use Rattle.tock_cli.proofs.Runs.{round-more, steps-plus, steps-stop, steps-step,
 use Rattle.kernel_model.proofs.Labels.{shown_by-printed}
 use Rattle.tock_cli.proofs.RunWriter.{nothing_told, passed_on-steps, told_on-step, told_text-step}
 use Rattle.run_text.specs.declared.mode.Mode.{Mode}
-use Rattle.run_text.specs.declared.mode.Mode.TheVariants.{Boot, Trace, Soak}
+use Rattle.run_text.specs.declared.mode.Mode.TheVariants.{Boot}
 use Rattle.tock_cli.specs.declared.teller.RunWriter.{RunWriter}
 use Rattle.run_text.specs.RunText.{IsWorldOf}
 use Rattle.run_text.specs.Parts.{Step, step_of, steps}
@@ -81,21 +81,17 @@ module _ {K : Type 0} {tells : K → SinkFacts} {mode : Mode} {n i : ℕ} {from 
   around : (c : Choice) → i < n → next here ≡ Some c
       → steps n from ≡ r.done ++ step_of here c ∷ steps (n - (i + 1)) (after here c)
   around c h e =
-      r.goes ∙ ap (λ (ss : List Step). r.done ++ ss)
-      (ap (λ (k : ℕ). steps k here) (fewer h) ∙ steps-step (n - (i + 1)) here c e)
+      r.goes ∙ rw (fewer h, steps-step (n - (i + 1)) here c e) refl
 
   -- where the rest of the run leads
   leads_on : (c : Choice) → i < n → next here ≡ Some c
       → (round n from).world ≡ (round (n - (i + 1)) (after here c)).world
   leads_on c h e =
-      r.leads ∙ ap (λ (k : ℕ). (round k here).world) (fewer h)
-      ∙ ap (λ (q : Ran). q.world) (round-step (n - (i + 1)) here c e)
+      r.leads ∙ rw (fewer h, round-step (n - (i + 1)) here c e) refl
 
   -- the world after a step is one of the run
   came_on : (c : Choice) → next here ≡ Some c → after here c ≡ (round (suc i) from).world
-  came_on c e =
-      let there : next (round i from).world ≡ Some c = ap next (sym r.came) ∙ e in
-      ap (λ (w : World). after w c) r.came ∙ sym (round-more i from c there)
+  came_on c e = rw r.came (sym (round-more i from c (rw r.came at e)))
 
   -- what is counted has room for another step
   pub room : i < n → n < 2 ^ 32 → counted_bytes telling + PRINT_LIMIT < 2 ^ 64
@@ -107,32 +103,20 @@ module _ {K : Type 0} {tells : K → SinkFacts} {mode : Mode} {n i : ℕ} {from 
         → step ≡ shown_by (labels here c) → PutBehind tells now later gathered more (told_text telling step)
         → kept ≡ told_on telling then step → counted_bytes kept ≤ counted_bytes telling + PRINT_LIMIT
         → RunsOn tells mode n (i + 1) from then old later before more kept
-    one_more law one h e f s w k l = record {
-      done = r.done ++ step_of here c ∷ [];
-      wrote = subst (λ (text : List ℕ). PutBehind tells old later before more text)
-          (sym (flat_map-more (step_text mode) r.done (step_of here c))) (law.put_then_put r.wrote told);
-      kept = k ∙ told_on-step mode here then (printed_in r.done) (printed (labels here c)) telling step r.kept bytes
-          ∙ ap (telling_of mode then) (sym longer);
-      few = omega (arith, r.few, l);
-      goes = around c h e ∙ sym (append_assoc r.done (step_of here c ∷ []) (steps (n - (i + 1)) (after here c)))
-          ∙ ap (λ (v : World). (r.done ++ step_of here c ∷ []) ++ steps (n - (i + 1)) v) (sym f);
-      leads = leads_on c h e ∙ ap (λ (v : World). (round (n - (i + 1)) v).world) (sym f);
-      came = f ∙ came_on c e ∙ ap (λ (j : ℕ). (round j from).world) (number i);
-      steps_made = omega (arith, r.steps_made, ap (λ (v : World). v.clock.steps) f, steps-after here c);
-    }
-      where
-        number : (i : ℕ) → suc i ≡ i + 1
-        number i = omega arith
-
-        bytes : step.printed.items ≡ printed (labels here c)
-        bytes = ap (λ (x : Emit). x.printed.items) s ∙ shown_by-printed (labels here c)
-
-        told : PutBehind tells now later gathered more (step_text mode (step_of here c))
-        told = subst (λ (text : List ℕ). PutBehind tells now later gathered more text)
-            (told_text-step one mode here c (printed_in r.done) telling step r.kept s) w
-
-        longer : printed_in (r.done ++ step_of here c ∷ []) ≡ printed_in r.done ++ printed (labels here c)
-        longer = flat_map-more (λ (x : Step). printed x.labels) r.done (step_of here c)
+    one_more law one h e f s w k l =
+        let bytes : step.printed.items ≡ printed (labels here c) = rw s (shown_by-printed (labels here c)) in
+        let told = rw (told_text-step one mode here c (printed_in r.done) telling step r.kept s) at w in
+        record {
+          done = r.done ++ step_of here c ∷ [];
+          wrote = rw (flat_map-more (step_text mode) r.done (step_of here c)) (law.put_then_put r.wrote told);
+          kept = rw (flat_map-more (λ (x : Step). printed x.labels) r.done (step_of here c)) (k
+              ∙ told_on-step mode here then (printed_in r.done) (printed (labels here c)) telling step r.kept bytes);
+          few = omega (arith, r.few, l);
+          goes = around c h e ∙ rw (f, append_assoc) refl;
+          leads = leads_on c h e ∙ rw f refl;
+          came = rw add-one (f ∙ came_on c e);
+          steps_made = omega (arith, r.steps_made, ap (λ (v : World). v.clock.steps) f, steps-after here c);
+        }
 
   -- a quiet stretch more
   ran_on : RoundsJoin → (k j : ℕ) (then : World) (kept : RunWriter) → k ≤ n - i → j ≡ i + k → IsStretch k here then
@@ -176,7 +160,7 @@ module _ {K : Type 0} {tells : K → SinkFacts} {mode : Mode} {n i : ℕ} {from 
 
   -- so many steps, told otherwise
   pub made_so : (j : ℕ) → i ≡ j → RunsOn tells mode n j from here old now before gathered telling
-  made_so j e = subst (λ (k : ℕ). RunsOn tells mode n k from here old now before gathered telling) e r
+  made_so j e = rw (← e) r
 
   -- what is gathered was written
   pub flushed : PutsCompose tells → (later : K) (after : List ℕ) → WroteAll tells now later gathered → after ≡ []
@@ -197,9 +181,7 @@ module _ {K : Type 0} {tells : K → SinkFacts} {mode : Mode} {n i : ℕ} {from 
   pub unflushed : PutsCompose tells → (later : K) → WrotePart tells now later gathered
       → WrotePart tells old later (before ++ steps_text mode (steps n from))
   unflushed law later w =
-      let whole : steps_text mode (steps n from) ≡ steps_text mode r.done ++ steps_text mode (steps (n - i) here) =
-      ap (steps_text mode) r.goes ∙ flat_map-append (step_text mode) r.done (steps (n - i) here) in
-      subst (λ (t : List ℕ). WrotePart tells old later (before ++ t)) (sym whole)
+      rw (r.goes, flat_map-append (step_text mode) r.done (steps (n - i) here))
       (law.put_then_unflushed (steps_text mode (steps (n - i) here)) r.wrote w)
 
   -- a write that failed in a step
@@ -209,15 +191,9 @@ module _ {K : Type 0} {tells : K → SinkFacts} {mode : Mode} {n i : ℕ} {from 
         → WrotePart tells old later (before ++ steps_text mode (steps n from))
     part law one h e s w =
         let rest : List Step = steps (n - (i + 1)) (after here c) in
-        let whole : steps_text mode (steps n from)
-        ≡ steps_text mode r.done ++ (step_text mode (step_of here c) ++ steps_text mode rest) =
-        ap (steps_text mode) (around c h e) ∙ flat_map-append (step_text mode) r.done (step_of here c ∷ rest) in
-        subst (λ (t : List ℕ). WrotePart tells old later (before ++ t)) (sym whole)
-        (law.put_then_part (step_text mode (step_of here c)) (steps_text mode rest) r.wrote told)
-      where
-        told : WrotePart tells now later (gathered ++ step_text mode (step_of here c))
-        told = subst (λ (text : List ℕ). WrotePart tells now later (gathered ++ text))
-            (told_text-step one mode here c (printed_in r.done) telling step r.kept s) w
+        rw (around c h e, flat_map-append (step_text mode) r.done (step_of here c ∷ rest))
+        (law.put_then_part (step_text mode (step_of here c)) (steps_text mode rest) r.wrote
+        (rw (told_text-step one mode here c (printed_in r.done) telling step r.kept s) at w))
 
   -- a world of the run
   module _ {c : Choice} {then : World} where
@@ -236,13 +212,11 @@ module _ {K : Type 0} {tells : K → SinkFacts} {mode : Mode} {n i : ℕ} {from 
 
   stopped : steps (n - i) here ≡ [] → round (n - i) here ≡ stays here → IsWhole
   stopped none e =
-      let last : here ≡ (round n from).world = sym (r.leads ∙ ap (λ (q : Ran). q.world) e) in
-      let all : steps n from ≡ r.done = r.goes ∙ ap (λ (ss : List Step). r.done ++ ss) none ∙ append-nil r.done in
+      let last : here ≡ (round n from).world = rw (r.leads, e) refl in
+      let all : steps n from ≡ r.done = r.goes ∙ rw (none, append-nil r.done) refl in
       record {
-        text = subst (λ (ss : List Step). PutBehind tells old now before gathered (steps_text mode ss)) (sym all)
-            r.wrote;
-        kept_is = r.kept ∙ ap (λ (w : World). telling_of mode w (printed_in r.done)) last
-            ∙ ap (telling_of mode (round n from).world) (ap printed_in (sym all) ∙ sym (printed-round n from));
+        text = rw all r.wrote;
+        kept_is = rw (printed-round n from, all, ← last) r.kept;
         last = last;
       }
 
@@ -254,39 +228,32 @@ module _ {K : Type 0} {tells : K → SinkFacts} {mode : Mode} {n i : ℕ} {from 
   pub made : n ≤ i → IsWhole
   made h =
       let none : n - i ≡ zero = omega arith in
-      stopped (ap (λ (k : ℕ). steps k here) none ∙ steps-zero here)
-      (ap (λ (k : ℕ). round k here) none ∙ round-zero here)
+      stopped (rw none (steps-zero here)) (rw none (round-zero here))
 
 -- a run that begins
 pub begins : {K : Type 0} (tells : K → SinkFacts) (mode : Mode) (n : ℕ) (from : World) (old : K) (before : List ℕ)
     (telling : RunWriter) → PutsCompose tells → telling ≡ telling_of mode from []
     → RunsOn tells mode n 0 from from old old before before telling
-begins tells mode n from old before telling law t = record {
-  done = [];
-  wrote = law.put_nothing old before;
-  kept = t;
-  few = subst (λ (x : RunWriter). counted_bytes x ≤ 0) (sym t) (nothing mode);
-  goes = ap (λ (k : ℕ). steps k from) (whole n);
-  leads = ap (λ (k : ℕ). (round k from).world) (whole n);
-  came = sym (ap (λ (q : Ran). q.world) (round-zero from));
-  steps_made = zero_more from.clock.steps;
-}
+begins tells mode n from old before telling law t =
+    let whole : n ≡ n - 0 = omega arith in
+    record {
+      done = [];
+      wrote = law.put_nothing old before;
+      kept = t;
+      few = rw t (nothing mode);
+      goes = ap (λ (k : ℕ). steps k from) whole;
+      leads = ap (λ (k : ℕ). (round k from).world) whole;
+      came = rw (round-zero from) refl;
+      steps_made = omega arith;
+    }
   where
-    whole : (n : ℕ) → n ≡ n - 0
-    whole n = omega arith
-
-    zero_more : (n : ℕ) → n ≤ n + 0
-    zero_more n = omega arith
-
     nothing : (m : Mode) → counted_bytes (telling_of m from []) ≤ 0
     nothing Boot = omega arith
-    nothing Trace = omega arith
-    nothing Soak = omega arith
+    nothing m = omega arith
 
 -- what was put behind nothing is written, and nothing else
 pub put_and_flushed : {K : Type 0} {tells : K → SinkFacts} {a b : K} {gathered text : List ℕ} → PutsCompose tells
     → (c : K) (r : Result (Unit {0}) Failed) → PutBehind tells a b [] gathered text → Writes tells b c gathered r
     → Writes tells a c text r
-put_and_flushed {K} {tells} {a} {b} {gathered} {text} law c r p w =
-    subst (λ (t : List ℕ). Writes tells a c t r) (append-nil text)
-    (law.put_then_writes c [] r p (subst (λ (t : List ℕ). Writes tells b c t r) (sym (append-nil gathered)) w))
+put_and_flushed {gathered = gathered} {text = text} law c r p w =
+    rw (append-nil text) at (law.put_then_writes c [] r p (rw (append-nil gathered) w))

@@ -29,37 +29,26 @@ module _ {Z : Type 0} (words : List (String Z)) where
         ≡ option_map (λ asks. done ++ asks) (put_first (ask_of (string_bytes word))
         (all_asks (map string_bytes (drop (suc i) words))))
     around =
-        r.all ∙ ap (λ (ws : List (String Z)). option_map (λ (asks : List Ask). done ++ asks)
-        (all_asks (map string_bytes ws))) (drop-cons words i word h)
-        ∙ ap (λ (v : String Z). option_map (λ (asks : List Ask). done ++ asks)
-        (put_first (ask_of (string_bytes v)) (all_asks (map string_bytes (drop (suc i) words))))) (sym w)
+        r.all ∙ rw (drop-cons words i word h) (ap (λ (v : String Z). option_map (λ (asks : List Ask). done ++ asks)
+        (put_first (ask_of (string_bytes v)) (all_asks (map string_bytes (drop (suc i) words))))) (sym w))
 
     -- one that is no command
     pub none : ask_of (string_bytes word) ≡ None → all_asks (map string_bytes words) ≡ None
-    none e =
-        around ∙ ap (λ (o : Option Ask). option_map (λ (asks : List Ask). done ++ asks)
-        (put_first o (all_asks (map string_bytes (drop (suc i) words))))) e
+    none e = rw (around, e)
 
     -- one command more
     pub more : (ask : Ask) → ask_of (string_bytes word) ≡ Some ask
         → AsksSoFar (map string_bytes words) (done ++ ask ∷ []) (map string_bytes (drop (i + 1) words))
     more ask e = record {
-      all = around ∙ ap (λ (o : Option Ask). option_map (λ (asks : List Ask). done ++ asks)
-          (put_first o (all_asks (map string_bytes (drop (suc i) words))))) e
-          ∙ joined (all_asks (map string_bytes (drop (suc i) words)))
-          ∙ ap (λ (n : ℕ). option_map (λ (asks : List Ask). (done ++ ask ∷ []) ++ asks)
-          (all_asks (map string_bytes (drop n words))))
-          (sym (add-one i));
+      all = rw (around, e, add-one i) (joined (all_asks (map string_bytes (drop (suc i) words))));
     }
       where
         joined : (o : Option (List Ask)) → option_map (λ (asks : List Ask). done ++ asks) (put_first (Some ask) o)
             ≡ option_map (λ (asks : List Ask). (done ++ ask ∷ []) ++ asks) o
         joined None = refl
-        joined (Some asks) = ap (λ (xs : List Ask). Some xs) (sym (append_assoc done (ask ∷ []) asks))
+        joined (Some asks) = rw append_assoc
 
 -- all are done
 pub whole : (words : List (List ℕ)) (done : List Ask) (left : List (List ℕ)) → AsksSoFar words done left → left ≡ []
     → Some done ≡ all_asks words
-whole words done left r e =
-    sym (r.all ∙ ap (λ (ws : List (List ℕ)). option_map (λ (asks : List Ask). done ++ asks) (all_asks ws)) e
-    ∙ ap (λ (xs : List Ask). Some xs) (append-nil done))
+whole words done left r e = rw (r.all, e, append-nil done)

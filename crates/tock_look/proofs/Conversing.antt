@@ -1,8 +1,9 @@
 -- Commands of lines that are answered one after another. The loop keeps the lines given so far and their answers
 -- written (`Converses`), and the worlds that they lead to are a fold over them; a line more adds its command at the
 -- end. Where the sink fails, or memory is wanting, a front of the whole text was written.
-use Rattle.std.proofs.Common.{◌≡◌, ℕ, List, [], ◌∷◌, ◌++◌, map, Option, None, Some, inl, inr}
-use Rattle.std.proofs.Common.{refl, sym, ap, subst, ◌∙◌, append_assoc, append-nil}
+use Rattle.tock_look.proofs.Answering.{refused_after}
+use Rattle.std.proofs.Common.{◌≡◌, ℕ, List, [], ◌∷◌, ◌++◌, map, Option, None, Some, inl}
+use Rattle.std.proofs.Common.{refl, sym, ap, ◌∙◌, append_assoc, append-nil}
 use Rattle.tk_outside.specs.Sink.{SinkFacts}
 use Rattle.tk_outside.specs.Writes.{WroteAll, WrotePart}
 use Rattle.tk_outside.specs.Laws.{WritesCompose}
@@ -11,14 +12,14 @@ use Rattle.tool_words.specs.declared.refusal.Refusal.TheVariants.{Memory}
 use Rattle.tool_tasks.specs.declared.prepare.RunFiles.{RunFiles}
 use Rattle.tool_tasks.specs.RunFiles.{opening_of_files}
 use Rattle.tool_answers.specs.declared.outcome.ServeOutcome.{ServeOutcome}
-use Rattle.tool_answers.specs.declared.outcome.ServeOutcome.TheVariants.{Done, Refused, SinkFailed}
+use Rattle.tool_answers.specs.declared.outcome.ServeOutcome.TheVariants.{Done, SinkFailed}
 use Rattle.tool_answers.specs.Parts.{RefusalIs}
-use Rattle.tool_answers.specs.Served.{sink_account}
+use Rattle.tool_answers.specs.Served.{SinkAccount, sink_account}
 use Rattle.tock_look.specs.declared.asks.Ask.{Ask}
 use Rattle.tock_look.specs.Answers.{AreAfter, Worlds, answer_text, answers_from, answers_text, opened, worlds_after}
 use Rattle.tock_look.specs.Asks.{line_ask}
-use Rattle.tock_look.specs.Lines.{Came, GivesLine, IsEnded}
-use Rattle.tock_look.specs.Looks.{AnswersAll, AnswersLines}
+use Rattle.tock_look.specs.Lines.{Came, GivesLine}
+use Rattle.tock_look.specs.Looks.{AnswersLines}
 
 -- the worlds after commands
 abbrev after_asks : World → Worlds → List Ask → Worlds
@@ -30,10 +31,7 @@ answers-more : (opening : World) (w : Worlds) (asks : List Ask) (ask : Ask)
     → answers_from opening w (asks ++ ask ∷ [])
     ≡ answers_from opening w asks ++ answer_text (after_asks opening w asks) ask
 answers-more opening w [] ask = append-nil (answer_text w ask)
-answers-more opening w (a ∷ asks) ask =
-    ap (λ (t : List ℕ). answer_text w a ++ t) (answers-more opening (worlds_after opening w a) asks ask)
-    ∙ sym (append_assoc (answer_text w a) (answers_from opening (worlds_after opening w a) asks)
-    (answer_text (after_asks opening (worlds_after opening w a) asks) ask))
+answers-more opening w (a ∷ asks) ask = rw (answers-more opening (worlds_after opening w a) asks ask, append_assoc)
 
 asks-more : (opening : World) (w : Worlds) (asks : List Ask) (ask : Ask)
     → after_asks opening w (asks ++ ask ∷ []) ≡ worlds_after opening (after_asks opening w asks) ask
@@ -56,8 +54,13 @@ came-more : (a b c : Option (List (List ℕ))) (given more : List (List ℕ)) �
 came-more None b c given more h k = tt
 came-more (Some ls) None c given more h k = absurd h
 came-more (Some ls) (Some ms) None given more h k = absurd k
-came-more (Some ls) (Some ms) (Some ns) given more h k =
-    h ∙ ap (λ (xs : List (List ℕ)). given ++ xs) k ∙ sym (append_assoc given more ns)
+came-more (Some ls) (Some ms) (Some ns) given more h k = rw (h, k, append_assoc)
+
+-- who was refused is not done
+not_done : {P : Type 0} (sent : SinkAccount) (outcome : ServeOutcome) → RefusalIs sent Memory outcome → outcome ≡ Done
+    → P
+not_done sent Done f e = absurd f
+not_done sent _ f e = absurd (cc)
 
 -- lines were given, and their commands answered
 pub record Converses {K : Type 0} (tells : K → SinkFacts) (old now : K) (opening : World) (here : Worlds)
@@ -74,7 +77,7 @@ begins law a w kept lines none = record {
   given = [];
   came = none_came lines;
   wrote = law.wrote_nothing a;
-  there = ap (λ (ks : List World). record { now = w; kept = ks }) none;
+  there = rw none;
 }
   where
     none_came : (o : Option (List (List ℕ))) → Came o o []
@@ -90,8 +93,7 @@ module _ {K : Type 0} {tells : K → SinkFacts} {old now : K} {opening : World} 
   ended rest (Some line) e g = absurd (cc)
   ended rest None e g = record {
     given = r.given;
-    came = subst (λ (ls : List (List ℕ)). Came before rest ls) (append-nil r.given)
-        (came-more before left rest r.given [] r.came g.0);
+    came = rw (append-nil r.given) at (came-more before left rest r.given [] r.came g.0);
     all = λ done. g.1;
     answers = r.wrote;
   }
@@ -102,48 +104,23 @@ module _ {K : Type 0} {tells : K → SinkFacts} {old now : K} {opening : World} 
   too_many last outcome f = record {
     given = r.given;
     came = r.came;
-    all = not_done outcome f;
-    answers = answers outcome f;
+    all = not_done (sink_account tells now last) outcome f;
+    answers = refused_after law text [] text (sym (append-nil text)) r.wrote now last (law.wrote_nothing now) outcome f;
   }
     where
-      not_done : (outcome : ServeOutcome) → RefusalIs (sink_account tells now last) Memory outcome
-          → outcome ≡ Done → IsEnded left
-      not_done Done f e = absurd f
-      not_done (Refused refusal) f e = absurd (cc)
-      not_done SinkFailed f e = absurd (cc)
-
-      answers : (outcome : ServeOutcome) → RefusalIs (sink_account tells now last) Memory outcome
-          → AnswersAll (sink_account tells old last) (answers_text opening (map line_ask r.given)) outcome
-      answers Done f = absurd f
-      answers (Refused refusal) f = (
-        f.0,
-        (
-          answers_text opening (map line_ask r.given),
-          record { rest = []; whole = sym (append-nil (answers_text opening (map line_ask r.given))) },
-          law.all_then_all r.wrote f.1,
-        ),
-      )
-      answers SinkFailed f =
-          inr (
-            answers_text opening (map line_ask r.given),
-            record { rest = []; whole = sym (append-nil (answers_text opening (map line_ask r.given))) },
-            law.all_then_part r.wrote f,
-          )
+      text : List ℕ
+      text = answers_text opening (map line_ask r.given)
 
   module _ (rest : Option (List (List ℕ))) (line : List ℕ) (g : Came left rest (line ∷ [])) where
-    all_given : List (List ℕ)
-    all_given = r.given ++ line ∷ []
-
     came : Came before rest (r.given ++ line ∷ [])
     came = came-more before left rest r.given (line ∷ []) r.came g
 
     text : answers_text opening (map line_ask (r.given ++ line ∷ []))
         ≡ answers_text opening (map line_ask r.given) ++ answer_text here (line_ask line)
     unfolding commands
-    text = ap (answers_text opening) (commands-more r.given line)
-        ∙ answers-more opening (opened opening) (commands r.given) (line_ask line)
-        ∙ ap (λ (w : Worlds). answers_text opening (map line_ask r.given) ++ answer_text w (line_ask line))
-        (sym r.there)
+    text = rw (commands-more r.given line, answers-more opening (opened opening) (commands r.given) (line_ask line))
+        (ap (λ (w : Worlds). answers_text opening (map line_ask r.given) ++ answer_text w (line_ask line))
+        (sym r.there))
 
     -- one answer more
     pub more : (files : RunFiles) (later : K) (new : Worlds)
@@ -154,10 +131,9 @@ module _ {K : Type 0} {tells : K → SinkFacts} {old now : K} {opening : World} 
     more files later new o w a = record {
       given = r.given ++ line ∷ [];
       came = came;
-      wrote = subst (λ (t : List ℕ). WroteAll tells old later t) (sym text) (law.all_then_all r.wrote w);
+      wrote = rw text (law.all_then_all r.wrote w);
       there = a opening o ∙ ap (λ (v : Worlds). worlds_after opening v (line_ask line)) r.there
-          ∙ sym (asks-more opening (opened opening) (commands r.given) (line_ask line))
-          ∙ ap (after_asks opening (opened opening)) (sym (commands-more r.given line));
+          ∙ rw (commands-more r.given line, asks-more opening (opened opening) (commands r.given) (line_ask line));
     }
 
     -- the sink failed in an answer
@@ -167,8 +143,7 @@ module _ {K : Type 0} {tells : K → SinkFacts} {old now : K} {opening : World} 
       given = r.given ++ line ∷ [];
       came = came;
       all = λ done. absurd (cc);
-      answers = inl (subst (λ (t : List ℕ). WrotePart tells old later t) (sym text)
-          (law.all_then_part r.wrote w));
+      answers = inl (rw text (law.all_then_part r.wrote w));
     }
 
     -- there was no memory for an answer
@@ -178,38 +153,6 @@ module _ {K : Type 0} {tells : K → SinkFacts} {old now : K} {opening : World} 
     refused later last outcome w f = record {
       given = r.given ++ line ∷ [];
       came = came;
-      all = not_done outcome f;
-      answers = answers outcome f;
+      all = not_done (sink_account tells later last) outcome f;
+      answers = refused_after law _ (answer_text here (line_ask line)) _ text r.wrote later last w outcome f;
     }
-      where
-        front : List ℕ
-        front = answers_text opening (map line_ask r.given)
-
-        done_only : WroteAll tells old later (answers_text opening (map line_ask r.given))
-        done_only = subst (λ (t : List ℕ). WroteAll tells old later t)
-            (append-nil (answers_text opening (map line_ask r.given))) (law.all_then_all r.wrote w)
-
-        not_done : (outcome : ServeOutcome) → RefusalIs (sink_account tells later last) Memory outcome
-            → outcome ≡ Done → IsEnded rest
-        not_done Done f e = absurd f
-        not_done (Refused refusal) f e = absurd (cc)
-        not_done SinkFailed f e = absurd (cc)
-
-        answers : (outcome : ServeOutcome) → RefusalIs (sink_account tells later last) Memory outcome
-            → AnswersAll (sink_account tells old last)
-            (answers_text opening (map line_ask (r.given ++ line ∷ []))) outcome
-        answers Done f = absurd f
-        answers (Refused refusal) f = (
-          f.0,
-          (
-            answers_text opening (map line_ask r.given),
-            record { rest = answer_text here (line_ask line); whole = text },
-            law.all_then_all done_only f.1,
-          ),
-        )
-        answers SinkFailed f =
-            inr (
-              answers_text opening (map line_ask r.given),
-              record { rest = answer_text here (line_ask line); whole = text },
-              law.all_then_part done_only f,
-            )

@@ -1,6 +1,7 @@
 -- Watched places, three numbers each.
-use Rattle.std.proofs.Common.{◌≡◌, ℕ, ◌-◌, ◌≤◌, ◌<◌, nat_lt, Bool, true, cond, List, [], ◌∷◌, ◌++◌, length, take}
-use Rattle.std.proofs.Common.{drop, get_or, Option, None, sym, ap, ◌∙◌, arith, true≢false}
+use Rattle.std.proofs.lemmas.Bool.{lt-ltb}
+use Rattle.std.proofs.Common.{◌≡◌, ℕ, ◌-◌, ◌≤◌, ◌<◌, true, List, [], ◌∷◌, ◌++◌, length, take}
+use Rattle.std.proofs.Common.{drop, get_or, Option, sym, arith, true≢false}
 use Rattle.std.proofs.lemmas.List.{take_all}
 use Rattle.std.specs.Prelude.{Result, Ok, Err, is_ok, OnOk}
 use Rattle.board_views.specs.declared.goal.Watched.{Watched}
@@ -12,9 +13,6 @@ pub made : {A E P : Type 0} (result : Result A E) → is_ok result ≡ true → 
 made (Ok x) e p = p
 made (Err x) e p = absurd (true≢false (sym e))
 
-less : (n m : ℕ) → n < m → nat_lt n m ≡ true
-less n m h = grind (arith, h)
-
 -- the first three numbers are a place, for which there is room
 pub next_place : (places now : List Watched) (numbers : List ℕ) (found : Option (List Watched)) → 3 ≤ length numbers
     → length places < GOAL_PLACES
@@ -24,8 +22,5 @@ next_place places now [] found h l e f = absurd (omega (arith, h))
 next_place places now (s ∷ []) found h l e f = absurd (omega (arith, h))
 next_place places now (s ∷ a ∷ []) found h l e f = absurd (omega (arith, h))
 next_place places now (s ∷ a ∷ n ∷ rest) found h l e f =
-    f ∙ ap (watched_after now) (take_all (length (s ∷ a ∷ n ∷ rest) - 3) rest (omega arith))
-    ∙ ap (λ (ps : List Watched). watched_after ps rest) e
-    ∙ sym (ap (λ (b : Bool). cond b
-    (watched_after (places ++ (record { slot = s; at = a; count = n }) ∷ []) rest) None)
-    (less (length places) GOAL_PLACES l))
+    rw (lt-ltb (length places) GOAL_PLACES l)
+    (rw (take_all (length (s ∷ a ∷ n ∷ rest) - 3) rest (omega arith), e) at f)

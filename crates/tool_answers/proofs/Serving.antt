@@ -10,7 +10,7 @@ use Rattle.tool_words.specs.declared.refusal.Refusal.{Refusal}
 use Rattle.tool_words.specs.declared.refusal.Refusal.TheVariants.{Usage, Fault, TooLong, Script, Image, Memory}
 use Rattle.tool_answers.specs.declared.outcome.ServeOutcome.{ServeOutcome}
 use Rattle.tool_answers.specs.declared.outcome.ServeOutcome.TheVariants.{Done, Refused, SinkFailed}
-use Rattle.tool_words.specs.Words.{Command, Runs, Lists, Soaks, Packs, Edits}
+use Rattle.tool_words.specs.Words.{Command, Soaks}
 use Rattle.tool_words.specs.Refusals.{refusal_line}
 use Rattle.tool_tasks.specs.Comes.{ByName, Generated, Task, IsTask, files_of, world_left_by}
 use Rattle.tool_tasks.specs.Causes.{ShelfAccount, Cause}
@@ -49,35 +49,21 @@ module _ (makes : ℕ → Generated) (told : ShelfAccount) (sent : SinkAccount) 
   -- where the task was done the answer is 0
   is_done : (command : Command) (task : Task) → IsTask makes told.before.bytes (Some command) task
       → Decided told (Some command) 0
-  is_done (Runs mode name script turns) task h =
-      let command = Runs mode name script turns in by_task told command _ (files_of command) [] h
-  is_done (Lists name) task h = by_task told (Lists name) _ (files_of (Lists name)) [] h
   is_done (Soaks number turns) task h = inl refl
-  is_done (Packs names) task h = by_task told (Packs names) _ (files_of (Packs names)) [] h
-  is_done (Edits name offset edit) task h =
-      let command = Edits name offset edit in by_task told command _ (files_of command) [] h
+  is_done command task h = by_task told command _ (files_of command) [] h
 
   decided : (words : Option Command) (o : ServeOutcome) → Happens makes told sent words last o → IsWritten sent
       → Decided told words (exit_status_of o)
   decided None Done h = absurd h.1
   decided None (Refused Usage) h = λ w. refl
-  decided None (Refused (Fault file)) h = absurd h.0.0
-  decided None (Refused (TooLong file)) h = absurd h.0.0
-  decided None (Refused (Script line rule)) h = absurd h.0.0
-  decided None (Refused (Image fault)) h = absurd h.0.0
-  decided None (Refused Memory) h = absurd h.0.0
+  decided None (Refused refusal) h = absurd h.0.0
   decided None SinkFailed h = λ w. absurd (w (sink_rose None h.0))
   decided (Some command) Done h = λ w. is_done command h.0 h.1
   decided (Some command) (Refused Usage) h = absurd h.0.0
   decided (Some command) (Refused (Fault file)) h =
       λ w. by_fault told command 3 file h.0.0.0 (files_of command) [] h.0.0.1
-  decided (Some command) (Refused (TooLong file)) h =
-      λ w. by_refusal told command (TooLong file) (files_of command) [] h.0.0
-  decided (Some command) (Refused (Script line rule)) h =
-      λ w. by_refusal told command (Script line rule) (files_of command) [] h.0.0
-  decided (Some command) (Refused (Image fault)) h =
-      λ w. by_refusal told command (Image fault) (files_of command) [] h.0.0
   decided (Some command) (Refused Memory) h = λ w. by_memory told command (files_of command) []
+  decided (Some command) (Refused refusal) h = λ w. by_refusal told command refusal (files_of command) [] h.0.0
   decided (Some command) SinkFailed h = λ w. absurd (w (sink_rose (Some command) h.0))
 
   none_left : last ≡ None → IsSome last → ⊥
@@ -119,23 +105,10 @@ module _ (makes : ℕ → Generated) (told : ShelfAccount) (sent : SinkAccount) 
       ImageFault) × TaskIsRefused told sent words (Image fault)
   Says words (suc (suc (suc (suc (suc (suc (suc (suc (suc n))))))))) = ⊤
 
-  -- no answer is 1
-  apart : (n : ℕ) → 2 ≤ n → n ≢ 1
-  apart n least e = omega (arith, least, e)
-
-  zero_apart : (n : ℕ) → n ≡ 0 → n ≢ 1
-  zero_apart n none e = omega (arith, none, e)
-
-  -- the answers that there are
+  -- the answers that there are, of which none is 1
   listed : (o : ServeOutcome) → (exit_status_of o ≤ 8) × (exit_status_of o ≢ 1)
-  listed Done = let at : (0 ≤ 8) × (0 ≢ 1) = (omega arith, zero_apart 0 refl) in at
-  listed (Refused Usage) = let at : (2 ≤ 8) × (2 ≢ 1) = (omega arith, apart 2 (omega arith)) in at
-  listed (Refused (Fault file)) = let at : (3 ≤ 8) × (3 ≢ 1) = (omega arith, apart 3 (omega arith)) in at
-  listed (Refused (TooLong file)) = let at : (4 ≤ 8) × (4 ≢ 1) = (omega arith, apart 4 (omega arith)) in at
-  listed (Refused (Script line rule)) = let at : (5 ≤ 8) × (5 ≢ 1) = (omega arith, apart 5 (omega arith)) in at
-  listed (Refused (Image fault)) = let at : (8 ≤ 8) × (8 ≢ 1) = (omega arith, apart 8 (omega arith)) in at
-  listed (Refused Memory) = let at : (7 ≤ 8) × (7 ≢ 1) = (omega arith, apart 7 (omega arith)) in at
-  listed SinkFailed = let at : (6 ≤ 8) × (6 ≢ 1) = (omega arith, apart 6 (omega arith)) in at
+  listed (Refused Usage) = (omega arith, λ e. cc)
+  listed o = (omega arith, λ e. cc)
 
   -- an answer says what its number says, and nothing of the other answers
   by_number : (words : Option Command) (o : ServeOutcome) → Says words (exit_status_of o)

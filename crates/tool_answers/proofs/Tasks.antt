@@ -50,21 +50,13 @@ module _ (P : Command → Task → Type 0)
   of_command : (command : Command) (texts : List (List ℕ)) (task : Task) → comes_to command texts ≡ Some (Ok task)
       → P command task
   unfolding comes_to
-  of_command (Runs mode name other turns) [] task e = absurd (cc)
-  of_command (Runs mode name other turns) (flash ∷ []) task e = absurd (cc)
   of_command (Runs mode name other turns) (flash ∷ script ∷ []) task e =
       of_run (Runs mode name other turns) mode turns flash (reading script) task (runs mode name other turns flash) (cc)
-  of_command (Runs mode name other turns) (flash ∷ script ∷ more ∷ texts) task e = absurd (cc)
-  of_command (Lists name) [] task e = absurd (cc)
   of_command (Lists name) (flash ∷ []) task e = at_task (Lists name) (Listing flash) task (lists name flash) e
-  of_command (Lists name) (flash ∷ more ∷ texts) task e = absurd (cc)
-  of_command (Soaks number turns) [] task e = absurd (cc)
-  of_command (Soaks number turns) (flash ∷ texts) task e = absurd (cc)
   of_command (Packs names) texts task e = of_pack names (pack texts) task e
-  of_command (Edits name offset edit) [] task e = absurd (cc)
   of_command (Edits name offset edit) (flash ∷ []) task e =
       of_edit name offset edit (edited_by edit offset flash) task e
-  of_command (Edits name offset edit) (flash ∷ more ∷ texts) task e = absurd (cc)
+  of_command command texts task e = absurd (cc)
 
   -- the task of a command that reads files
   of_read : (bytes : ByName) (command : Command) (task : Task) → IsTaskOf bytes command task → P command task
@@ -74,10 +66,7 @@ module _ (P : Command → Task → Type 0)
 
   pub of_task : (makes : ℕ → Generated) (bytes : ByName) (command : Command) (task : Task)
       → IsTask makes bytes (Some command) task → P command task
-  of_task makes bytes (Runs mode name script turns) task is = of_read bytes (Runs mode name script turns) task is
-  of_task makes bytes (Lists name) task is = of_read bytes (Lists name) task is
   of_task makes bytes (Soaks number turns) task is =
       of_run (Soaks number turns) Soak turns (makes number).flash (reading (makes number).script) task
       (soaks number turns (makes number).flash) is
-  of_task makes bytes (Packs names) task is = of_read bytes (Packs names) task is
-  of_task makes bytes (Edits name offset edit) task is = of_read bytes (Edits name offset edit) task is
+  of_task makes bytes command task is = of_read bytes command task is

@@ -1,7 +1,7 @@
 -- Why files that are read lead to a task, or to a refusal. A file that is read is refused for its length, or for what
 -- the one table (`comes_to`) says of the command and the texts so far; one that cannot be read, for that. For each
 -- command its row of the table computes, and a script or an edit that is refused names its fault.
-use Rattle.std.proofs.Common.{◌≡◌, ℕ, suc, ◌<◌, ◌≤◌, nat_lt, cond, Bool, true, false, List, [], ◌∷◌, ◌++◌}
+use Rattle.std.proofs.Common.{◌≡◌, ℕ, suc, ◌<◌, ◌≤◌, nat_lt, true, false, List, [], ◌∷◌, ◌++◌}
 use Rattle.std.proofs.Common.{length, replicate, take, drop, Option, None, Some, IfSome, Result, Ok, Err, inl, inr}
 use Rattle.std.proofs.Common.{refl, sym, subst, ap, ◌∙◌, arith}
 use Rattle.std.proofs.Math.Seq.{take-append_seam}
@@ -17,7 +17,7 @@ use Rattle.board_opening.specs.Opening.{opening}
 use Rattle.tool_words.specs.declared.refusal.File.{File}
 use Rattle.tool_words.specs.declared.refusal.File.TheVariants.{Flash, Script as ScriptFile}
 use Rattle.tool_words.specs.declared.refusal.Refusal.{Refusal}
-use Rattle.tool_words.specs.declared.refusal.Refusal.TheVariants.{Usage, Fault, TooLong, Script, Image, Memory}
+use Rattle.tool_words.specs.declared.refusal.Refusal.TheVariants.{Fault, TooLong, Script, Image, Memory}
 use Rattle.run_text.specs.declared.mode.Mode.TheVariants.{Soak}
 use Rattle.tool_words.specs.Words.{Command, Lists, Soaks}
 use Rattle.tool_words.specs.Parts.{RunWords, EditWords, editing, running}
@@ -42,15 +42,13 @@ pub within_limit : (command : Command) (before : List (List ℕ)) (file : File) 
     → refused_at command before file text ≡ refusal_of_task (comes_to command (before ++ (text ∷ [])))
 unfolding refused_at
 within_limit command before file text h =
-    ap (λ (b : Bool). cond b (Some (TooLong file)) (refusal_of_task (comes_to command (before ++ (text ∷ [])))))
-    (not_past (limit_of file) (length text) h)
+    rw (not_past (limit_of file) (length text) h) refl
 
 past_limit : (command : Command) (before : List (List ℕ)) (file : File) (text : List ℕ) → limit_of file < length text
     → refused_at command before file text ≡ Some (TooLong file)
 unfolding refused_at
 past_limit command before file text h =
-    ap (λ (b : Bool). cond b (Some (TooLong file)) (refusal_of_task (comes_to command (before ++ (text ∷ [])))))
-    (past (limit_of file) (length text) h)
+    rw (past (limit_of file) (length text) h) refl
 
 zeros : ℕ → List ℕ
 zeros n = replicate n 0
@@ -87,28 +85,24 @@ module _ (told : ShelfAccount) (command : Command) (f : Named) where
   -- that is not read
   pub not_read : (refusal : Refusal) → Reached told command f → IsUnread told f.file f.name refusal
       → CauseOf told command refusal
-  not_read Usage at u = absurd u
   not_read (Fault other) at u = (u.1, at (IsUnsound told other) (λ texts. (sym u.0, u.2)))
   not_read (TooLong other) at u =
       at (IsRefusedFor told command (TooLong other)) (λ texts. long_here texts other u.0 u.1)
-  not_read (Script line rule) at u = absurd u
-  not_read (Image fault) at u = absurd u
   not_read Memory at u = tt
+  not_read refusal at u = absurd u
 
 -- the same, told over a later call alone
 pub unread_later : {H : Type 0} (tells : H → ShelfFacts) (old mid new : H) (file : File) (name : List ℕ)
     (refusal : Refusal) → KeepsShelf tells old mid → IsUnread (shelf_account tells mid new) file name refusal
     → IsUnread (shelf_account tells old new) file name refusal
-unread_later tells old mid new file name Usage k u = absurd u
 unread_later tells old mid new file name (Fault other) k u =
     let count = k.count in
     let rose = u.1 in
     (u.0, omega arith, λ sound. u.2 (k.sound name sound))
 unread_later tells old mid new file name (TooLong other) k u =
     (u.0, subst (λ (bytes : List ℕ → Option (List ℕ)). IfSome (bytes name) (λ b. limit_of file < length b)) k.bytes u.1)
-unread_later tells old mid new file name (Script line rule) k u = absurd u
-unread_later tells old mid new file name (Image fault) k u = absurd u
 unread_later tells old mid new file name Memory k u = tt
+unread_later tells old mid new file name refusal k u = absurd u
 
 pub text_later : {H : Type 0} (tells : H → ShelfFacts) (old mid : H) (name text : List ℕ) → KeepsShelf tells old mid
     → IsText (tells mid).bytes name text → IsText (tells old).bytes name text
@@ -165,9 +159,6 @@ module _ (words : RunWords) (flash : List ℕ) (short : length flash ≤ FLASH_L
     pub run_refused : (told : ShelfAccount) (refusal : Refusal) → IsText told.before.bytes words.flash flash
         → IsText told.before.bytes words.script script → HasNoReading script refusal → CauseOf told (running
         words) refusal
-    run_refused told Usage f s n = absurd n
-    run_refused told (Fault file) f s n = absurd n
-    run_refused told (TooLong file) f s n = absurd n
     run_refused told (Script line rule) f s n =
         inr (record {
           text = flash;
@@ -180,8 +171,8 @@ module _ (words : RunWords) (flash : List ℕ) (short : length flash ≤ FLASH_L
                 (Some (run_under words.mode words.turns flash r))) n;
           });
         })
-    run_refused told (Image fault) f s n = absurd n
     run_refused told Memory f s n = tt
+    run_refused told refusal f s n = absurd n
 
 pub run_unread_flash : (told : ShelfAccount) (words : RunWords) (refusal : Refusal)
     → IsUnread told Flash words.flash refusal → CauseOf told (running words) refusal
@@ -202,12 +193,9 @@ ok_is_no_error (Err bad) fault o e = cc
 -- the one reason for which a script that has a reading is not read
 pub only_memory : (script : List ℕ) (refusal : Refusal) → is_ok (reading script) ≡ true → HasNoReading script refusal
     → refusal ≡ Memory
-only_memory script Usage o h = absurd h
-only_memory script (Fault file) o h = absurd h
-only_memory script (TooLong file) o h = absurd h
 only_memory script (Script line rule) o h = absurd (ok_is_no_error (reading script) _ o h)
-only_memory script (Image fault) o h = absurd h
 only_memory script Memory o h = refl
+only_memory script refusal o h = absurd h
 
 -- the edits
 module _ (words : EditWords) (flash : List ℕ) (short : length flash ≤ FLASH_LIMIT) where
@@ -243,4 +231,4 @@ edit_unread told words refusal u =
 -- the whole of a vector is put back
 pub whole_back : (n : ℕ) (new old : List ℕ) → n ≡ length new → take n (new ++ drop (length new) old) ≡ new
 whole_back n new old e =
-    ap (λ (k : ℕ). take k (new ++ drop (length new) old)) e ∙ take-append_seam new (drop (length new) old)
+    rw e (take-append_seam new (drop (length new) old))

@@ -17,7 +17,7 @@ use Rattle.tool_words.specs.declared.refusal.File.TheVariants.{Flash}
 use Rattle.tool_words.specs.declared.refusal.ImageFault.{ImageFault}
 use Rattle.tool_words.specs.declared.refusal.ImageFault.TheVariants.{TooMany, Size}
 use Rattle.tool_words.specs.declared.refusal.Refusal.{Refusal}
-use Rattle.tool_words.specs.declared.refusal.Refusal.TheVariants.{Image, Memory}
+use Rattle.tool_words.specs.declared.refusal.Refusal.TheVariants.{Image}
 use Rattle.tool_words.specs.Words.{Packs}
 use Rattle.tool_words.specs.Parts.{argument_bytes}
 use Rattle.tool_words.specs.Refusals.{pack_refused}
@@ -49,7 +49,7 @@ begins tells old names flash e = record {
   read = λ rest. ap (λ (x : List ℕ). pack_from 0 x rest) (sym e);
   keeps = record { bytes = refl; sound = λ name s. s; count = omega arith };
   few = omega arith;
-  short = subst (λ (x : List ℕ). length x ≤ FLASH_LIMIT) (sym e) (omega arith);
+  short = rw e (omega arith);
 }
 
 keeps_join : {H : Type 0} (tells : H → ShelfFacts) (old mid new : H) → KeepsShelf tells old mid
@@ -78,18 +78,17 @@ module _ (names : List (List ℕ)) (n : ℕ) (image text : List ℕ) (texts : Li
       ≡ refusal_of_task (Some (pack_made (pack_next (pack_refusal n image text) (Ok (image ++ packed text)))))
   unfolding comes_to
   refused_here h =
-      within_limit (Packs names) texts Flash text h
-      ∙ ap (λ (r : Result (List ℕ) PackFault). refusal_of_task (Some (pack_made r)))
-      (so_far (text ∷ []) ∙ packed_next n image text []
-      ∙ ap (pack_next (pack_refusal n image text)) (packed_none (n + length (objects text)) (image ++ packed text)))
+      rw (
+        within_limit (Packs names) texts Flash text h,
+        so_far (text ∷ []),
+        packed_next n image text [],
+        packed_none (n + length (objects text)) (image ++ packed text),
+      ) refl
 
   packed_on : (m : ℕ) (new : List ℕ) → IsPacked n image text m new → ArePacked m new (texts ++ (text ∷ []))
   packed_on m new p rest =
-      ap pack (append_assoc texts (text ∷ []) rest) ∙ so_far (text ∷ rest) ∙ packed_next n image text rest
-      ∙ ap (λ (o : Option PackFault). pack_next o (pack_from (n + length (objects text)) (image ++ packed text) rest))
-      p.free
-      ∙ ap (λ (k : ℕ). pack_from k (image ++ packed text) rest) (sym p.count)
-      ∙ ap (λ (x : List ℕ). pack_from m x rest) (sym p.image)
+      ap pack (append_assoc texts (text ∷ []) rest) ∙ so_far (text ∷ rest)
+      ∙ rw (packed_next n image text rest, p.free, p.count, p.image) refl
 
 module _ {H : Type 0} (tells : H → ShelfFacts) (old now after : H) (names done : List (List ℕ)) (n : ℕ)
     (image name : List ℕ) (p : PacksOn tells old now names done n image) where
@@ -99,8 +98,7 @@ module _ {H : Type 0} (tells : H → ShelfFacts) (old now after : H) (names done
     text = f.text;
     read = text_later tells old now name f.text p.keeps f.read;
     free = refused_here names n image f.text texts so_far f.within
-        ∙ ap (λ (o : Option PackFault). refusal_of_task (Some (pack_made (pack_next o (Ok (image ++ packed f.text))))))
-        f.packed.free;
+        ∙ rw f.packed.free refl;
     holds = packed_on names n image f.text texts so_far m new f.packed;
   }
 
@@ -138,25 +136,17 @@ module _ {H : Type 0} (tells : H → ShelfFacts) (old now after : H) (names done
           text = text;
           read = text_later tells old now name text p.keeps r;
           refused = refused_here names n image text texts so_far within
-              ∙ ap (λ (o : Option PackFault). refusal_of_task
-              (Some (pack_made (pack_next o (Ok (image ++ packed text)))))) e
-              ∙ ap (λ (x : Refusal). Some x) said;
+              ∙ rw (e, said) refl;
         })
-
-    no_memory : (refusal : Refusal) → refusal ≡ Memory → CauseOf (shelf_account tells old after) (Packs names) refusal
-    no_memory refusal e = subst (λ (x : Refusal). CauseOf (shelf_account tells old after) (Packs names) x) (sym e) tt
 
     not_packed : (refusal : Refusal) (p : IsUnpacked (tells now).bytes name n image refusal) (o : Option PackFault)
         → pack_refusal n image p.text ≡ o → refusal ≡ pack_refused (unwrap_or o packs.Memory)
         → CauseOf (shelf_account tells old after) (Packs names) refusal
-    not_packed refusal u None e r = no_memory refusal r
+    not_packed refusal u None e r = rw r tt
     not_packed refusal u (Some packs.Objects) e r =
-        subst (λ (x : Refusal). CauseOf (shelf_account tells old after) (Packs names) x) (sym r)
-        (cause u.text TooMany packs.Objects u.read u.within e refl)
-    not_packed refusal u (Some packs.Size) e r =
-        subst (λ (x : Refusal). CauseOf (shelf_account tells old after) (Packs names) x) (sym r)
-        (cause u.text Size packs.Size u.read u.within e refl)
-    not_packed refusal u (Some packs.Memory) e r = no_memory refusal r
+        rw r (cause u.text TooMany packs.Objects u.read u.within e refl)
+    not_packed refusal u (Some packs.Size) e r = rw r (cause u.text Size packs.Size u.read u.within e refl)
+    not_packed refusal u (Some packs.Memory) e r = rw r tt
 
     -- the file is not read, or not packed
     pub refused : (refusal : Refusal) → IsNotPacked (shelf_account tells now after) name n image refusal

@@ -21,6 +21,8 @@ use Rattle.turn_scheduler.specs.Parts.{place_is_ready}
 use Rattle.turn_scheduler.specs.Parts.{goes_on}
 use Rattle.turn_scheduler.specs.RoundRobin.{used_after}
 use Rattle.turn_scheduler.specs.Turns.{GivesTurn, AreTurns, IsWindow, ReadyHasTurn}
+use Rattle.std.proofs.lemmas.Bool.{cond_both, cases_eq, cases_Bool, and_parts, ltb-true}
+use Rattle.std.proofs.lemmas.Option.{same_Some, none-some}
 
 -- the first number of a range that passes a test
 record IsFirst (p : ℕ → Bool) (from to first : ℕ) : Type 0 where
@@ -29,62 +31,51 @@ record IsFirst (p : ℕ → Bool) (from to first : ℕ) : Type 0 where
   passes : p first ≡ true
   others : (k : ℕ) → from ≤ k → k < first → p k ≡ false
 
-first_here : (p : ℕ → Bool) (from n first : ℕ) (b : Bool) → p from ≡ b
-    → (find p (range_with_len (from + 1) n) ≡ Some first → IsFirst p (from + 1) (from + 1 + n) first)
-    → cond b (Some from) (find p (range_with_len (from + 1) n)) ≡ Some first → IsFirst p from (from + suc n) first
-first_here p from n first true e later h =
-    let is : from ≡ first = cc in
-    record {
-      above = omega arith;
-      below = omega arith;
-      passes = subst (λ k. p k ≡ true) is e;
-      others =
-          λ k le lt. absurd (omega arith);
-    }
-first_here p from n first false e later h =
-    let l : IsFirst p (from + 1) (from + 1 + n) first = later h in
-    record {
-      above = omega arith;
-      below = omega arith;
-      passes = l.passes;
-      others =
-          λ k le lt. others l k le lt (cases_order from k);
-    } where
-      others : IsFirst p (from + 1) (from + 1 + n) first → (k : ℕ) → from ≤ k → k < first
-          → (from ≡ k) ⊎ ((from < k) ⊎ (k < from)) → p k ≡ false
-      others l k le lt (inl same) = subst (λ k. p k ≡ false) same e
-      others l k le lt (inr (inl more)) = l.others k (omega arith) lt
-      others l k le lt (inr (inr less)) = absurd (omega arith)
-
 find_range-some : (p : ℕ → Bool) (from n first : ℕ) → find p (range_with_len from n) ≡ Some first
     → IsFirst p from (from + n) first
 find_range-some p from zero first h = absurd (cc)
 find_range-some p from (suc n) first h =
-    first_here p from n first (p from) refl (find_range-some p (from + 1) n first) h
-
-none_here : (p : ℕ → Bool) (from n : ℕ) (b : Bool) → p from ≡ b
-    → (find p (range_with_len (from + 1) n) ≡ None → (k : ℕ) → from + 1 ≤ k → k < from + 1 + n → p k ≡ false)
-    → cond b (Some from) (find p (range_with_len (from + 1) n)) ≡ None → (k : ℕ) → from ≤ k → k < from + suc n
-    → p k ≡ false
-none_here p from n true e later h k le lt = absurd (cc)
-none_here p from n false e later h k le lt = here (cases_order from k) where
-  here : (from ≡ k) ⊎ ((from < k) ⊎ (k < from)) → p k ≡ false
-  here (inl same) = subst (λ k. p k ≡ false) same e
-  here (inr (inl more)) = later h k (omega arith) (omega arith)
-  here (inr (inr less)) = absurd (omega arith)
+    elim (cases_Bool (p from)) [
+      | inl e ↦
+          let is : from ≡ first = same_Some from first (rw e at h) in
+          record {
+            above = omega (arith, is);
+            below = omega (arith, is);
+            passes = rw (← is) e;
+            others = λ k le lt. absurd (omega (arith, is, le, lt));
+          }
+      | inr e ↦
+          let l = find_range-some p (from + 1) n first (rw e at h) in
+          let above = l.above in
+          let below = l.below in
+          record {
+            above = omega (arith, above);
+            below = omega (arith, below);
+            passes = l.passes;
+            others = λ k le lt. elim (cases_eq from k) [
+              | inl same ↦ rw (← same) e
+              | inr apart ↦ l.others k (omega (arith, le, apart)) lt
+            ];
+          }
+    ]
 
 pub find_range-none : (p : ℕ → Bool) (from n : ℕ) → find p (range_with_len from n) ≡ None → (k : ℕ) → from ≤ k
     → k < from + n → p k ≡ false
 find_range-none p from zero h k le lt = absurd (omega arith)
-find_range-none p from (suc n) h k le lt = none_here p from n (p from) refl (find_range-none p (from + 1) n) h k le lt
+find_range-none p from (suc n) h k le lt =
+    elim (cases_Bool (p from)) [
+      | inl e ↦ absurd (none-some from (sym (rw e at h)))
+      | inr e ↦ elim (cases_eq from k) [
+        | inl same ↦ rw (← same) e
+        | inr apart ↦ find_range-none p (from + 1) n (rw e at h) k (omega (arith, le, apart)) (omega (arith, lt))
+      ]
+    ]
 
 -- a slot that passes is not below the first
 first_at_most : (p : ℕ → Bool) (from to first slot : ℕ) → IsFirst p from to first → p slot ≡ true → from ≤ slot
     → first ≤ slot
-first_at_most p from to first slot f e le = by (cases_lt slot first) where
-  by : (slot < first) ⊎ (first ≤ slot) → first ≤ slot
-  by (inl less) = absurd (true≢false (sym e ∙ f.others slot le less))
-  by (inr more) = more
+first_at_most p from to first slot f e le =
+    elim (cases_lt slot first) [ inl less ↦ absurd (true≢false (sym e ∙ f.others slot le less)) | inr more ↦ more ]
 
 -- how many slots come before a slot in cyclic order
 abbrev before : Option ℕ → ℕ → ℕ
@@ -147,17 +138,8 @@ abbrev waits : List Bool → Option ℕ → ℕ → ℕ → ℕ → ℕ
 waits ready present used slice slot = left ready present used slice + before present slot * slice
 
 left-most : (ready : List Bool) (present : Option ℕ) (used slice : ℕ) → left ready present used slice ≤ slice - used
-left-most ready present used slice = by (goes_on ready present used slice) where
-  by : (b : Bool) → cond b (slice - used) 0 ≤ slice - used
-  by true = omega arith
-  by false = omega arith
-
-same_or_other : (a b : ℕ) → (a ≡ b) ⊎ (a ≢ b)
-same_or_other a b = by (cases_order a b) where
-  by : (a ≡ b) ⊎ ((a < b) ⊎ (b < a)) → (a ≡ b) ⊎ (a ≢ b)
-  by (inl same) = inl same
-  by (inr (inl less)) = inr (λ e. absurd (omega arith))
-  by (inr (inr more)) = inr (λ e. absurd (omega arith))
+left-most ready present used slice =
+    cond_both (goes_on ready present used slice) _ 0 (λ n. n ≤ slice - used) (λ e. omega arith) (λ e. omega arith)
 
 -- what comes before fewer slots, comes a slice earlier
 slices : (less more slice : ℕ) → less + 1 ≤ more → less * slice + slice ≤ more * slice
@@ -195,10 +177,8 @@ used_after-some (Some present) used slice q = by ((present == q) && nat_lt used 
 in_slice : (ready : List Bool) (present : Option ℕ) (used slice : ℕ) → goes_on ready present used slice ≡ true
     → used < slice
 in_slice ready None used slice e = absurd (cc)
-in_slice ready (Some present) used slice e = by (place_is_ready ready present) e where
-  by : (b : Bool) → (b && nat_lt used slice) ≡ true → used < slice
-  by true e = grind (arith, nat_tests)
-  by false e = absurd (cc)
+in_slice ready (Some present) used slice e =
+    ltb-true used slice (and_parts (place_is_ready ready present) (nat_lt used slice) e).1
 
 -- after the turn of another slot, there is at least one turn less to wait for
 fewer : (ready ready' : List Bool) (present : Option ℕ) (used slice slot q : ℕ)
@@ -206,23 +186,23 @@ fewer : (ready ready' : List Bool) (present : Option ℕ) (used slice slot q : �
     → 1 ≤ slice → waits ready' (Some q) (used_after present used slice q) slice slot + 1
     ≤ waits ready present used slice slot
 unfolding next_slot
-fewer ready ready' present used slice slot q h e lt ne one = by (goes_on ready present used slice) refl h where
-  by : (b : Bool) → goes_on ready present used slice ≡ b
-      → cond b present (find (place_is_ready ready) (slots_after present)) ≡ Some q
-      → waits ready' (Some q) (used_after present used slice q) slice slot + 1
-      ≤ cond b (slice - used) 0 + before present slot * slice
-  by true on h = fewer-on ready' present used slice slot q h (in_slice ready present used slice on)
-  by false off h =
-      fewer-off ready' present used slice slot q (nearer (place_is_ready ready) present slot q h e lt ne) one
-      (used_after-some present used slice q)
+fewer ready ready' present used slice slot q h e lt ne one =
+    elim (cases_Bool (goes_on ready present used slice)) [
+      | inl on ↦ rw on (fewer-on ready' present used slice slot q (rw on at h) (in_slice ready present used slice on))
+      | inr off ↦
+          rw off (fewer-off ready' present used slice slot q
+          (nearer (place_is_ready ready) present slot q (rw off at h) e lt ne) one
+          (used_after-some present used slice q))
+    ]
 
 -- a ready slot is a slot
 is_slot : (ready : List Bool) (slot : ℕ) → length ready ≤ SLOT_COUNT → place_is_ready ready slot ≡ true
     → slot < SLOT_COUNT
-is_slot ready slot few e = by (cases_lt slot (length ready)) where
-  by : (slot < length ready) ⊎ (length ready ≤ slot) → slot < SLOT_COUNT
-  by (inl less) = omega arith
-  by (inr more) = absurd (true≢false (sym e ∙ get_or-eq_default ready false more))
+is_slot ready slot few e =
+    elim (cases_lt slot (length ready)) [
+      | inl less ↦ omega (arith, less, few)
+      | inr more ↦ absurd (true≢false (sym e ∙ get_or-eq_default ready false more))
+    ]
 
 before-most : (present : Option ℕ) (slot : ℕ) → slot < SLOT_COUNT → before present slot ≤ SLOT_COUNT - 1
 before-most None slot lt = omega arith
@@ -242,29 +222,25 @@ first-on : (ready : List Bool) (present : Option ℕ) (used slice slot q : ℕ) 
 first-on ready None used slice slot q on e few lt ne one = absurd (cc)
 first-on ready (Some present) used slice slot q on e few lt ne one =
     let is : present ≡ q = cc in
-    let ready_too : place_is_ready ready present ≡ true = by (place_is_ready ready present) on in
+    let ready_too = (and_parts (place_is_ready ready present) (nat_lt used slice) on).0 in
     let most = before-other present slot lt (is_slot ready present few ready_too) (λ same. ne (sym is ∙ same)) in
     let bound = mul-le-mul_right {m = before (Some present) slot} {n = SLOT_COUNT - 2} slice most in
     omega (arith, bound)
-  where
-    by : (b : Bool) → (b && nat_lt used slice) ≡ true → b ≡ true
-    by true e = refl
-    by false e = absurd (cc)
 
 -- before the first turn of another slot fewer turns than a slice for each slot are left to wait for
 first : (ready : List Bool) (present : Option ℕ) (used slice slot q : ℕ) → next_slot ready present used slice ≡ Some q
     → place_is_ready ready slot ≡ true → length ready ≤ SLOT_COUNT → q ≢ slot → 1 ≤ slice
     → waits ready present used slice slot + 1 ≤ SLOT_COUNT * slice
 unfolding next_slot
-first ready present used slice slot q h e few ne one = by (goes_on ready present used slice) refl h where
-  by : (b : Bool) → goes_on ready present used slice ≡ b
-      → cond b present (find (place_is_ready ready) (slots_after present)) ≡ Some q
-      → cond b (slice - used) 0 + before present slot * slice + 1 ≤ SLOT_COUNT * slice
-  by true on h = first-on ready present used slice slot q on h few (is_slot ready slot few e) ne one
-  by false off h =
-      let bound = mul-le-mul_right {m = before present slot} {n = SLOT_COUNT - 1} slice
-      (before-most present slot (is_slot ready slot few e)) in
-      omega (arith, bound)
+first ready present used slice slot q h e few ne one =
+    let slots = is_slot ready slot few e in
+    elim (cases_Bool (goes_on ready present used slice)) [
+      | inl on ↦ rw on (first-on ready present used slice slot q on (rw on at h) few slots ne one)
+      | inr off ↦
+          let bound = mul-le-mul_right {m = before present slot} {n = SLOT_COUNT - 1} slice
+          (before-most present slot slots) in
+          rw off (omega (arith, bound))
+    ]
 
 -- whose turn it is
 turn_is : (device : Option Dev) (slot pass : Option ℕ) (time q : ℕ)
@@ -322,27 +298,26 @@ WaitsAtMost slot most (s ∷ rest) = (q : ℕ) → GivesTurn s q → q ≢ slot 
 turn_within : (slot each most : ℕ) (turns : List Situation) → 1 ≤ each → AreTurns turns → AreReady turns slot each
     → WaitsAtMost slot most turns → most < length turns → Any (λ s. GivesTurn s slot) turns
 turn_within slot each most [] one turns a wait lt = absurd (omega arith)
-turn_within slot each most (s ∷ []) one turns a wait lt = by (same_or_other turns.0 slot) where
-  by : (turns.0 ≡ slot) ⊎ (turns.0 ≢ slot) → Any (λ s. GivesTurn s slot) (s ∷ [])
-  by (inl same) = here s [] slot turns.0 turns.1 same
-  by (inr other) =
-      let t : Situation = record s { present = Some turns.0; used = used_after s.present s.used s.slice turns.0 } in
-      let less = fewer_next s t slot turns.0 turns.1 refl refl refl (a.ready 0 s (omega arith))
-      (a.slots 0 s (omega arith)) other (omega (arith, a.slice 0 s (omega arith))) in
-      absurd (omega (arith, less, wait turns.0 turns.1 other))
+turn_within slot each most (s ∷ []) one turns a wait lt =
+    elim (cases_eq turns.0 slot) [
+      | inl same ↦ here s [] slot turns.0 turns.1 same
+      | inr other ↦
+          let t : Situation = record s { present = Some turns.0; used = used_after s.present s.used s.slice turns.0 } in
+          let less = fewer_next s t slot turns.0 turns.1 refl refl refl (a.ready 0 s (omega arith))
+          (a.slots 0 s (omega arith)) other (omega (arith, a.slice 0 s (omega arith))) in
+          absurd (omega (arith, less, wait turns.0 turns.1 other))
+    ]
 turn_within slot each most (s ∷ t ∷ rest) one turns a wait lt =
-    on (turn_within slot each (most - 1) (t ∷ rest) one turns.1 (AreReady-tail s (t ∷ rest) slot each a))
-    (same_or_other turns.0.0 slot)
-  where
-    on : (WaitsAtMost slot (most - 1) (t ∷ rest) → most - 1 < length (t ∷ rest)
-        → Any (λ s. GivesTurn s slot) (t ∷ rest)) → (turns.0.0 ≡ slot) ⊎ (turns.0.0 ≢ slot)
-        → Any (λ s. GivesTurn s slot) (s ∷ t ∷ rest)
-    on next (inl same) = here s (t ∷ rest) slot turns.0.0 turns.0.1 same
-    on next (inr other) =
-        let less = fewer_next s t slot turns.0.0 turns.0.1 turns.0.2 turns.0.3 turns.0.4 (a.ready 0 s (omega arith))
-        (a.slots 0 s (omega arith)) other (omega (arith, a.slice 0 s (omega arith))) in
-        let most_now = wait turns.0.0 turns.0.1 other in
-        later s (t ∷ rest) slot (next (λ q g ne. omega (arith, less, most_now)) (omega (arith, less, most_now)))
+    elim (cases_eq turns.0.0 slot) [
+      | inl same ↦ here s (t ∷ rest) slot turns.0.0 turns.0.1 same
+      | inr other ↦
+          let less = fewer_next s t slot turns.0.0 turns.0.1 turns.0.2 turns.0.3 turns.0.4 (a.ready 0 s (omega arith))
+          (a.slots 0 s (omega arith)) other (omega (arith, a.slice 0 s (omega arith))) in
+          let most_now = wait turns.0.0 turns.0.1 other in
+          later s (t ∷ rest) slot (turn_within slot each (most - 1) (t ∷ rest) one turns.1
+          (AreReady-tail s (t ∷ rest) slot each a) (λ q g ne. omega (arith, less, most_now))
+          (omega (arith, less, most_now, lt)))
+    ]
 
 first_waits : (turns : List Situation) (slot each : ℕ) → IsWindow turns slot each
     → WaitsAtMost slot (SLOT_COUNT * each - 1) turns

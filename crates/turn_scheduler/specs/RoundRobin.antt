@@ -10,21 +10,8 @@ use Rattle.tk_base.specs.declared.limits.TheConstants.{SLOT_COUNT}
 use Rattle.tk_base.specs.declared.process.Choice.{Choice}
 use Rattle.tk_base.specs.declared.process.Choice.TheVariants.{Run, Device, Pass}
 use Rattle.tk_base.specs.declared.process.Dev.{Dev}
-use Rattle.tk_base.specs.declared.process.Dev.TheVariants.{Event, Alarm, Uart, Receive, Random, Store}
+pub use Rattle.partition_turns.specs.Windows.{device_order, device_place}
 use Rattle.turn_scheduler.specs.Situation.{Situation}
-
--- the device steps in the order in which they are asked
-abbrev pub device_order : List Dev
-device_order = Event ∷ Alarm ∷ Uart ∷ Receive ∷ Random ∷ Store ∷ []
-
--- the place of a device in the order in which they are served
-abbrev pub device_place : Dev → ℕ
-device_place Event = 0
-device_place Alarm = 1
-device_place Uart = 2
-device_place Receive = 3
-device_place Random = 4
-device_place Store = 5
 
 -- the first device step that is ready; what a table lacks is not ready
 unfoldable pub ready_device : List Bool → Option Dev

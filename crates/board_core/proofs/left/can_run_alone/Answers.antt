@@ -10,4 +10,4 @@ returns c =
     let b = c.args.state.now in
     c.can_run.ensures
     ∙ ap (λ (ps : List Process). can_turn_in (slice_get (zip ps b.machine.home.owns) c.args.slot)) c.deref.ensures.value
-    ∙ sym (run_shown b c.args.slot c.requires)
+    ∙ sym (run_shown c.requires c.args.slot)

@@ -7,4 +7,4 @@ pub returns : goal.returns
 returns c =
     c.is_some.ensures
     ∙ ap is_some (c.next_time.ensures.at
-    ∙ ap (λ (x : Work). x.next) (work_shown c.args.state.now c.requires (record { only = Some c.args.slot })))
+    ∙ ap (λ (x : Work). x.next) (work_shown c.requires (record { only = Some c.args.slot })))

@@ -7,4 +7,4 @@ pub returns : goal.returns
 returns c =
     c.is_ready.ensures
     ∙ ap (λ (x : Work). x.ready c.args.device)
-    (work_shown c.args.state.now c.requires (record { only = Some c.args.slot }))
+    (work_shown c.requires (record { only = Some c.args.slot }))

@@ -15,7 +15,7 @@ returns-in_default-clause-at c =
     let b = c.args.state.now in
     c.next_time-next.ensures.at ∙ ap (λ (work : Work). work.next)
     (served_now b.machine.moment c.served.result b.machine.home.owns b.machine.drivers c.served.ensures.only)
-    ∙ next_shown b c.requires
+    ∙ next_shown c.requires
     ∙ sym (no_window (world_of b) b.machine.moment.window (sym c.window_end.ensures.at ∙ c.in_default.is))
 
 -- with one, and where anything is left to do, no further than to its end
@@ -28,6 +28,6 @@ returns-clause-at c =
     ∙ ap (λ (at : Option ℕ). nearer at (Some c.in-Some.end)) (c.next_time-next.ensures.at
     ∙ ap (λ (work : Work). work.next)
     (served_now b.machine.moment c.served.result b.machine.home.owns b.machine.drivers c.served.ensures.only)
-    ∙ next_shown b c.requires)
+    ∙ next_shown c.requires)
     ∙ sym (in_window w b.machine.moment.window c.in-Some.end (sym c.window_end.ensures.at ∙ c.in-Some.is)
     ∙ ap (λ (x : Bool). if x then nearer (work_of w).next (Some c.in-Some.end) else None) left)

@@ -20,7 +20,7 @@ slot_lines-requires-clause-objects c =
 
 pub returns : goal.returns
 returns c =
-    summary_shown c.args.state.now c.slot_lines.result c.copied.result c.bits.result c.requires
+    summary_shown c.requires c.slot_lines.result c.copied.result c.bits.result
     (c.slot_lines.ensures
     ∙ ap (λ (processes : List Process). map (resident_line c.args.state.now.machine.home.flash)
     (zip processes c.args.state.now.machine.home.owns)) c.deref.ensures.value)

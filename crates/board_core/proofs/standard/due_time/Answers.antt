@@ -9,10 +9,10 @@ returns-in-Some c =
     let ticks : c.from.result ≡ c.in-Some.ticks = search rules in
     ap (λ n. Some (b.machine.moment.time + n)) ticks
     ∙ ap (option_map (λ n. b.machine.moment.time + n)) (sym c.in-Some.is)
-    ∙ due_by b c.requires c.args.slot c.tick-tick.result c.next_due.result c.tick-tick.ensures c.next_due.ensures
+    ∙ due_by c.requires c.args.slot c.tick-tick.result c.next_due.result c.tick-tick.ensures c.next_due.ensures
 
 pub returns-in-None : goal.returns-in-None
 returns-in-None c =
     let b = c.args.state.now in
     ap (option_map (λ n. b.machine.moment.time + n)) (sym c.in-None.is)
-    ∙ due_by b c.requires c.args.slot c.tick-tick.result c.next_due.result c.tick-tick.ensures c.next_due.ensures
+    ∙ due_by c.requires c.args.slot c.tick-tick.result c.next_due.result c.tick-tick.ensures c.next_due.ensures

@@ -10,7 +10,7 @@ pub loop-slot-preserved : goal.loop-slot-preserved
 loop-slot-preserved c =
     let records = (world_of c.args.state.now).records in
     let long : length (map may_turn records) ≡ length c.args.state.now.processes.items =
-    turns_long c.args.state.now c.requires in
+    turns_long c.requires in
     flag_more (map may_turn records) c.loop-slot.slot c.can_run_alone.result c.loop-slot.ready.items
     c.push.new.self.items (omega (arith, long, c.len-slot-end.ensures, c.loop-slot-test.true))
     (c.can_run_alone.ensures ∙ ap (λ slot. can_run (slice_get records slot)) c.new.ensures
@@ -21,6 +21,6 @@ pub returns : goal.returns
 returns c =
     let records = (world_of c.args.state.now).records in
     let long : length (map may_turn records) ≡ length c.args.state.now.processes.items =
-    turns_long c.args.state.now c.requires in
+    turns_long c.requires in
     all_flags (map may_turn records) c.loop-slot.slot c.loop-slot.ready.items
     (omega (arith, long, c.len-slot-end.ensures, c.loop-slot-test.false)) c.loop-slot.invariant

@@ -8,7 +8,7 @@ use Rattle.process_model.specs.Own.{opened}
 use Rattle.process_record.specs.Process.{started}
 use Rattle.board_opening.specs.Boot.{footprint_of}
 use Rattle.kernel_calls.specs.Residents.{IsResident}
-use Rattle.board_opening.proofs.Crews.{application_known, starts, process_first, process_shown, process_seated}
+use Rattle.board_opening.proofs.Crews.{application_known, starts, process_shown, process_seated}
 use Rattle.board_opening.proofs.boot.first_process.Goals as goal
 use Rattle.board_opening.proofs.boot.first_process.Goals.{After-start}
 
@@ -23,8 +23,7 @@ is_start : (c : After-start) → let e = c.args.place.now.1 in
     c.start.result ≡ started (536870912 + c.args.offset) a.h a.m e.start (e.end - e.start) e.brk
 is_start c =
     let a = application_known c.args.flash.now c.args.offset c.args.place.now c.requires.layout in
-    starts c.args.flash.now c.args.offset c.args.place.now.1 a (shown c.in-Ok.header) c.start.result
-    (sym (c.in-Ok.ensures.read
+    starts a (shown c.in-Ok.header) c.start.result (sym (c.in-Ok.ensures.read
     ∙ ap header_reading (c.object_at.ensures
     ∙ ap (object_at c.args.flash.now c.args.offset) c.word_at-size.ensures)))
     (subst (λ (e : LayoutView). IfSome c.in-Ok.header.main
@@ -35,8 +34,7 @@ is_start c =
 pub returns-clause-shown : goal.returns-clause-shown
 returns-clause-shown c =
     let a = application_known c.args.flash.now c.args.offset c.args.place.now c.requires.layout in
-    process_shown c.args.flash.now c.args.offset c.args.place.now.1 a c.start.result
-    (is_start (goal.at.returns-clause-shown c).After-start)
+    process_shown a (is_start (goal.at.returns-clause-shown c).After-start)
 
 -- it is as it is to be before the first step
 seated : (c : After-start)
@@ -44,7 +42,7 @@ seated : (c : After-start)
 seated c =
     let a = application_known c.args.flash.now c.args.offset c.args.place.now c.requires.layout in
     let f = c.requires.flash in
-    process_seated c.args.flash.now c.args.offset c.args.place.now.1 a c.start.result (is_start c) f.0 f.1 f.2
+    process_seated a (is_start c) f.0 f.1 f.2
     (subst (λ (e : LayoutView). e.brk ≤ e.end) c.layout.view_is
     (omega (arith, c.layout.invariant.grants, c.layout.invariant.end)))
 
@@ -54,5 +52,8 @@ returns-clause-seated c = seated (goal.at.returns-clause-seated c).After-start
 pub returns-clause-first : goal.returns-clause-first
 returns-clause-first c =
     let a = application_known c.args.flash.now c.args.offset c.args.place.now c.requires.layout in
-    process_first c.args.flash.now c.args.offset c.args.place.now.1 c.start.result a
-    (subst IsOrdered c.layout.view_is c.layout.invariant) (seated (goal.at.returns-clause-first c).After-start)
+    record {
+      ordered = subst IsOrdered c.layout.view_is c.layout.invariant;
+      object = (seated (goal.at.returns-clause-first c).After-start).own.object.lies;
+      no_grants = a.no_grants;
+    }

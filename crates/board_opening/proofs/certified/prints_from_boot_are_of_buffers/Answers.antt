@@ -8,4 +8,4 @@ pub returns-clause-loads : goal.returns-clause-loads
 returns-clause-loads c =
     λ script flash choices choice.
     c.prints_are_of_buffers.ensures.loads _ choices choice
-    (opens_whole c.only_handing_changes_pairs.ensures script flash)
+    (opens_whole script flash c.only_handing_changes_pairs.ensures)

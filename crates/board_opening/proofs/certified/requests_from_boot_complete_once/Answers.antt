@@ -1,6 +1,6 @@
 use Rattle.std.proofs.Common.{[], ◌≡◌, refl, arith}
 use Rattle.driver_model.specs.Commands.{QueueName}
-use Rattle.driver_model.specs.Commands.{Writes, Reads, Randoms, Stores}
+use Rattle.driver_model.specs.Commands.{Writes}
 use Rattle.kernel_model.specs.Named.{slots_in}
 use Rattle.kernel_lives.specs.Lists.{times_in}
 use Rattle.kernel_model.specs.Replay.{after_all}
@@ -26,6 +26,4 @@ returns-clause-whole c script flash choices queue slot =
   where
     nobody : (queue : QueueName) → times_in slot (slots_in queue (opening script flash).devices.waiting) ≡ 0
     nobody Writes = refl
-    nobody Reads = refl
-    nobody Randoms = refl
-    nobody Stores = refl
+    nobody queue = refl

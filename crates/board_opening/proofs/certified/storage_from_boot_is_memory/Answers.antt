@@ -21,5 +21,5 @@ unfolding opening
 returns-clause-reads c =
     λ script flash choices choice slot r s there later told.
     c.storage_is_memory.ensures.runs (opening script flash) choices choice slot r s (opens_living script flash slot)
-    (opens_whole c.only_handing_changes_pairs.ensures script flash slot) (opens_asking script flash slot) there later
+    (opens_whole script flash c.only_handing_changes_pairs.ensures slot) (opens_asking script flash slot) there later
     told

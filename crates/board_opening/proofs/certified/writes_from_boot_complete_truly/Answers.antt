@@ -6,4 +6,4 @@ pub returns : goal.returns
 returns c script flash before begin choices slot write =
     c.writes_complete_truly.ensures _ begin choices slot write
     (λ at. c.owns_stay_whole.ensures.stays (opening script flash) before at
-    (opens_whole c.only_handing_changes_pairs.ensures script flash at))
+    (opens_whole script flash c.only_handing_changes_pairs.ensures at))

@@ -1,4 +1,4 @@
-use Rattle.board_opening.proofs.Openings.{opens_with_nothing_handed}
+use Rattle.board_opening.proofs.Boots.{opens_with_nothing_handed}
 use Rattle.board_opening.proofs.laws.swaps_from_boot_give_back_the_last.Goals as goal
 
 pub returns-clause-opens : goal.returns-clause-opens

@@ -11,5 +11,5 @@ returns-in_err-write_object g c =
     let found = c.args.found.now in
     let i = c.loop-object.object-index in
     let parts = texts_around (object_text flash) found i _ c.loop-object-test.true in
-    law.writes_part _ c.from_residual.ensures.0 (part_between law (object_texts flash (drop (i + 1) found))
-    (object_texts flash found) parts c.loop-object.invariant c.in_err-write_object.ensures)
+    law.writes_part _ c.from_residual.ensures.0 (part_between law (object_texts flash (drop
+    (i + 1) found)) (object_texts flash found) parts c.loop-object.invariant c.in_err-write_object.ensures)

@@ -1,13 +1,11 @@
-use Rattle.board_report.specs.Report.{denial_text}
 use Rattle.board_report.proofs.report.write_faulted.Goals as goal
 
 pub returns-in_err-put_all : goal.returns-in_err-put_all
 returns-in_err-put_all g c =
     let law = c.writes_compose.ensures in
-    law.writes_part _ c.from_residual.ensures.0 (law.part_of_more (denial_text c.args.denial.now)
-    c.in_err-put_all.ensures)
+    law.writes_part _ c.from_residual.ensures.0 (law.part_of_more _ c.in_err-put_all.ensures)
 
 pub returns : goal.returns
 returns g c =
     let law = c.writes_compose.ensures in
-    law.all_then_writes _ (denial_text c.args.denial.now) _ c.in_ok-put_all.ensures c.write_denial.ensures
+    law.all_then_writes _ _ _ c.in_ok-put_all.ensures c.write_denial.ensures

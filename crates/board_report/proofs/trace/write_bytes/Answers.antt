@@ -11,5 +11,5 @@ returns-in_err-put_hex g c =
     let i = c.loop-byte.byte-index in
     let e = c.in_err-put_hex.ensures in
     let parts = texts_around (hex_digits 2) bytes i _ c.loop-byte-test.true in
-    law.writes_part _ c.from_residual.ensures.0 (part_between law (bytes_text (drop (i + 1) bytes)) (bytes_text bytes)
-    parts c.loop-byte.invariant (rw c.from.ensures at e))
+    law.writes_part _ c.from_residual.ensures.0 (part_between law (bytes_text (drop (i + 1) bytes))
+    (bytes_text bytes) parts c.loop-byte.invariant (rw c.from.ensures at e))

@@ -1,25 +1,22 @@
-use Rattle.std.proofs.Common.{◌++◌}
-use Rattle.board_report.specs.Words.{newline}
-use Rattle.board_report.specs.Parts.{bytes_text, out_line}
+use Rattle.board_report.specs.Parts.{out_line}
 use Rattle.board_report.proofs.trace.write_out_line.Goals as goal
 
 pub returns-in_err-write_head : goal.returns-in_err-write_head
 unfolding out_line
 returns-in_err-write_head g c =
     let law = c.writes_compose.ensures in
-    law.writes_part _ c.from_residual.ensures.0 (law.part_of_more (bytes_text c.args.bytes.now ++ newline)
-    c.in_err-write_head.ensures)
+    law.writes_part _ c.from_residual.ensures.0 (law.part_of_more _ c.in_err-write_head.ensures)
 
 pub returns-in_err-write_bytes : goal.returns-in_err-write_bytes
 unfolding out_line
 returns-in_err-write_bytes g c =
     let law = c.writes_compose.ensures in
     law.writes_part _ c.from_residual-in_err-write_bytes.ensures.0
-    (law.all_then_part c.in_ok-write_head.ensures (law.part_of_more newline c.in_err-write_bytes.ensures))
+    (law.all_then_part c.in_ok-write_head.ensures (law.part_of_more _ c.in_err-write_bytes.ensures))
 
 pub returns : goal.returns
 unfolding out_line
 returns g c =
     let law = c.writes_compose.ensures in
-    let told = law.all_then_writes _ newline _ c.in_ok-write_bytes.ensures c.put_all.ensures in
-    law.all_then_writes _ (bytes_text c.args.bytes.now ++ newline) _ c.in_ok-write_head.ensures told
+    let told = law.all_then_writes _ _ _ c.in_ok-write_bytes.ensures c.put_all.ensures in
+    law.all_then_writes _ _ _ c.in_ok-write_head.ensures told

@@ -10,5 +10,5 @@ returns-in_err-write_register g c =
     let registers = c.args.registers.now in
     let i = c.loop-register.register-index in
     let parts = texts_around register_text registers i _ c.loop-register-test.true in
-    law.writes_part _ c.from_residual.ensures.0 (part_between law (registers_text (drop (i + 1) registers))
-    (registers_text registers) parts c.loop-register.invariant c.in_err-write_register.ensures)
+    law.writes_part _ c.from_residual.ensures.0 (part_between law (registers_text (drop
+    (i + 1) registers)) (registers_text registers) parts c.loop-register.invariant c.in_err-write_register.ensures)

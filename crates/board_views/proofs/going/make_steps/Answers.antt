@@ -1,4 +1,4 @@
-use Rattle.std.proofs.Common.{◌-◌, false, refl, sym, ◌∙◌, arith}
+use Rattle.std.proofs.Common.{refl, sym, ◌∙◌, arith}
 use Rattle.board_views.proofs.Stretches.{begins, made, one_more, over, stretched, stuck, unready_if_refused}
 use Rattle.board_views.proofs.going.make_steps.Goals as goal
 

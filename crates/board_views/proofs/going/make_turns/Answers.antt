@@ -1,5 +1,4 @@
 use Rattle.std.proofs.Common.{◌-◌, min, ap, ◌∙◌, arith}
-use Rattle.board_views.specs.Stops.{turns_of}
 use Rattle.board_views.proofs.Turning.{begins, had, more_steps, none_left, over}
 use Rattle.board_views.proofs.going.make_turns.Goals as goal
 

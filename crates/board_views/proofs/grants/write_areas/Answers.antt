@@ -1,6 +1,6 @@
-use Rattle.std.proofs.Common.{◌≡◌, ◌<◌, ◌≤◌, length, subst, sym, arith}
+use Rattle.std.proofs.Common.{◌≡◌, ◌<◌, length, arith}
 use Rattle.std.proofs.lemmas.Bool.Decides.{nat_tests}
-use Rattle.board_views.proofs.Granted.{all_lines, area_here, line_more, line_part, no_lines, none_left, shorter}
+use Rattle.board_views.proofs.Granted.{all_lines, first_left, line_more, line_part, no_lines, none_left, shorter}
 use Rattle.board_views.proofs.grants.write_areas.Goals as goal
 
 pub loop-rest-init : goal.loop-rest-init
@@ -8,37 +8,28 @@ loop-rest-init g c = no_lines c.writes_compose.ensures _ c.args.slot c.args.kern
 
 pub word_at-requires : goal.word_at-requires
 word_at-requires g c =
-    let so = c.loop-rest.invariant in
     let some : 0 < length c.loop-rest.rest.now = grind (arith, nat_tests) in
-    let first = area_here c.words_in_bytes.ensures c.what_is_laid_is_read_back.ensures c.loop-rest.rest.now so.left
-    so.sound so.bytes some in
-    first.enough
+    (first_left c.words_in_bytes.ensures c.what_is_laid_is_read_back.ensures c.loop-rest.invariant some).enough
 
 pub split_at-requires : goal.split_at-requires
 split_at-requires g c =
-    let so = c.loop-rest.invariant in
     let some : 0 < length c.loop-rest.rest.now = grind (arith, nat_tests) in
-    let first = area_here c.words_in_bytes.ensures c.what_is_laid_is_read_back.ensures c.loop-rest.rest.now so.left
-    so.sound so.bytes some in
-    subst (λ n. n ≤ length c.loop-rest.rest.now) (sym c.word_at.ensures) first.within
+    let first = first_left c.words_in_bytes.ensures c.what_is_laid_is_read_back.ensures c.loop-rest.invariant some in
+    rw c.word_at.ensures first.within
 
 pub returns-in_err-write_area : goal.returns-in_err-write_area
 returns-in_err-write_area g c =
     let law = c.writes_compose.ensures in
     let so = c.loop-rest.invariant in
     let some : 0 < length c.loop-rest.rest.now = grind (arith, nat_tests) in
-    let first = area_here c.words_in_bytes.ensures c.what_is_laid_is_read_back.ensures c.loop-rest.rest.now so.left
-    so.sound so.bytes some in
-    law.writes_part _ c.from_residual.ensures.0 (line_part law so first c.word_at.result c.split_at.result.0.now
-    c.split_at.result.1.now c.word_at.ensures c.split_at.ensures.front c.split_at.ensures.back
-    c.in_err-write_area.ensures)
+    let first = first_left c.words_in_bytes.ensures c.what_is_laid_is_read_back.ensures so some in
+    law.writes_part _ c.from_residual.ensures.0 (line_part law so first _ _ _ c.word_at.ensures
+    c.split_at.ensures.front c.split_at.ensures.back c.in_err-write_area.ensures)
 
 pub loop-rest-smaller : goal.loop-rest-smaller
 loop-rest-smaller g c =
-    let so = c.loop-rest.invariant in
     let some : 0 < length c.loop-rest.rest.now = grind (arith, nat_tests) in
-    let first = area_here c.words_in_bytes.ensures c.what_is_laid_is_read_back.ensures c.loop-rest.rest.now so.left
-    so.sound so.bytes some in
+    let first = first_left c.words_in_bytes.ensures c.what_is_laid_is_read_back.ensures c.loop-rest.invariant some in
     shorter first c.word_at.result c.split_at.result.1.now c.word_at.ensures c.split_at.ensures.back
 
 pub loop-rest-preserved : goal.loop-rest-preserved
@@ -46,10 +37,9 @@ loop-rest-preserved g c =
     let law = c.writes_compose.ensures in
     let so = c.loop-rest.invariant in
     let some : 0 < length c.loop-rest.rest.now = grind (arith, nat_tests) in
-    let first = area_here c.words_in_bytes.ensures c.what_is_laid_is_read_back.ensures c.loop-rest.rest.now so.left
-    so.sound so.bytes some in
-    line_more law so first c.word_at.result c.split_at.result.0.now c.split_at.result.1.now c.word_at.ensures
-    c.split_at.ensures.front c.split_at.ensures.back c.in_ok-write_area.ensures
+    let first = first_left c.words_in_bytes.ensures c.what_is_laid_is_read_back.ensures so some in
+    line_more law so first _ _ _ c.word_at.ensures c.split_at.ensures.front c.split_at.ensures.back
+    c.in_ok-write_area.ensures
 
 pub returns : goal.returns
 returns g c =

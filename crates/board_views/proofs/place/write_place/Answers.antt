@@ -1,36 +1,28 @@
-use Rattle.std.proofs.Common.{◌++◌}
 use Rattle.board_report.specs.Words.{newline}
-use Rattle.board_views.specs.Lines.{word_text}
-use Rattle.board_views.specs.Places.{place_text, registers_shown, place_word}
+use Rattle.board_views.specs.Places.{place_text}
 use Rattle.board_views.proofs.place.write_place.Goals as goal
 
 pub returns-in_err-write_head : goal.returns-in_err-write_head
 unfolding place_text
 returns-in_err-write_head g c =
     let law = c.writes_compose.ensures in
-    let p = c.args.process.now in
-    law.writes_part _ c.from_residual.ensures.0 (law.part_of_more
-    (place_word p ++ (word_text p.regs.pc ++ (registers_shown p.regs ++ newline))) c.in_err-write_head.ensures)
+    law.writes_part _ c.from_residual.ensures.0 (law.part_of_more _ c.in_err-write_head.ensures)
 
 pub returns-in_err-put_all : goal.returns-in_err-put_all
 unfolding place_text
 returns-in_err-put_all g c =
     let law = c.writes_compose.ensures in
-    let p = c.args.process.now in
-    law.writes_part _ c.from_residual-in_err-put_all.ensures.0
-    (law.all_then_part c.in_ok-write_head.ensures (law.part_of_more
-    (word_text p.regs.pc ++ (registers_shown p.regs ++ newline))
-    (rw c.place_word.ensures at c.in_err-put_all.ensures)))
+    law.writes_part _ c.from_residual-in_err-put_all.ensures.0 (law.all_then_part c.in_ok-write_head.ensures
+    (law.part_of_more _ (rw c.place_word.ensures at c.in_err-put_all.ensures)))
 
 pub returns-in_err-write_word : goal.returns-in_err-write_word
 unfolding place_text
 returns-in_err-write_word g c =
     let law = c.writes_compose.ensures in
-    let p = c.args.process.now in
     law.writes_part _ c.from_residual-in_err-write_word.ensures.0
     (law.all_then_part c.in_ok-write_head.ensures
     (law.all_then_part (rw c.place_word.ensures at c.in_ok-put_all.ensures)
-    (law.part_of_more (registers_shown p.regs ++ newline) (rw c.pc.ensures at c.in_err-write_word.ensures))))
+    (law.part_of_more _ (rw c.pc.ensures at c.in_err-write_word.ensures))))
 
 pub returns-in_err-write_registers : goal.returns-in_err-write_registers
 unfolding place_text
@@ -46,10 +38,7 @@ pub returns : goal.returns
 unfolding place_text
 returns g c =
     let law = c.writes_compose.ensures in
-    let p = c.args.process.now in
-    law.all_then_writes _ (place_word p ++ (word_text p.regs.pc ++ (registers_shown p.regs ++ newline))) _
-    c.in_ok-write_head.ensures
-    (law.all_then_writes _ (word_text p.regs.pc ++ (registers_shown p.regs ++ newline)) _
-    (rw c.place_word.ensures at c.in_ok-put_all.ensures)
-    (law.all_then_writes _ (registers_shown p.regs ++ newline) _ (rw c.pc.ensures at c.in_ok-write_word.ensures)
-    (law.all_then_writes _ newline _ c.in_ok-write_registers.ensures c.put_all-2.ensures)))
+    law.all_then_writes _ _ _ c.in_ok-write_head.ensures
+    (law.all_then_writes _ _ _ (rw c.place_word.ensures at c.in_ok-put_all.ensures)
+    (law.all_then_writes _ _ _ (rw c.pc.ensures at c.in_ok-write_word.ensures)
+    (law.all_then_writes _ _ _ c.in_ok-write_registers.ensures c.put_all-2.ensures)))

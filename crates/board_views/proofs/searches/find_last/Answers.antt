@@ -6,17 +6,10 @@ use Rattle.board_views.proofs.searches.find_last.Goals as goal
 pub loop-left-init : goal.loop-left-init
 loop-left-init c = starts c.args.most c.args.goal.now c.in_ok-kept.kept.items c.args.board.now c.in_ok-kept.ensures
 
-pub returns-in_default-clause-found : goal.returns-in_default-clause-found
-returns-in_default-clause-found c =
-    ended c.loop-left.invariant (sym c.choice_in-next_choice.ensures.next ∙ c.in_default.is)
-
-pub returns-in_default-clause-led : goal.returns-in_default-clause-led
-returns-in_default-clause-led c =
-    last_led _ _ _ _ _ (ended c.loop-left.invariant (sym c.choice_in-next_choice.ensures.next ∙ c.in_default.is))
-
-pub returns-in_default-clause-last : goal.returns-in_default-clause-last
-returns-in_default-clause-last c =
-    last_found _ _ _ _ _ (ended c.loop-left.invariant (sym c.choice_in-next_choice.ensures.next ∙ c.in_default.is))
+pub returns-in_default : goal.returns-in_default
+returns-in_default c =
+    let here = ended c.loop-left.invariant (sym c.choice_in-next_choice.ensures.next ∙ c.in_default.is) in
+    record { found = here; led = last_led _ _ _ _ _ here; last = last_found _ _ _ _ _ here }
 
 pub loop-left-preserved : goal.loop-left-preserved
 loop-left-preserved c =
@@ -27,13 +20,7 @@ loop-left-preserved c =
     (rw c.deref.ensures.value at c.change_of-changed.ensures)
     (rw c.steps-steps.ensures at c.seen_after-found.ensures) c.in_ok-kept-2.ensures
 
-pub returns-clause-found : goal.returns-clause-found
-returns-clause-found c = all_made c.loop-left.invariant (omega (arith, c.loop-left-test.false))
-
-pub returns-clause-led : goal.returns-clause-led
-returns-clause-led c =
-    last_led _ _ _ _ _ (all_made c.loop-left.invariant (omega (arith, c.loop-left-test.false)))
-
-pub returns-clause-last : goal.returns-clause-last
-returns-clause-last c =
-    last_found _ _ _ _ _ (all_made c.loop-left.invariant (omega (arith, c.loop-left-test.false)))
+pub returns : goal.returns
+returns c =
+    let here = all_made c.loop-left.invariant (omega (arith, c.loop-left-test.false)) in
+    record { found = here; led = last_led _ _ _ _ _ here; last = last_found _ _ _ _ _ here }

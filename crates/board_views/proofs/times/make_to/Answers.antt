@@ -8,47 +8,30 @@ use Rattle.board_views.proofs.times.make_to.Goals as goal
 pub loop-left-init : goal.loop-left-init
 loop-left-init g c = begins c.writes_compose.ensures c.args.reach c.args.board.now c.args.out.now
 
-pub returns-then-part-eq0-clause-text : goal.returns-then-part-eq0-clause-text
-returns-then-part-eq0-clause-text g c =
-    (no_turn c.writes_compose.ensures c.loop-left.invariant _ c.turns_within-part.ensures c.if-part-eq0.true).1
+pub returns-then-part-eq0 : goal.returns-then-part-eq0
+returns-then-part-eq0 g c =
+    let law = c.writes_compose.ensures in
+    let here = no_turn law c.loop-left.invariant _ c.turns_within-part.ensures c.if-part-eq0.true in
+    record { text = here.1; led = here.0 }
 
-pub returns-then-part-eq0-clause-led : goal.returns-then-part-eq0-clause-led
-returns-then-part-eq0-clause-led g c =
-    (no_turn c.writes_compose.ensures c.loop-left.invariant _ c.turns_within-part.ensures c.if-part-eq0.true).0
-
-pub returns-in_default-clause-text : goal.returns-in_default-clause-text
-returns-in_default-clause-text g c =
+pub returns-in_default : goal.returns-in_default
+returns-in_default g c =
     let quiet = c.run_quietly-quiet.ensures in
     let some = c.turns_within-part.ensures in
     let there = stretched c.writes_compose.ensures c.loop-left.invariant _ _
     (omega (arith, quiet.most, some, c.if-part-eq0.false)) quiet.stretch in
-    (stopped c.writes_compose.ensures there (none-over _ _ (sym quiet.next ∙ c.in_default.is))).1
+    let here = stopped c.writes_compose.ensures there (none-over _ _ (sym quiet.next ∙ c.in_default.is)) in
+    record { text = here.1; led = here.0 }
 
-pub returns-in_default-clause-led : goal.returns-in_default-clause-led
-returns-in_default-clause-led g c =
+pub returns-then-not-is_within : goal.returns-then-not-is_within
+returns-then-not-is_within g c =
     let quiet = c.run_quietly-quiet.ensures in
     let some = c.turns_within-part.ensures in
     let there = stretched c.writes_compose.ensures c.loop-left.invariant _ _
     (omega (arith, quiet.most, some, c.if-part-eq0.false)) quiet.stretch in
-    (stopped c.writes_compose.ensures there (none-over _ _ (sym quiet.next ∙ c.in_default.is))).0
-
-pub returns-then-not-is_within-clause-text : goal.returns-then-not-is_within-clause-text
-returns-then-not-is_within-clause-text g c =
-    let quiet = c.run_quietly-quiet.ensures in
-    let some = c.turns_within-part.ensures in
-    let there = stretched c.writes_compose.ensures c.loop-left.invariant _ _
-    (omega (arith, quiet.most, some, c.if-part-eq0.false)) quiet.stretch in
-    (stopped c.writes_compose.ensures there (none-late _ _ c.in-Some.choice (sym quiet.next ∙ c.in-Some.is)
-    (sym c.is_within.ensures ∙ c.if-not-is_within.true))).1
-
-pub returns-then-not-is_within-clause-led : goal.returns-then-not-is_within-clause-led
-returns-then-not-is_within-clause-led g c =
-    let quiet = c.run_quietly-quiet.ensures in
-    let some = c.turns_within-part.ensures in
-    let there = stretched c.writes_compose.ensures c.loop-left.invariant _ _
-    (omega (arith, quiet.most, some, c.if-part-eq0.false)) quiet.stretch in
-    (stopped c.writes_compose.ensures there (none-late _ _ c.in-Some.choice (sym quiet.next ∙ c.in-Some.is)
-    (sym c.is_within.ensures ∙ c.if-not-is_within.true))).0
+    let here = stopped c.writes_compose.ensures there (none-late _ _ c.in-Some.choice (sym quiet.next ∙ c.in-Some.is)
+    (sym c.is_within.ensures ∙ c.if-not-is_within.true)) in
+    record { text = here.1; led = here.0 }
 
 pub returns-in_err-tell_step-clause-text : goal.returns-in_err-tell_step-clause-text
 returns-in_err-tell_step-clause-text g c =
@@ -75,10 +58,7 @@ loop-left-preserved g c =
     (sym c.is_within.ensures ∙ c.if-not-is_within.false) _ _ _ c.in-Ok.ensures.makes.ok (omega arith)
     (rw (c.time-began.ensures, c.in-Ok.ensures.makes.shown) at c.in_ok-tell_step.ensures)
 
-pub returns-clause-text : goal.returns-clause-text
-returns-clause-text g c =
-    (none_left c.writes_compose.ensures c.loop-left.invariant (omega (arith, c.loop-left-test.false))).1
-
-pub returns-clause-led : goal.returns-clause-led
-returns-clause-led g c =
-    (none_left c.writes_compose.ensures c.loop-left.invariant (omega (arith, c.loop-left-test.false))).0
+pub returns : goal.returns
+returns g c =
+    let here = none_left c.writes_compose.ensures c.loop-left.invariant (omega (arith, c.loop-left-test.false)) in
+    record { text = here.1; led = here.0 }

@@ -12,6 +12,4 @@ visit-requires g c = (
 
 pub returns-in-Ok-clause-visits : goal.returns-in-Ok-clause-visits
 returns-in-Ok-clause-visits g c =
-    visited g.R.Request.request_kind c.args.visitor (g.V.VisitRequest.step c.args.visitor)
-    (g.V.VisitRequest.rest c.args.visitor) (g.V.VisitRequest.answers c.args.visitor) c.in-Ok.ensures.visits.1
-    c.in-Ok.ensures.visits.0 c.requires.driver (λ value value' seen own left. left)
+    visited _ c.in-Ok.ensures.visits.1 c.in-Ok.ensures.visits.0 c.requires.driver (λ value value' seen own left. left)

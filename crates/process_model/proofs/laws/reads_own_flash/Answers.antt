@@ -1,5 +1,5 @@
 use Rattle.std.proofs.Common.{◌≡◌, ℕ, zero, suc, ◌+◌, ◌-◌, ◌≤◌, ◌<◌, ◌==◌, ◌||◌, IsTrue, Bool, true, false, cond, List}
-use Rattle.std.proofs.Common.{◌∷◌, length, map, refl, ap₂, arith}
+use Rattle.std.proofs.Common.{length, map, refl, arith}
 use Rattle.std.specs.List.{range_with_len}
 use Rattle.std.proofs.lemmas.Bool.{eqb-true}
 use Rattle.std.proofs.lemmas.Bool.Decides.{nat_tests}
@@ -17,8 +17,10 @@ same_bytes : (f g : ℕ → ℕ) (at count : ℕ) → ((a : ℕ) → at ≤ a �
     → map f (range_with_len at count) ≡ map g (range_with_len at count)
 same_bytes f g at zero same = refl
 same_bytes f g at (suc n) same =
-    ap₂ (λ (x : ℕ) (xs : List ℕ). x ∷ xs) (same at (omega arith) (omega arith))
-    (same_bytes f g (at + 1) n (λ a low high. same a (omega (arith, low)) (omega (arith, high))))
+    rw (
+      same at (omega arith) (omega arith),
+      same_bytes f g (at + 1) n (λ a low high. same a (omega (arith, low)) (omega (arith, high))),
+    )
 
 -- a byte of a part of flash is the byte of flash there
 in_object : (flash : List ℕ) (object : Object) (a : ℕ) → FLASH_START ≤ object.address → object.address ≤ a

@@ -13,43 +13,25 @@ loop-made-init g c = record {
   some = omega arith;
 }
 
-pub returns-in_default-clause-text : goal.returns-in_default-clause-text
-returns-in_default-clause-text g c =
+pub returns-in_default : goal.returns-in_default
+returns-in_default g c =
     let quiet = c.run_quietly-quiet.ensures in
-    let r = stretched c.loop-made.invariant.on c.rounds_join.ensures
-    (omega (arith, quiet.most, c.min.ensures, c.loop-made-test.true, c.loop-made.invariant.some)) quiet.stretch
+    let r = stretched c.loop-made.invariant.on c.rounds_join.ensures (omega (arith, quiet.most)) quiet.stretch
     c.pass.ensures in
-    (over r.1 (sym quiet.next ∙ c.in_default.is)).text
-
-pub returns-in_default-clause-kept : goal.returns-in_default-clause-kept
-returns-in_default-clause-kept g c =
-    let quiet = c.run_quietly-quiet.ensures in
-    let r = stretched c.loop-made.invariant.on c.rounds_join.ensures
-    (omega (arith, quiet.most, c.min.ensures, c.loop-made-test.true, c.loop-made.invariant.some)) quiet.stretch
-    c.pass.ensures in
-    (over r.1 (sym quiet.next ∙ c.in_default.is)).kept_is
-
-pub returns-in_default-clause-last : goal.returns-in_default-clause-last
-returns-in_default-clause-last g c =
-    let quiet = c.run_quietly-quiet.ensures in
-    let r = stretched c.loop-made.invariant.on c.rounds_join.ensures
-    (omega (arith, quiet.most, c.min.ensures, c.loop-made-test.true, c.loop-made.invariant.some)) quiet.stretch
-    c.pass.ensures in
-    (over r.1 (sym quiet.next ∙ c.in_default.is)).last
+    let run = over r.1 (sym quiet.next ∙ c.in_default.is) in
+    record { text = run.text; kept = run.kept_is; last = run.last; some = tt }
 
 pub tell-requires : goal.tell-requires
 tell-requires g c =
     let quiet = c.run_quietly-quiet.ensures in
-    let r = stretched c.loop-made.invariant.on c.rounds_join.ensures
-    (omega (arith, quiet.most, c.min.ensures, c.loop-made-test.true, c.loop-made.invariant.some)) quiet.stretch
+    let r = stretched c.loop-made.invariant.on c.rounds_join.ensures (omega (arith, quiet.most)) quiet.stretch
     c.pass.ensures in
     room r.1 r.0 c.ranges.turns.fits
 
 pub returns-in_err-tell-clause-text : goal.returns-in_err-tell-clause-text
 returns-in_err-tell-clause-text g c =
     let quiet = c.run_quietly-quiet.ensures in
-    let r = stretched c.loop-made.invariant.on c.rounds_join.ensures
-    (omega (arith, quiet.most, c.min.ensures, c.loop-made-test.true, c.loop-made.invariant.some)) quiet.stretch
+    let r = stretched c.loop-made.invariant.on c.rounds_join.ensures (omega (arith, quiet.most)) quiet.stretch
     c.pass.ensures in
     MatchResult-from_err c.from_residual.result _ _ c.from_residual.ensures.0
     (λ _. part r.1 c.puts_compose.ensures c.devices_answer_one.ensures r.0 (sym quiet.next ∙ c.in-Some.is)
@@ -58,8 +40,7 @@ returns-in_err-tell-clause-text g c =
 pub returns-in_err-tell-clause-some : goal.returns-in_err-tell-clause-some
 returns-in_err-tell-clause-some g c =
     let quiet = c.run_quietly-quiet.ensures in
-    let r = stretched c.loop-made.invariant.on c.rounds_join.ensures
-    (omega (arith, quiet.most, c.min.ensures, c.loop-made-test.true, c.loop-made.invariant.some)) quiet.stretch
+    let r = stretched c.loop-made.invariant.on c.rounds_join.ensures (omega (arith, quiet.most)) quiet.stretch
     c.pass.ensures in
     MatchResult-from_err c.from_residual.result _ _ c.from_residual.ensures.0
     (λ _. world_on r.1 r.0 (sym quiet.next ∙ c.in-Some.is) c.in-Ok.ensures.makes.ok)
@@ -67,8 +48,7 @@ returns-in_err-tell-clause-some g c =
 pub returns-in_err-flush-clause-text : goal.returns-in_err-flush-clause-text
 returns-in_err-flush-clause-text g c =
     let quiet = c.run_quietly-quiet.ensures in
-    let r = stretched c.loop-made.invariant.on c.rounds_join.ensures
-    (omega (arith, quiet.most, c.min.ensures, c.loop-made-test.true, c.loop-made.invariant.some)) quiet.stretch
+    let r = stretched c.loop-made.invariant.on c.rounds_join.ensures (omega (arith, quiet.most)) quiet.stretch
     c.pass.ensures in
     let told = c.in_ok-tell.ensures in
     let s = one_more r.1 c.puts_compose.ensures c.devices_answer_one.ensures r.0 (sym quiet.next ∙ c.in-Some.is)
@@ -79,8 +59,7 @@ returns-in_err-flush-clause-text g c =
 pub returns-in_err-flush-clause-some : goal.returns-in_err-flush-clause-some
 returns-in_err-flush-clause-some g c =
     let quiet = c.run_quietly-quiet.ensures in
-    let r = stretched c.loop-made.invariant.on c.rounds_join.ensures
-    (omega (arith, quiet.most, c.min.ensures, c.loop-made-test.true, c.loop-made.invariant.some)) quiet.stretch
+    let r = stretched c.loop-made.invariant.on c.rounds_join.ensures (omega (arith, quiet.most)) quiet.stretch
     c.pass.ensures in
     let told = c.in_ok-tell.ensures in
     let s = one_more r.1 c.puts_compose.ensures c.devices_answer_one.ensures r.0 (sym quiet.next ∙ c.in-Some.is)
@@ -91,29 +70,20 @@ returns-in_err-flush-clause-some g c =
 pub loop-made-preserved : goal.loop-made-preserved
 loop-made-preserved g c =
     let quiet = c.run_quietly-quiet.ensures in
-    let r = stretched c.loop-made.invariant.on c.rounds_join.ensures
-    (omega (arith, quiet.most, c.min.ensures, c.loop-made-test.true, c.loop-made.invariant.some)) quiet.stretch
+    let r = stretched c.loop-made.invariant.on c.rounds_join.ensures (omega (arith, quiet.most)) quiet.stretch
     c.pass.ensures in
     let told = c.in_ok-tell.ensures in
     let s = one_more r.1 c.puts_compose.ensures c.devices_answer_one.ensures r.0 (sym quiet.next ∙ c.in-Some.is)
     c.in-Ok.ensures.makes.ok c.in-Ok.ensures.makes.shown told.text told.kept told.count in
     record {
       on = made_so s _ (omega arith);
-      some = omega (
-        arith,
-        quiet.most,
-        c.min.ensures,
-        c.loop-made-test.true,
-        c.loop-made.invariant.some,
-        c.if-gathered-eq-FLUSH_STEPS.false,
-      );
+      some = omega (arith, quiet.most);
     }
 
 pub loop-made-preserved-then-gathered-eq-FLUSH_STEPS : goal.loop-made-preserved-then-gathered-eq-FLUSH_STEPS
 loop-made-preserved-then-gathered-eq-FLUSH_STEPS g c =
     let quiet = c.run_quietly-quiet.ensures in
-    let r = stretched c.loop-made.invariant.on c.rounds_join.ensures
-    (omega (arith, quiet.most, c.min.ensures, c.loop-made-test.true, c.loop-made.invariant.some)) quiet.stretch
+    let r = stretched c.loop-made.invariant.on c.rounds_join.ensures (omega (arith, quiet.most)) quiet.stretch
     c.pass.ensures in
     let told = c.in_ok-tell.ensures in
     let s = one_more r.1 c.puts_compose.ensures c.devices_answer_one.ensures r.0 (sym quiet.next ∙ c.in-Some.is)
@@ -124,11 +94,7 @@ loop-made-preserved-then-gathered-eq-FLUSH_STEPS g c =
       some = omega arith;
     }
 
-pub returns-clause-text : goal.returns-clause-text
-returns-clause-text g c = (made c.loop-made.invariant.on c.loop-made-test.false).text
-
-pub returns-clause-kept : goal.returns-clause-kept
-returns-clause-kept g c = (made c.loop-made.invariant.on c.loop-made-test.false).kept_is
-
-pub returns-clause-last : goal.returns-clause-last
-returns-clause-last g c = (made c.loop-made.invariant.on c.loop-made-test.false).last
+pub returns : goal.returns
+returns g c =
+    let run = made c.loop-made.invariant.on c.loop-made-test.false in
+    record { text = run.text; kept = run.kept_is; last = run.last; some = tt }

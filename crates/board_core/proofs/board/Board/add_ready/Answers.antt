@@ -13,7 +13,7 @@ loop-slot-preserved c =
     let long : length (ready_slots w) ≡ length c.self.inside.state.processes.items =
     length-may_go (only_in w) (map may_turn w.records)
     ∙ ap (λ (w : World). length (map may_turn w.records)) (sym c.self.view_is)
-    ∙ turns_long c.self.inside.state c.self.invariant in
+    ∙ turns_long c.self.invariant in
     flag_more (ready_slots w) c.loop-slot.slot c.slot_is_ready.result c.loop-slot.ready.items c.push.new.self.items
     (omega (arith, long, c.len-slot-end.ensures, c.loop-slot-test.true))
     (c.slot_is_ready.ensures ∙ ap (place_is_ready (ready_slots w)) c.new.ensures)
@@ -25,6 +25,6 @@ returns c =
     let long : length (ready_slots w) ≡ length c.self.inside.state.processes.items =
     length-may_go (only_in w) (map may_turn w.records)
     ∙ ap (λ (w : World). length (map may_turn w.records)) (sym c.self.view_is)
-    ∙ turns_long c.self.inside.state c.self.invariant in
+    ∙ turns_long c.self.invariant in
     all_flags (ready_slots w) c.loop-slot.slot c.loop-slot.ready.items
     (omega (arith, long, c.len-slot-end.ensures, c.loop-slot-test.false)) c.loop-slot.invariant

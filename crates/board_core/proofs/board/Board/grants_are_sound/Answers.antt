@@ -10,5 +10,5 @@ use Rattle.board_core.proofs.board.Board.grants_are_sound.Goals as goal
 pub returns : goal.returns
 returns c = subst (λ (w : World). (slot : ℕ) → IfSome (slice_get w.records slot)
     (λ (r : Record). AllByRecursion IsSound r.own.grants)) c.self.view_is
-    (shown_of_each (λ (o : Own). AllByRecursion IsSound o.grants) c.self.inside.state c.self.invariant
+    (shown_of_each c.self.invariant (λ (o : Own). AllByRecursion IsSound o.grants)
     (λ slot within. (c.owns_lie_in_place.ensures slot within).sound))

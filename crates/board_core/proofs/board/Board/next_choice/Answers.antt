@@ -9,7 +9,7 @@ pub next_in_calm-requires-clause-none : goal.next_in_calm-requires-clause-none
 next_in_calm-requires-clause-none c =
     let b = c.self.inside.state in
     none_in_calm c.args.self.now (ap ready_devices (sym c.self.view_is)
-    ∙ calm_shown b c.self.invariant
+    ∙ calm_shown c.self.invariant
     (c.self.invariant.machine.calm.none b.machine.moment.time (omega arith) (omega (arith, c.if-self.true))))
 
 -- what the scheduler chooses is what the world's round robin chooses

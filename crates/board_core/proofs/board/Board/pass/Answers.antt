@@ -1,5 +1,4 @@
 use Rattle.std.proofs.Common.{sym, ◌∙◌, arith}
-use Rattle.board_core.proofs.Devices.{below_shown}
 use Rattle.board_core.proofs.Ready.{passed_board, passes}
 use Rattle.board_core.proofs.board.Board.pass.Goals as goal
 
@@ -10,4 +9,4 @@ returns c = passes c.self.inside.state c.args.self.now c.args.ticks c.from.resul
 pub invariant_of-self : goal.invariant_of-self
 invariant_of-self c =
     passed_board c.time_brings_an_alarm_nearer.ensures c.self.inside.state c.from.result (omega (arith, c.from.ensures))
-    (below_shown c.self.inside.state c.args.self.now c.self.view_is c.requires) c.self.invariant
+    (rw (← c.self.view_is) at c.requires) c.self.invariant

@@ -1,6 +1,6 @@
--- Turns of the slot that has the next one. What `turns_at` promised of the turns (`Quietly`) makes the board after them,
--- the stretch of the world and how it ends, each by its lemma of `Stretches`. All that these ask is shown here: the
--- process runs, and the turns end with the slice or the slot is alone.
+-- Turns of the slot that has the next one. What `turns_at` promised of the turns (`Quietly`) makes the board after
+-- them, the stretch of the world and how it ends, each by its lemma of `Stretches`. All that these ask is shown here:
+-- the process runs, and the turns end with the slice or the slot is alone.
 use Rattle.std.proofs.Common.{◌≡◌, ◌+◌, ◌<◌, ℕ, List, [], ◌∷◌, Some, true, false, All}
 use Rattle.std.proofs.Common.{slice_get, rules, sym, ap, ap₂, subst, ◌∙◌, arith, refl, Bool, ◌⊎◌, inl, inr}
 use Rattle.std.specs.List.{zip}
@@ -45,10 +45,8 @@ looking_ahead b calm = record b { machine = record b.machine { calm = calm } }
 
 pub turns_at-stretch-requires : goal.turns_at-stretch-requires
 turns_at-stretch-requires c =
-    may_turn_on c.turns_left-left.result (looking_ahead c.self.inside.state c.calm_ahead-self-inside.result)
-    c.self.inside.state.machine.drivers c.args.slot
-    (looked_ahead c.self.inside.state c.calm_ahead-self-inside.result c.self.invariant
-    c.calm_ahead-self-inside.ensures.calm)
+    may_turn_on (looked_ahead c.self.inside.state c.calm_ahead-self-inside.result c.self.invariant
+    c.calm_ahead-self-inside.ensures.calm) c.turns_left-left.result c.self.inside.state.machine.drivers c.args.slot
     (runs_within c.self.inside.state.processes.items c.args.slot
     (ap (λ (ps : List Process). slot_runs (slice_get ps c.args.slot)) (sym c.deref.ensures.value)
     ∙ sym c.is_running.ensures ∙ search rules))
@@ -172,7 +170,7 @@ calm_then c fewer =
     let rest = c.turns_at-stretch.ensures.quiet.leaves.rest in
     let same = ap (λ (m : Machine). m.moment.time) rest in
     let calm = ap (λ (m : Machine). m.calm) rest in
-    calm_shown b board (board.machine.calm.none b.machine.moment.time (omega arith)
+    calm_shown board (board.machine.calm.none b.machine.moment.time (omega arith)
     (omega (arith, until, fewer, same, calm, c.from-ticks.ensures)))
 
 pub returns-clause-stretch : goal.returns-clause-stretch

@@ -17,5 +17,5 @@ returns-then-self c =
     let b = c.self.inside.state in
     chosen (λ (slot : ℕ). next c.args.self.now ≡ Some (Run slot)) c.slot_going_on.result c.slot_going_on.ensures.chosen
     (none_in_calm c.args.self.now (ap ready_devices (sym c.self.view_is)
-    ∙ calm_shown b c.self.invariant
+    ∙ calm_shown c.self.invariant
     (c.self.invariant.machine.calm.none b.machine.moment.time (omega arith) (omega (arith, c.if-self.true)))))

@@ -17,7 +17,7 @@ returns-clause-status c =
     let b = c.self.inside.state in
     status_shown b c.add_ready.new.ready.items c.devices_ready.result.items c.time_ahead.result
     (c.add_ready.ensures ∙ ap ready_slots (sym c.self.view_is))
-    (c.devices_ready.ensures ∙ devices_shown b c.self.invariant)
+    (c.devices_ready.ensures ∙ devices_shown c.self.invariant)
     c.time_ahead.ensures.at
     ∙ ap situation_of c.self.view_is
 

@@ -4,7 +4,7 @@ use Rattle.std.proofs.Common.{ap, subst, sym, ◌∙◌}
 use Rattle.tk_base.specs.declared.process.Choice.TheVariants.{Run, Device}
 use Rattle.kernel_model.specs.World.{World}
 use Rattle.board_core.specs.KnownEnds.{IsKnownOfChoice}
-use Rattle.board_core.specs.Makes.{MakesStep}
+use Rattle.board_core.specs.Makes.{MakesStep, showing}
 use Rattle.board_core.specs.Shows.{world_of}
 use Rattle.board_core.proofs.Steps.{refused_at_limit, steps_so}
 use Rattle.board_core.proofs.board.Board.step_with_end.Goals as goal
@@ -19,8 +19,9 @@ pub returns-in-Run : goal.returns-in-Run
 returns-in-Run c =
     steps_so c.a_record_is_the_replay_of_its_events.ensures.replay
     (c.steps_are_accounted_for.ensures.any c.args.self.now c.args.choice c.owns_are_whole.ensures) c.in-Run.is
-    (subst (λ (w : World). MakesStep (Run c.in-Run.slot) w (world_of c.make_turn.new.state) c.args.emit.now
-    c.make_turn.new.emit c.make_turn.result) c.self.view_is c.make_turn.ensures.step)
+    (subst (λ (w : World). MakesStep (Run c.in-Run.slot) (showing w c.args.emit.now)
+    (showing (world_of c.make_turn.new.state) c.make_turn.new.emit) c.make_turn.result) c.self.view_is
+    c.make_turn.ensures.step)
 
 pub returns-in-Event : goal.returns-in-Event
 returns-in-Event c =

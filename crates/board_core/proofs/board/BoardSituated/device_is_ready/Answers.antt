@@ -16,5 +16,5 @@ returns c =
     ∙ ap (λ (work : Work). work.ready c.args.device)
     (served_now b.machine.moment c.served.result b.machine.home.owns b.machine.drivers c.served.ensures.only)
     ∙ ready_at (work_then b.machine.moment b.machine.home.owns b.machine.drivers).ready c.args.device
-    ∙ ap (λ (table : List Bool). place_is_ready table at) (devices_shown b c.self.invariant)
+    ∙ ap (λ (table : List Bool). place_is_ready table at) (devices_shown c.self.invariant)
     ∙ ap (λ (w : World). place_is_ready (ready_devices w) at) c.self.view_is

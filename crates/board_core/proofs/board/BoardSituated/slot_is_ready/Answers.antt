@@ -16,7 +16,7 @@ returns-then-serves c =
     ∙ c.if-serves.true in
     c.has.ensures ∙ c.self.invariant.ready slot
     ∙ ap (λ (flag : Bool). flag && can) (sym served)
-    ∙ sym (slot_shown b c.self.invariant slot)
+    ∙ sym (slot_shown c.self.invariant slot)
     ∙ ap (λ (w : World). place_is_ready (ready_slots w) slot) c.self.view_is
 
 pub returns-else-serves : goal.returns-else-serves
@@ -27,5 +27,5 @@ returns-else-serves c =
     let served = ap (λ (only : Option ℕ). is_let only slot) (sym c.served.ensures.only) ∙ sym c.serves.ensures
     ∙ c.if-serves.false in
     c.if-serves.false ∙ ap (λ (flag : Bool). flag && can) (sym served)
-    ∙ sym (slot_shown b c.self.invariant slot)
+    ∙ sym (slot_shown c.self.invariant slot)
     ∙ ap (λ (w : World). place_is_ready (ready_slots w) slot) c.self.view_is

@@ -17,7 +17,7 @@ not_ready : (b : BoardState) → IsBoard b → (w : World) → world_of b ≡ w 
     → can_turn_in (slice_get (residents b) slot) ≡ false → place_is_ready (ready_slots w) slot ≡ false
 not_ready b board w shown slot cannot =
     ap (λ (w : World). place_is_ready (ready_slots w) slot) (sym shown)
-    ∙ slot_shown b board slot
+    ∙ slot_shown board slot
     ∙ ap (λ (flag : Bool). is_let (only_of b.machine.moment) slot && flag) cannot
     ∙ and_false (is_let (only_of b.machine.moment) slot)
 

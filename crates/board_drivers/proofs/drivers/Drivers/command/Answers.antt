@@ -15,32 +15,16 @@ use Rattle.board_drivers.proofs.Orders.{storage_drives, unasked_drives}
 use Rattle.board_drivers.proofs.drivers.Drivers.command.Goals as goal
 
 pub command-requires-in-Some-Console-clause-writes : goal.command-requires-in-Some-Console-clause-writes
-command-requires-in-Some-Console-clause-writes c =
-    record {
-      there = record { slot = c.requires.slot; present = c.requires.present };
-      waits = c.requires.lines Writes;
-    }
+command-requires-in-Some-Console-clause-writes c = let waits = c.requires.lines Writes in search rules
 
 pub command-requires-in-Some-Console-clause-reads : goal.command-requires-in-Some-Console-clause-reads
-command-requires-in-Some-Console-clause-reads c =
-    record {
-      there = record { slot = c.requires.slot; present = c.requires.present };
-      waits = c.requires.lines Reads;
-    }
+command-requires-in-Some-Console-clause-reads c = let waits = c.requires.lines Reads in search rules
 
 pub command-requires-in-Some-Random : goal.command-requires-in-Some-Random
-command-requires-in-Some-Random c =
-    record {
-      there = record { slot = c.requires.slot; present = c.requires.present };
-      waits = c.requires.lines Randoms;
-    }
+command-requires-in-Some-Random c = let waits = c.requires.lines Randoms in search rules
 
 pub command-requires-in-Some-Storage : goal.command-requires-in-Some-Storage
-command-requires-in-Some-Storage c =
-    record {
-      there = record { slot = c.requires.slot; present = c.requires.present };
-      waits = c.requires.lines Stores;
-    }
+command-requires-in-Some-Storage c = let waits = c.requires.lines Stores in search rules
 
 pub returns-in-Some-Alarm-clause-comes : goal.returns-in-Some-Alarm-clause-comes
 returns-in-Some-Alarm-clause-comes c =

@@ -8,6 +8,7 @@ pub invariant_of-self : goal.invariant_of-self
 invariant_of-self g c = (
   search rules,
   All-replicate
-      (AreWindows c.self.inside.flash.items c.decode_between.new.entries.items (length c.self.inside.ram.items)) SLOT_COUNT
+      (AreWindows c.self.inside.flash.items c.decode_between.new.entries.items (length c.self.inside.ram.items))
+      SLOT_COUNT
       c.none-self-inside.result (c.none-self-inside.ensures _ _ _),
 )

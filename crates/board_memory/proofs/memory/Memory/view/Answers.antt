@@ -1,6 +1,6 @@
 -- What memory keeps besides its bytes: the entries are those of flash as before, and of the windows those of one slot
--- alone were set, to windows that fit (`All-set`). What is written to RAM through the view leaves its length, and no more
--- of it do windows rest on.
+-- alone were set, to windows that fit (`All-set`). What is written to RAM through the view leaves its length, and no
+-- more of it do windows rest on.
 use Rattle.std.proofs.Common.{◌≡◌, ℕ, List, ◌++◌, take, drop, length, length-append, arith, rules, sym, subst, ◌∙◌}
 use Rattle.std.proofs.lemmas.List.{length-drop, length-take-le}
 use Rattle.std.proofs.lemmas.List.Elements.{All-set}

@@ -1,20 +1,19 @@
 -- A command to a driver: the taker is the one that the definition finds (`handler_of`), and the id that of the process
 -- in the slot. So what `Drivers::command` promised is what came of it there (`Came`), and the lemmas of `Commands` make
 -- the call, the seated process and 'this slot alone' of it.
-use Rattle.std.proofs.Common.{◌≡◌, ◌+◌, Some, ap, sym, subst, ◌∙◌}
+use Rattle.std.proofs.Common.{◌≡◌, Some, ap, sym, ◌∙◌}
 use Rattle.process_record.specs.declared.process.Process.{Process}
 use Rattle.syscall_abi.specs.declared.form.CallForm.TheVariants.{Command}
 use Rattle.syscall_abi.specs.Forms.{form_of}
-use Rattle.tk_base.specs.declared.process.ProcessId.{ProcessId}
 use Rattle.driver_model.specs.Drivers.{CommandHandler, handler_of}
-use Rattle.grant_enter.specs.Homes.{ChangesOnly, Homes, own_of}
-use Rattle.process_model.specs.Flash.{object_in}
+use Rattle.grant_enter.specs.Homes.{Homes, own_of}
 use Rattle.kernel_calls.specs.Outcomes.{is_taken}
 use Rattle.board_drivers.specs.declared.drivers.Order.{Order}
 use Rattle.kernel_calls.specs.Residents.{id_of}
 use Rattle.board_turns.specs.declared.machine.Machine.{Machine}
 use Rattle.board_turns.proofs.Commands.{Came, came, came_in_place, finishes, form_in, living_id, some_of}
-use Rattle.board_turns.proofs.Commands.{stays_seated, taken_of}
+use Rattle.board_turns.proofs.Commands.{stays_seated}
+use Rattle.std.proofs.lemmas.Bool.{and_parts}
 use Rattle.board_turns.proofs.machine.Machine.command_driver.Goals as goal
 use Rattle.board_turns.proofs.machine.Machine.command_driver.Goals.{After-give_reply}
 
@@ -30,9 +29,7 @@ is_command c = form_in (form_of c.args.call.now) (order c) (sym c.of.ensures ∙
 -- who takes it
 taker : (c : After-give_reply) → (t : CommandHandler) × (handler_of (order c).driver ≡ Some t)
 taker c = some_of (handler_of (order c).driver)
-    (ap is_taken (sym (is_command c))
-    ∙ taken_of c.args.self.now.moment.settings.strict (object_in c.args.self.now.home.flash c.args.process.now.object)
-    (form_of c.args.call.now) c.requires.left)
+    (ap is_taken (sym (is_command c)) ∙ (and_parts _ _ c.requires.left).1)
 
 -- the id is that of the process
 known : (c : After-give_reply) → c.in-Some-id.id ≡ id_of c.args.slot (own_of c.args.self.now.home c.args.slot)
@@ -54,22 +51,16 @@ answered c =
 pub returns-clause-serves : goal.returns-clause-serves
 returns-clause-serves c =
     let a = (goal.at.returns-clause-serves c).After-give_reply in
-    finishes c.args.slot c.args.self.now (left a) (order a) c.command-reply.result (taker a).0 (taker a).1
-    c.args.process.now c.give_reply.new.process (form_of c.args.call.now) c.give_reply.result
-    (is_command a) c.requires.left (answered a)
+    finishes _ _ (left a) (order a) _ (taker a).0 (taker a).1 _ _ _ _ (is_command a) c.requires.left (answered a)
     (ap (λ (p : Process). p.object) c.give_reply.ensures.stays)
     (ap (λ (h : Homes). h.flash) c.command-reply.ensures.rest) c.give_reply.ensures.gives
 
 pub returns-clause-seated : goal.returns-clause-seated
 returns-clause-seated c =
     let a = (goal.at.returns-clause-seated c).After-give_reply in
-    let x = c.args.self.now in
-    stays_seated x.home.flash (x.moment.steps + 1) c.args.process.now c.give_reply.new.process
-    (own_of x.home c.args.slot) (own_of c.command-reply.new.home c.args.slot)
-    (came_in_place c.args.slot x (left a) (order a) c.command-reply.result (taker a).0 (taker a).1
+    stays_seated _ _ _ _ _ _ (came_in_place _ c.args.self.now (left a) _ _ _ (taker a).1
     c.commands_stay_in_place.ensures (answered a)) c.give_reply.ensures.stays c.requires.turn.seated
 
 pub returns-clause-only : goal.returns-clause-only
 returns-clause-only c =
-    subst (λ (id : ProcessId). ChangesOnly id.slot c.args.self.now.home c.command-reply.new.home)
-    (known (goal.at.returns-clause-only c).After-give_reply) c.command-reply.ensures.rest
+    rw (known (goal.at.returns-clause-only c).After-give_reply) at c.command-reply.ensures.rest

@@ -1,7 +1,5 @@
-use Rattle.std.proofs.Common.{◌≡◌, ap, subst}
-use Rattle.grant_enter.specs.Homes.{Homes, own_of}
-use Rattle.kernel_model.specs.Turn.{operated}
-use Rattle.kernel_calls.specs.Own.{Beside, record_in}
+use Rattle.std.proofs.Common.{ap}
+use Rattle.grant_enter.specs.Homes.{own_of}
 use Rattle.board_turns.specs.declared.machine.Machine.{Machine}
 use Rattle.board_turns.proofs.Acting.{operates}
 use Rattle.board_turns.proofs.machine.Machine.operate.Goals as goal
@@ -14,9 +12,7 @@ returns-clause-operates c =
     let q = c.act.new.process in
     let own_after = own_of c.act.new.home slot in
     record {
-      operates = subst (λ (h : Homes). (beside : Beside) →
-          operated c.args.verb (record_in h.flash p (own_of h slot) beside) ≡ record_in h.flash q own_after beside)
-          (ap (λ (x : Machine). x.home) c.let_go.ensures.rest)
+      operates = rw (ap (λ (x : Machine). x.home) c.let_go.ensures.rest) at
           (operates c.args.verb before.flash p q (own_of before slot) own_after c.act.ensures.stays
           c.act.ensures.leaves);
       drives = c.let_go.ensures.drives (own_of c.args.self.now.home slot).life;

@@ -1,8 +1,5 @@
-use Rattle.std.proofs.Common.{ap, sym, subst}
+use Rattle.std.proofs.Common.{ap}
 use Rattle.syscall_abi.specs.Forms.{form_of}
-use Rattle.board_memory.specs.Registers.{Protect}
-use Rattle.grant_enter.specs.Homes.{own_of}
-use Rattle.board_turns.specs.declared.guard.ActivePmp.{ActivePmp}
 use Rattle.board_turns.specs.declared.machine.Machine.{Machine}
 use Rattle.board_turns.proofs.Staying.{finished_in_place, protects_still}
 use Rattle.board_turns.proofs.machine.Machine.serve.Goals as goal
@@ -12,8 +9,7 @@ pub refresh_after-requires-clause-stays : goal.refresh_after-requires-clause-sta
 refresh_after-requires-clause-stays c = λ none.
     let x = c.args.self.now in
     let f = c.finish_call-outcome in
-    subst (λ (g : ActivePmp). Protect g.pmp (own_of f.new.self.home c.args.slot).layout)
-    (sym (ap (λ (m : Machine). m.guard) f.ensures.rest))
+    rw (ap (λ (m : Machine). m.guard) f.ensures.rest)
     (protects_still x.guard.pmp _ _ (finished_in_place c.commands_stay_in_place.ensures c.args.slot x f.new.self
     (form_of c.args.call.now) f.result c.args.process.now f.new.process none f.ensures.serves)
     c.requires.turn.set.protects)

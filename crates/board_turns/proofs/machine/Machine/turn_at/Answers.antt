@@ -1,10 +1,9 @@
 -- A turn of the process in a slot, by its state: one that runs or yielded gets what `run_on` or `wake` promised, of the
 -- resident there. What they ask is what the turn asks of the slot (`may`). One that has ended has no turn, and nothing
 -- changes.
-use Rattle.std.proofs.Common.{◌≡◌, false, slice_set, refl, sym, subst}
-use Rattle.board_turns.specs.declared.turn.Shown.{Shown}
+use Rattle.std.proofs.Common.{◌≡◌, false, refl}
 use Rattle.kernel_calls.specs.Residents.{resident}
-use Rattle.board_turns.specs.Turning.{IsKnownEnd, MayTurn, StepsInSlot, Turns}
+use Rattle.board_turns.specs.Turning.{IsKnownEnd, MayTurn}
 use Rattle.board_turns.proofs.Stopped.{same_home}
 use Rattle.board_turns.proofs.Tables.{holds_here, steps_there}
 use Rattle.board_turns.proofs.Turns.{rests, rests_seated}
@@ -16,8 +15,7 @@ may : (c : After-index_mut-process)
     → (let r = resident c.args.self.now.home c.args.slot c.index_mut-process.result.now in
     MayTurn 1 c.args.slot c.args.self.now r × (r.0.held ≡ false)
     × IsKnownEnd c.args.known c.args.self.now.home.flash r)
-may c = holds_here c.args.slot c.index.result c.args.self.now c.args.processes.now.items c.index_mut-process.result.now
-    c.index.ensures.value c.index_mut-process.ensures.value c.requires.turn
+may c = holds_here _ _ c.args.self.now _ _ c.index.ensures.value c.index_mut-process.ensures.value c.requires.turn
 
 pub run_on-requires-clause-turn : goal.run_on-requires-clause-turn
 run_on-requires-clause-turn c = (may (goal.at.run_on-requires-clause-turn c).After-index_mut-process).0
@@ -36,31 +34,23 @@ wake-requires-clause-free c = (may (goal.at.wake-requires-clause-free c).After-i
 
 pub returns-in-Running-clause-turn : goal.returns-in-Running-clause-turn
 returns-in-Running-clause-turn c =
-    steps_there c.args.slot c.index.result c.args.self.now c.args.processes.now.items c.index_mut-process.result.now
-    c.index.ensures.value c.index_mut-process.ensures.value c.requires.turn 1 c.run_on.new.self c.run_on.new.process
+    steps_there _ _ _ _ _ c.index.ensures.value c.index_mut-process.ensures.value c.requires.turn 1 _ _
     c.run_on.ensures.leaves c.run_on.ensures.turns
 
 pub returns-in-Yielded-clause-turn : goal.returns-in-Yielded-clause-turn
 returns-in-Yielded-clause-turn c =
-    let w = c.wake in
-    subst (λ (s : Shown). StepsInSlot 1 c.args.slot c.args.self.now w.new.self c.args.processes.now.items
-    (slice_set c.args.processes.now.items c.index.result w.new.process)
-    (Turns c.args.slot c.args.self.now w.new.self s)) (sym c.requires.quiet)
-    (steps_there c.args.slot c.index.result c.args.self.now c.args.processes.now.items c.index_mut-process.result.now
-    c.index.ensures.value c.index_mut-process.ensures.value c.requires.turn 1 w.new.self w.new.process w.ensures.leaves
-    w.ensures.turns)
+    rw c.requires.quiet
+    (steps_there _ _ _ _ _ c.index.ensures.value c.index_mut-process.ensures.value c.requires.turn 1 _ _
+    c.wake.ensures.leaves c.wake.ensures.turns)
 
 -- one that has ended is left as it is
 pub returns-in-Faulted-clause-turn : goal.returns-in-Faulted-clause-turn
 returns-in-Faulted-clause-turn c =
     let x = c.args.self.now in
-    let process = c.index_mut-process.result.now in
-    let r = resident x.home c.args.slot process in
+    let r = resident x.home c.args.slot c.index_mut-process.result.now in
     let may = may (goal.at.returns-in-Faulted-clause-turn c).After-index_mut-process in
-    subst (λ (s : Shown). StepsInSlot 1 c.args.slot x x c.args.processes.now.items
-    (slice_set c.args.processes.now.items c.index.result process) (Turns c.args.slot x x s)) (sym c.requires.quiet)
-    (steps_there c.args.slot c.index.result x c.args.processes.now.items process c.index.ensures.value
-    c.index_mut-process.ensures.value c.requires.turn 1 x process (record {
+    rw c.requires.quiet
+    (steps_there _ _ _ _ _ c.index.ensures.value c.index_mut-process.ensures.value c.requires.turn 1 x _ (record {
       seated = rests_seated x.home.flash x.moment.steps r may.0.seated;
       only = same_home c.args.slot x.home;
       guard = may.0.guard;

@@ -1,7 +1,6 @@
-use Rattle.std.proofs.Common.{◌<◌, ◌+◌, ℕ, Bool, List, length, slice_get, slice_set, ap, sym, subst, ◌∙◌}
+use Rattle.std.proofs.Common.{◌<◌, ℕ, Bool, List, length, slice_get, ap, subst, ◌∙◌}
 use Rattle.std.specs.List.{zip}
 use Rattle.kernel_calls.specs.Residents.{can_turn_in}
-use Rattle.board_turns.specs.ReadySlots.{TellsUpTo}
 use Rattle.board_turns.proofs.TurnsKept.{all_ready, one_more_ready}
 use Rattle.board_turns.proofs.ready_slots.ReadySlots.look_at_all.Goals as goal
 
@@ -13,8 +12,7 @@ loop-slot-preserved c =
     let can : Bool = c.can_run.result in
     let slot : ℕ = c.loop-slot.slot in
     let there = subst (λ (n : ℕ). n < length ready) c.new-slot.ensures c.note.ensures.there in
-    subst (λ (flags : List Bool). TellsUpTo (slot + 1) count flags rs)
-    (ap (λ (n : ℕ). slice_set ready n can) (sym c.new-slot.ensures) ∙ sym c.note.ensures.noted)
+    rw (c.note.ensures.noted, c.new-slot.ensures)
     (one_more_ready slot count ready rs can there c.loop-slot-test.true
     (c.can_run.ensures ∙ ap (λ (n : ℕ). can_turn_in (slice_get rs n)) c.new-slot.ensures) c.loop-slot.invariant)
 

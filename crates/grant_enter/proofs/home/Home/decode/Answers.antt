@@ -1,3 +1,4 @@
+use Rattle.std.proofs.Common.{rules}
 use Rattle.std.proofs.Common.{true, refl, ap}
 use Rattle.board_memory.specs.Memory.{MemoryBytes}
 use Rattle.process_seat.specs.Seats.{Reseats, SitsIn, own_in}
@@ -9,13 +10,7 @@ use Rattle.grant_enter.proofs.home.Home.decode.Goals as goal
 -- the seat of the slot
 reads : (c : After-index_mut-seat)
     → Reads c.self.inside c.args.self.now c.args.slot c.index.result c.index_mut-seat.result.now
-reads c = record {
-  home = c.self.invariant;
-  shown = c.self.view_is;
-  there = c.requires;
-  is = c.index.ensures.value;
-  read = c.index_mut-seat.ensures.value;
-}
+reads c = search rules
 
 -- the seat where nothing has to be decoded
 stays : (c : After-index_mut-seat)

@@ -1,3 +1,4 @@
+use Rattle.std.proofs.Common.{rules}
 use Rattle.std.proofs.Common.{sym}
 use Rattle.grant_enter.proofs.Moves.{Reads, whole_layout}
 use Rattle.grant_enter.proofs.home.Home.layout.Goals as goal
@@ -5,13 +6,7 @@ use Rattle.grant_enter.proofs.home.Home.layout.Goals.{After-index-2}
 
 -- the seat of the slot
 reads : (c : After-index-2) → Reads c.self.inside c.args.self.now c.args.slot c.index.result c.index-2.result.now
-reads c = record {
-  home = c.self.invariant;
-  shown = c.self.view_is;
-  there = c.requires;
-  is = c.index.ensures.value;
-  read = c.index-2.ensures;
-}
+reads c = search rules
 
 pub returns : goal.returns
 returns c = sym (whole_layout (reads (goal.at.returns c).After-index-2))

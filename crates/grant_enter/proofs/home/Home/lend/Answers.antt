@@ -1,3 +1,4 @@
+use Rattle.std.proofs.Common.{rules}
 use Rattle.grant_enter.proofs.Moves.{Reads, reseated, reseated_only, reseated_shows, sits_before, told}
 use Rattle.grant_enter.proofs.home.Home.lend.Goals as goal
 use Rattle.grant_enter.proofs.home.Home.lend.Given.{Over}
@@ -6,13 +7,7 @@ use Rattle.grant_enter.proofs.home.Home.lend.Goals.{After-index_mut-seat}
 -- the seat of the slot
 reads : (g : Over) (c : After-index_mut-seat g)
     → Reads c.self.inside c.args.self.now c.args.slot c.index.result c.index_mut-seat.result.now
-reads g c = record {
-  home = c.self.invariant;
-  shown = c.self.view_is;
-  there = c.requires.slot;
-  is = c.index.ensures.value;
-  read = c.index_mut-seat.ensures.value;
-}
+reads g c = search rules
 
 pub run-requires-clause-seat : goal.run-requires-clause-seat
 run-requires-clause-seat g c =

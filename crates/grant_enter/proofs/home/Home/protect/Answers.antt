@@ -1,3 +1,4 @@
+use Rattle.std.proofs.Common.{rules}
 use Rattle.std.proofs.Common.{length, arith}
 use Rattle.process_seat.specs.Places.{FitsMemory}
 use Rattle.grant_enter.proofs.Moves.{Reads, sits_before}
@@ -6,14 +7,7 @@ use Rattle.grant_enter.proofs.home.Home.protect.Goals.{After-index-2}
 
 -- the seat of the slot
 reads : (c : After-index-2) → Reads c.self.inside c.args.self.now c.args.slot c.index.result c.index-2.result.now
-reads c = record {
-  home = c.self.invariant;
-  shown = c.self.view_is;
-  there = c.requires;
-  is =
-      c.index.ensures.value;
-  read = c.index-2.ensures;
-}
+reads c = search rules
 
 -- its layout is settled
 settled : (c : After-index-2)

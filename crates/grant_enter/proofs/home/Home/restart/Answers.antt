@@ -1,3 +1,4 @@
+use Rattle.std.proofs.Common.{rules}
 use Rattle.std.proofs.Common.{◌≡◌, ◌+◌, ◌^◌, ◌<◌, ◌≤◌, subst}
 use Rattle.process_layout.specs.Bounds.{Bounds}
 use Rattle.process_model.specs.Own.{Own, own_restarted}
@@ -9,14 +10,7 @@ use Rattle.grant_enter.proofs.home.Home.restart.Goals.{After-index_mut-seat}
 -- the seat of the slot
 reads : (c : After-index_mut-seat)
     → Reads c.self.inside c.args.self.now c.args.slot c.index.result c.index_mut-seat.result.now
-reads c = record {
-  home = c.self.invariant;
-  shown = c.self.view_is;
-  there = c.requires.slot;
-  is =
-      c.index.ensures.value;
-  read = c.index_mut-seat.ensures.value;
-}
+reads c = search rules
 
 pub restart_seat-requires-clause-sits : goal.restart_seat-requires-clause-sits
 restart_seat-requires-clause-sits c =

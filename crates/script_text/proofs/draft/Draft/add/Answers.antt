@@ -1,6 +1,6 @@
 use Rattle.std.proofs.Common.{sym, ap, ◌∙◌}
 use Rattle.script_text.specs.Seats.{stood_after}
-use Rattle.script_text.proofs.Adding.{adds_skipped, is_repeated, is_disordered, is_too_much, adds_line}
+use Rattle.script_text.proofs.Adding.{adds_skipped, broken_where, adds_line}
 use Rattle.script_text.proofs.draft.Draft.add.Goals as goal
 
 pub returns-in-Ok-None : goal.returns-in-Ok-None
@@ -11,21 +11,24 @@ returns-in-Ok-None c before made =
 pub returns-then-repeats : goal.returns-then-repeats
 returns-then-repeats c before made =
     let line = rw (c.in-Ok-Some.field-0-is, c.context.ensures) at c.in-Ok-Some.ensures in
-    is_repeated before c.args.text.now c.in-Ok-Some.line c.args.self.now line made
-    (sym c.repeats.ensures ∙ c.if-repeats.true)
+    broken_where before c.args.text.now c.in-Ok-Some.line c.args.self.now line made
+    ∙ rw (sym c.repeats.ensures ∙ c.if-repeats.true)
 
 pub returns-then-disorders : goal.returns-then-disorders
 returns-then-disorders c before made =
     let line = rw (c.in-Ok-Some.field-0-is, c.context.ensures) at c.in-Ok-Some.ensures in
-    is_disordered before c.args.text.now c.in-Ok-Some.line c.args.self.now line made
-    (sym c.repeats.ensures ∙ c.if-repeats.false) (sym c.disorders.ensures ∙ c.if-disorders.true)
+    broken_where before c.args.text.now c.in-Ok-Some.line c.args.self.now line made
+    ∙ rw (sym c.repeats.ensures ∙ c.if-repeats.false, sym c.disorders.ensures ∙ c.if-disorders.true)
 
 pub returns-then-exceeds : goal.returns-then-exceeds
 returns-then-exceeds c before made =
     let line = rw (c.in-Ok-Some.field-0-is, c.context.ensures) at c.in-Ok-Some.ensures in
-    is_too_much before c.args.text.now c.in-Ok-Some.line c.args.self.now line made
-    (sym c.repeats.ensures ∙ c.if-repeats.false) (sym c.disorders.ensures ∙ c.if-disorders.false)
-    (sym c.exceeds.ensures ∙ c.if-exceeds.true)
+    broken_where before c.args.text.now c.in-Ok-Some.line c.args.self.now line made
+    ∙ rw (
+      sym c.repeats.ensures ∙ c.if-repeats.false,
+      sym c.disorders.ensures ∙ c.if-disorders.false,
+      sym c.exceeds.ensures ∙ c.if-exceeds.true,
+    )
 
 pub returns : goal.returns
 returns c before made =
